@@ -1,0 +1,155 @@
+-- The starred examples of document 01, and A1's bytes: inputs and outcomes side by side, and one proof over the list of them.
+-- Each delivery is a whole call of `deliver` on an image that began as the one that `empty` writes.
+use mathlib.Core.Path.{_≡_, refl}
+use mathlib.Core.Bool.{true, false}
+use mathlib.Core.Option.{Option, some, none}
+use mathlib.Core.List.{List, [], _∷_, _++_, map}
+use Prim.Native.Nat.{ℕ, suc, _+_, _*_, _^_}
+use lib.ListN.{length, take, getD, replicate}
+use lib.IntN.{ℤ, pos, negsuc}
+use Rattle.model.specs.Bytes.{bytes, word, field}
+use Rattle.model.specs.Layout.{imageSize, stepRoom, messageRoom}
+use Rattle.model.specs.Message.{Message, sequenceOf, layoutRight, numbersRight, dependenciesRight, contentRight, commandRight, passes}
+use Rattle.model.specs.Order.{sequencesOf, logOf, heldOf}
+use Rattle.model.specs.Setpoints.{stop, raise, operate, runCommand, runDelta, setpointsOf}
+use Rattle.model.specs.Image.{messagesOf, usedOf, imageOf, logIn, stateIn, isImage}
+use Rattle.model.specs.Steps.{Step, undo, execute, readSteps}
+use Rattle.model.specs.Compose.{messageOf, newDependencies, composed}
+use Rattle.model.specs.Calls.{empty, Delivered, deliver, deliverCode, compose, composeCode, setpoint}
+
+-- ---- the deltas of the examples
+-- "Line A is UID 00000000000A, creator 00000001; B and C alike."
+abbrev lineNumber : ℕ → ℕ
+lineNumber uid = uid * 2 ^ 32 + 1
+
+abbrev A : ℕ → ℕ
+A n = lineNumber 0xA * 65536 + n
+
+abbrev B : ℕ → ℕ
+B n = lineNumber 0xB * 65536 + n
+
+abbrev C : ℕ → ℕ
+C n = lineNumber 0xC * 65536 + n
+
+abbrev command : ℕ → ℕ → ℤ → List ℕ
+command operation tag v = operation ∷ tag ∷ 0 ∷ 0 ∷ bytes 4 (word v)
+
+-- "Group 1 and no dependency unless said."
+abbrev plain : ℕ → List ℕ → List ℕ → Message
+plain s dependencies commands = messageOf false s 1 0 0 dependencies commands
+
+abbrev urgent : ℕ → ℕ → ℕ → List ℕ → Message
+urgent s block priority commands = messageOf true s 1 block priority [] commands
+
+-- "A1 sets tag 3 to 1500; B1 adds -20 to tag 3."
+abbrev a1 : Message
+a1 = plain (A 1) [] (command 1 3 (pos 1500))
+
+abbrev a2 : Message
+a2 = plain (A 2) [] (command 1 3 (pos 7))
+
+abbrev b1 : Message
+b1 = plain (B 1) [] (command 2 3 (negsuc 19))
+
+abbrev c2 : Message
+c2 = plain (C 2) [] (command 2 4 (pos 1))
+
+abbrev stopped : Message
+stopped = plain (A 1) [] (command 1 3 (pos 999990) ++ command 2 3 (pos 20) ++ command 2 3 (negsuc 19))
+
+abbrev b1-5 : Message
+b1-5 = urgent (B 1) 1 5 (command 2 3 (negsuc 19))
+
+abbrev c1-7 : Message
+c1-7 = urgent (C 1) 1 7 (command 2 4 (pos 20))
+
+abbrev a1-naming-b1 : Message
+a1-naming-b1 = plain (A 1) (B 1 ∷ []) (command 1 3 (pos 1500))
+
+abbrev b1-naming-a1 : Message
+b1-naming-a1 = plain (B 1) (A 1 ∷ []) (command 2 3 (negsuc 19))
+
+-- ---- an example: what is done, and what comes of it
+data Input : Type 0 where
+  encode : Message → Input
+  deliverAll : List Message → Input
+  composeOn : ℕ → List Message → Input
+
+data Outcome : Type 0 where
+  -- the bytes of a message, and the code beside them
+  message : ℕ → List ℕ → Outcome
+  -- each delivery's code and steps; then L, H, the bytes used, the log, the held ones and tag 3
+  station : List (ℕ × Option (List Step)) → ℕ → ℕ → ℕ → List ℕ → List ℕ → ℤ → Outcome
+
+abbrev stepBuffer : List ℕ
+stepBuffer = replicate stepRoom 0xEE
+
+abbrev answer : Delivered → ℕ × Option (List Step)
+answer d = (d .code, readSteps (d .undos + d .executions) (d .steps))
+
+abbrev show : List (ℕ × Option (List Step)) → List ℕ → Outcome
+show done b = station done (field b 0 2) (field b 2 2) (field b 8 2) (sequencesOf (logIn b)) (sequencesOf (heldOf (stateIn b))) (setpoint b 3 .value)
+
+abbrev run : List (ℕ × Option (List Step)) → List ℕ → List Message → Outcome
+run done b [] = show done b
+run done b (m ∷ l) = let d = deliver b m stepBuffer in run (done ++ answer d ∷ []) (d .image) l
+
+abbrev imageOfAll : List ℕ → List Message → List ℕ
+imageOfAll b [] = b
+imageOfAll b (m ∷ l) = imageOfAll (deliver b m stepBuffer .image) l
+
+abbrev begun : List ℕ
+begun = empty (replicate imageSize 0xEE) .image
+
+abbrev outcomeOf : Input → Outcome
+outcomeOf (encode m) = message 0 m
+outcomeOf (deliverAll l) = run [] begun l
+outcomeOf (composeOn line l) =
+    let c = compose (imageOfAll begun l) (bytes 10 line) (command 1 3 (pos 5)) 0 0 (replicate messageRoom 0xEE) in
+    message (c .code) (take (c .length) (c .message))
+
+abbrev ok : List Step → ℕ × Option (List Step)
+ok l = (0, some l)
+
+examples : List (Input × Outcome)
+examples =
+    -- A1's bytes
+    (encode a1,
+        message 0 (0x01 ∷ 0x00 ∷ 0x00 ∷ 0x01 ∷ 0x00 ∷ 0x30 ∷ 0x00 ∷ 0x28 ∷ 0x00 ∷ 0x28 ∷ 0x00 ∷ 0x00 ∷ 0x00 ∷ 0x00 ∷ 0x00 ∷ 0x00
+        ∷ 0x00 ∷ 0x0A ∷ 0x00 ∷ 0x00 ∷ 0x00 ∷ 0x01 ∷ 0x00 ∷ 0x01 ∷ 0x00 ∷ 0x00 ∷ 0x00 ∷ 0x01 ∷ 0x00 ∷ 0x00 ∷ 0x00 ∷ 0x00
+        ∷ 0x00 ∷ 0x00 ∷ 0x00 ∷ 0x00 ∷ 0x00 ∷ 0x00 ∷ 0x00 ∷ 0x00 ∷ 0x01 ∷ 0x03 ∷ 0x00 ∷ 0x00 ∷ 0x00 ∷ 0x00 ∷ 0x05 ∷ 0xDC ∷ []))
+    -- No deltas: L 0, H 0, used 272.
+    ∷ (deliverAll [], station [] 0 0 272 [] [] (pos 0))
+    -- A1: log A1, tag 3 is 1500.
+    ∷ (deliverAll (a1 ∷ []), station (ok (execute (A 1) ∷ []) ∷ []) 1 0 320 (A 1 ∷ []) [] (pos 1500))
+    -- A2 then A1: first no step, held; then execute A1, A2.
+    ∷ (deliverAll (a2 ∷ []), station (ok [] ∷ []) 0 1 320 [] (A 2 ∷ []) (pos 0))
+    ∷ (deliverAll (a2 ∷ a1 ∷ []), station (ok [] ∷ ok (execute (A 1) ∷ execute (A 2) ∷ []) ∷ []) 2 0 368 (A 1 ∷ A 2 ∷ []) [] (pos 7))
+    -- B1 then A1: undo B1, execute A1, B1; tag 3 is 1480.
+    ∷ (deliverAll (b1 ∷ a1 ∷ []),
+        station (ok (execute (B 1) ∷ []) ∷ ok (undo (B 1) ∷ execute (A 1) ∷ execute (B 1) ∷ []) ∷ []) 2 0 368 (A 1 ∷ B 1 ∷ []) [] (pos 1480))
+    -- Set 999990, add 20, add -20: 999980.
+    ∷ (deliverAll (stopped ∷ []), station (ok (execute (A 1) ∷ []) ∷ []) 1 0 336 (A 1 ∷ []) [] (pos 999980))
+    -- B1 block 1 priority 5, C1 block 1 priority 7, plain A1: log A1, C1, B1.
+    ∷ (deliverAll (b1-5 ∷ c1-7 ∷ a1 ∷ []),
+        station (ok (execute (B 1) ∷ []) ∷ ok (undo (B 1) ∷ execute (C 1) ∷ execute (B 1) ∷ [])
+        ∷ ok (undo (B 1) ∷ undo (C 1) ∷ execute (A 1) ∷ execute (C 1) ∷ execute (B 1) ∷ []) ∷ [])
+        3 0 416 (A 1 ∷ C 1 ∷ B 1 ∷ []) [] (pos 1480))
+    -- With plain C2 too: A1, C1, B1, C2.
+    ∷ (deliverAll (c2 ∷ a1 ∷ b1-5 ∷ c1-7 ∷ []),
+        station (ok [] ∷ ok (execute (A 1) ∷ []) ∷ ok (execute (B 1) ∷ []) ∷ ok (undo (B 1) ∷ execute (C 1) ∷ execute (B 1) ∷ execute (C 2) ∷ []) ∷ [])
+        4 0 464 (A 1 ∷ C 1 ∷ B 1 ∷ C 2 ∷ []) [] (pos 1480))
+    -- A1 and B1 each naming the other: L 0, H 2.
+    ∷ (deliverAll (b1-naming-a1 ∷ a1-naming-b1 ∷ []), station (ok [] ∷ ok [] ∷ []) 0 2 392 [] (A 1 ∷ B 1 ∷ []) (pos 0))
+    -- A1 again: no step.
+    ∷ (deliverAll (a1 ∷ a1 ∷ []), station (ok (execute (A 1) ∷ []) ∷ ok [] ∷ []) 1 0 320 (A 1 ∷ []) [] (pos 1500))
+    -- Compose on A, log B1: A1, group 2, names B1.
+    ∷ (composeOn (lineNumber 0xA) (b1 ∷ []), message 0 (messageOf false (A 1) 2 0 0 (B 1 ∷ []) (command 1 3 (pos 5))))
+    -- Compose on B, log A1: B1, group 1, names A1.
+    ∷ (composeOn (lineNumber 0xB) (a1 ∷ []), message 0 (messageOf false (B 1) 1 0 0 (A 1 ∷ []) (command 1 3 (pos 5))))
+    ∷ []
+
+-- Every example has the outcome that stands beside it.
+examples-hold : map (λ e. outcomeOf (e .0)) examples ≡ map (λ e. e .1) examples
+unfolding examples empty deliver deliverCode compose composeCode setpoint composed newDependencies isImage imageOf usedOf messagesOf setpointsOf logOf heldOf runDelta runCommand operate raise stop passes layoutRight numbersRight dependenciesRight contentRight commandRight
+examples-hold = refl

@@ -1,0 +1,131 @@
+-- The calls: from a call's arguments to its answer and to every byte of the buffers that it may write.
+-- A refusal writes nothing, and its counts, length and value are 0.
+use mathlib.Core.Bool.{cond}
+use mathlib.Core.List.{List, [], _∷_, _++_}
+use Prim.Native.Nat.{ℕ, zero, suc, _+_}
+use lib.ListN.{length, drop, getD}
+use lib.Dec.{eqb}
+use lib.IntN.{ℤ, pos}
+use Rattle.model.specs.Bytes.{number}
+use Rattle.model.specs.Layout.{messagesStart}
+use Rattle.model.specs.Message.{Message}
+use Rattle.model.specs.Order.{State, stateOf, add, sequencesOf, logOf}
+use Rattle.model.specs.Setpoints.{setpointsOf}
+use Rattle.model.specs.Image.{imageOf, stateIn, logIn}
+use Rattle.model.specs.Steps.{stepsOf, undosOf, executionsOf, stepsBytes}
+use Rattle.model.specs.Compose.{composed}
+use Rattle.model.specs.Codes.{lowest, emptyConditions, deliverConditions, composeConditions, readConditions, logMessageConditions, setpointConditions}
+
+-- New bytes at the front of a buffer, the rest unchanged.
+abbrev pub written : List ℕ → List ℕ → List ℕ
+written new buffer = new ++ drop (length new) buffer
+
+-- ---- empty: "writes the image of no deltas"
+pub record Emptied : Type 0 where
+  pub code : ℕ
+  pub image : List ℕ
+
+abbrev pub emptyState : State
+emptyState = stateOf []
+
+abbrev pub emptied : ℕ → List ℕ → Emptied
+emptied zero b = record { code = 0; image = imageOf emptyState }
+emptied (suc n) b = record { code = suc n; image = b }
+
+unfoldable pub empty : List ℕ → Emptied
+empty b = emptied (lowest (emptyConditions b)) b
+
+-- ---- deliver: image, message and step buffer
+pub record Delivered : Type 0 where
+  pub code : ℕ
+  pub undos : ℕ
+  pub executions : ℕ
+  pub image : List ℕ
+  pub steps : List ℕ
+
+-- From one state to the next.
+abbrev pub accepted : State → State → List ℕ → Delivered
+accepted S next steps =
+    let old = sequencesOf (logOf S) in
+    let new = sequencesOf (logOf next) in
+    record {
+      code = 0;
+      undos = undosOf old new;
+      executions = executionsOf old new;
+      image = imageOf next;
+      steps = written (stepsBytes (stepsOf old new)) steps;
+    }
+
+abbrev pub delivered : ℕ → State → List ℕ → Message → List ℕ → Delivered
+delivered zero S b m steps = accepted S (add m S) steps
+delivered (suc n) S b m steps = record { code = suc n; undos = 0; executions = 0; image = b; steps = steps }
+
+unfoldable pub deliverCode : List ℕ → Message → ℕ → ℕ
+deliverCode b m room = lowest (deliverConditions b m room)
+
+unfoldable pub deliver : List ℕ → Message → List ℕ → Delivered
+deliver b m steps = delivered (deliverCode b m (length steps)) (stateIn b) b m steps
+
+-- ---- compose: image, line, commands, flag, priority and message buffer; the image is only read
+pub record Composed : Type 0 where
+  pub code : ℕ
+  pub length : ℕ
+  pub message : List ℕ
+
+abbrev pub answered : ℕ → Message → List ℕ → Composed
+answered zero m buffer = record { code = 0; length = length m; message = written m buffer }
+answered (suc n) m buffer = record { code = suc n; length = 0; message = buffer }
+
+unfoldable pub composeCode : List ℕ → List ℕ → List ℕ → ℕ → ℕ → ℕ → ℕ
+composeCode b line commands flag priority room = lowest (composeConditions b line commands flag priority room)
+
+unfoldable pub compose : List ℕ → List ℕ → List ℕ → ℕ → ℕ → List ℕ → Composed
+compose b line commands flag priority buffer =
+    answered (composeCode b line commands flag priority (length buffer)) (composed (stateIn b) (number line) commands (eqb flag 1) priority) buffer
+
+-- ---- log message: the part of the image that holds the message at a place, and the second call, which gives the code
+unfoldable pub logMessageCode : List ℕ → ℕ → ℕ
+logMessageCode b place = lowest (logMessageConditions b place)
+
+unfoldable pub logMessage : List ℕ → ℕ → List ℕ
+logMessage b place = cond (eqb (logMessageCode b place) 0) (getD (logIn b) place []) []
+
+-- ---- setpoint: "answers a tag's value, or 0 beside a refusal"
+pub record Setpoint : Type 0 where
+  pub code : ℕ
+  pub value : ℤ
+
+abbrev pub setpointAnswer : ℕ → List ℕ → ℕ → Setpoint
+setpointAnswer zero b tag = record { code = 0; value = getD (setpointsOf (stateIn b)) tag (pos 0) }
+setpointAnswer (suc n) b tag = record { code = suc n; value = pos 0 }
+
+unfoldable pub setpoint : List ℕ → ℕ → Setpoint
+setpoint b tag = setpointAnswer (lowest (setpointConditions b tag)) b tag
+
+-- ---- the log reader: "keeps the lent image together with the offset of the next message"
+pub record Reader : Type 0 where
+  pub image : List ℕ
+  pub offset : ℕ
+
+pub record Read : Type 0 where
+  pub part : List ℕ
+  pub reader : Reader
+
+-- "It starts at the first message of the log."
+unfoldable pub start : List ℕ → Reader
+start b = record { image = b; offset = messagesStart }
+
+-- The message of a list that lies at an offset, the first of them at `at`; empty where none does.
+abbrev pub messageAt : ℕ → List Message → ℕ → Message
+messageAt at [] offset = []
+messageAt at (m ∷ l) offset = cond (eqb at offset) m (messageAt (at + length m) l offset)
+
+-- "Past the last one of the log, or on a buffer that answers 1 or 2, it gives an empty part and stays there."
+abbrev pub nextMessage : ℕ → List ℕ → ℕ → Message
+nextMessage zero b offset = messageAt messagesStart (logIn b) offset
+nextMessage (suc n) b offset = []
+
+unfoldable pub next : Reader → Read
+next r =
+    let m = nextMessage (lowest (readConditions (r .image))) (r .image) (r .offset) in
+    record { part = m; reader = record { image = r .image; offset = r .offset + length m } }

@@ -1,0 +1,90 @@
+-- Codes: for each call its own list of numbers and conditions, in the table's order. The lowest that holds is answered; 0 where none does.
+use mathlib.Core.Bool.{Bool, cond, not, _&&_, _||_}
+use mathlib.Core.List.{List, [], _∷_, _++_}
+use Prim.Native.Nat.{ℕ, _+_, _/_, _%_}
+use lib.ListN.{length}
+use lib.Dec.{eqb, ltb, leb}
+use Rattle.model.specs.Tests.{has, every, some?, same}
+use Rattle.model.specs.Bytes.{isBytes, number, parts}
+use Rattle.model.specs.Layout.{imageSize, stepRoom, messageRoom, lineSize, capacity, tagCount, commandSize, mostCommands, fieldLimit, numbersOfLine, mostDependencies}
+use Rattle.model.specs.Message.{Message, layoutRight, numbersRight, dependenciesRight, contentRight, commandRight, sequenceOf, lineOf}
+use Rattle.model.specs.Order.{State, sequencesOf, find, logOf, heldOf}
+use Rattle.model.specs.Image.{isImage, stateIn, logCount}
+use Rattle.model.specs.Compose.{newNumber, newSequence, newGroup, newBlock, newDependencies}
+
+abbrev pub Conditions : Type 0
+Conditions = List (ℕ × Bool)
+
+-- "The lowest number that applies to the call is answered, and never when its condition fails."
+abbrev pub lowest : Conditions → ℕ
+lowest [] = 0
+lowest (c ∷ l) = cond (c .1) (c .0) (lowest l)
+
+-- ---- 1 and 2
+abbrev pub wrongImage : List ℕ → Bool
+wrongImage b = not (eqb (length b) imageSize)
+
+abbrev pub smallSteps : ℕ → Bool
+smallSteps room = ltb room stepRoom
+
+-- ---- 3 to 6, of a message
+abbrev pub messageConditions : Message → Conditions
+messageConditions m = (3, not (layoutRight m)) ∷ (4, not (numbersRight m)) ∷ (5, not (dependenciesRight m)) ∷ (6, not (contentRight m)) ∷ []
+
+-- ---- 7: "sequence present with other bytes"; 8: "64 present and this sequence new"
+abbrev pub present : State → ℕ → Bool
+present S s = has s (sequencesOf (S .deltas))
+
+abbrev pub conflicts : State → Message → Bool
+conflicts S m = present S (sequenceOf m) && not (same (find (S .deltas) (sequenceOf m)) m)
+
+abbrev pub exceeds : State → Message → Bool
+exceeds S m = leb capacity (length (S .deltas)) && not (present S (sequenceOf m))
+
+abbrev pub deliverConditions : List ℕ → Message → ℕ → Conditions
+deliverConditions b m room =
+    (1, wrongImage b || smallSteps room) ∷ (2, not (isImage b)) ∷ messageConditions m
+    ++ (7, conflicts (stateIn b) m) ∷ (8, exceeds (stateIn b) m) ∷ []
+
+-- ---- compose. 3: "commands not 8 to 64 bytes by eights"
+abbrev pub commandsSized : List ℕ → Bool
+commandsSized c = isBytes c && leb 1 (length c / commandSize) && leb (length c / commandSize) mostCommands && eqb (length c % commandSize) 0
+
+-- 6: the priority (also nonzero without the flag), the flag, and the commands
+abbrev pub composeContent : List ℕ → ℕ → ℕ → Bool
+composeContent c flag priority =
+    leb flag 1 && leb priority fieldLimit && (eqb flag 1 || eqb priority 0) && every commandRight (parts (length c / commandSize) commandSize c)
+
+-- 9: "the line has a held delta"
+abbrev pub heldOn : State → ℕ → Bool
+heldOn S line = some? (λ m. eqb (lineOf (sequenceOf m)) line) (heldOf S)
+
+-- 10: "number, group or block would pass its limit"
+abbrev pub pastLimit : State → ℕ → Bool → Bool
+pastLimit S line flag =
+    let log = logOf S in
+    leb numbersOfLine (newNumber log line) || ltb fieldLimit (newGroup log (newSequence log line)) || ltb fieldLimit (newBlock S flag)
+
+-- 11: "over eight dependencies"
+abbrev pub manyDependencies : State → ℕ → Bool
+manyDependencies S line = ltb mostDependencies (length (newDependencies S (newSequence (logOf S) line)))
+
+abbrev pub composeConditions : List ℕ → List ℕ → List ℕ → ℕ → ℕ → ℕ → Conditions
+composeConditions b line commands flag priority room =
+    let S = stateIn b in
+    (1, wrongImage b || ltb room messageRoom || not (isBytes line && eqb (length line) lineSize)) ∷ (2, not (isImage b))
+    ∷ (3, not (commandsSized commands)) ∷ (6, not (composeContent commands flag priority))
+    ∷ (9, heldOn S (number line)) ∷ (10, pastLimit S (number line) (eqb flag 1)) ∷ (11, manyDependencies S (number line)) ∷ []
+
+-- ---- empty, log message and setpoint. 12: "log place not below L, or tag above 63"
+abbrev pub emptyConditions : List ℕ → Conditions
+emptyConditions b = (1, wrongImage b) ∷ []
+
+abbrev pub readConditions : List ℕ → Conditions
+readConditions b = (1, wrongImage b) ∷ (2, not (isImage b)) ∷ []
+
+abbrev pub logMessageConditions : List ℕ → ℕ → Conditions
+logMessageConditions b place = readConditions b ++ (12, leb (logCount b) place) ∷ []
+
+abbrev pub setpointConditions : List ℕ → ℕ → Conditions
+setpointConditions b tag = readConditions b ++ (12, leb tagCount tag) ∷ []

@@ -1,0 +1,54 @@
+-- Compose: the message that it writes, as a function of the state.
+use mathlib.Core.Bool.{Bool, cond, not, _&&_, _||_}
+use mathlib.Core.List.{List, [], _∷_, _++_, map}
+use Prim.Native.Nat.{ℕ, suc, _+_, _*_, _/_}
+use lib.ListN.{length}
+use lib.Dec.{eqb, ltb}
+use Rattle.model.specs.Tests.{has, some?, keep, greatest}
+use Rattle.model.specs.Bytes.{bytes, join}
+use Rattle.model.specs.Layout.{headerSize, sequenceSize, numbersOfLine, commandSize}
+use Rattle.model.specs.Message.{Message, commandsStart, totalLength, sequenceOf, groupOf, lineOf, numberOf, predecessorOf, needsOf}
+use Rattle.model.specs.Order.{State, sequencesOf, effectiveBlock, logOf}
+
+-- A message from its parts, by the table of 'A delta on the wire'.
+abbrev pub messageOf : Bool → ℕ → ℕ → ℕ → ℕ → List ℕ → List ℕ → Message
+messageOf flag s group block priority dependencies commands =
+    let D = length dependencies in
+    let C = length commands / commandSize in
+    1 ∷ cond flag 1 0 ∷ D ∷ C ∷ bytes 2 (totalLength D C) ++ bytes 2 headerSize ++ bytes 2 (commandsStart D) ++ bytes 2 0
+    ++ bytes sequenceSize s ++ bytes 4 group ++ bytes 4 block ++ bytes 4 priority ++ bytes 4 0
+    ++ join (map (bytes sequenceSize) dependencies) ++ commands
+
+-- "Number is one more than the line's greatest in the log, or 0001."
+abbrev pub newNumber : List Message → ℕ → ℕ
+newNumber log line = suc (greatest (λ m. cond (eqb (lineOf (sequenceOf m)) line) (numberOf (sequenceOf m)) 0) log)
+
+abbrev pub newSequence : List Message → ℕ → ℕ
+newSequence log line = line * numbersOfLine + newNumber log line
+
+-- "Dependencies are the log deltas that no other log delta needs, less the predecessor": by ascending sequence.
+abbrev pub unneeded : List Message → ℕ → Bool
+unneeded log s = has s (sequencesOf log) && not (some? (λ m. has s (needsOf m)) log)
+
+unfoldable pub newDependencies : State → ℕ → List ℕ
+newDependencies S s = let log = logOf S in keep (λ d. unneeded log d && not (has d (predecessorOf s))) (sequencesOf (S .deltas))
+
+abbrev pub lastSequence : List Message → ℕ
+lastSequence [] = 0
+lastSequence (m ∷ []) = sequenceOf m
+lastSequence (m ∷ x ∷ l) = lastSequence (x ∷ l)
+
+-- "Group is 1 on an empty log; the highest in the log plus one if the last delta's sequence is above the new one; else the highest."
+abbrev pub newGroup : List Message → ℕ → ℕ
+newGroup [] s = 1
+newGroup (m ∷ l) s = let highest = greatest groupOf (m ∷ l) in cond (ltb s (lastSequence (m ∷ l))) (suc highest) highest
+
+-- "With priority, block is the highest effective block plus one (1 on an empty log)."
+abbrev pub newBlock : State → Bool → ℕ
+newBlock S flag = cond flag (suc (greatest (effectiveBlock S) (logOf S))) 0
+
+-- "the message carries the commands, the flag and the priority as handed over"
+unfoldable pub composed : State → ℕ → List ℕ → Bool → ℕ → Message
+composed S line commands flag priority =
+    let s = newSequence (logOf S) line in
+    messageOf flag s (newGroup (logOf S) s) (newBlock S flag) priority (newDependencies S s) commands

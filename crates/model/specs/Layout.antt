@@ -1,0 +1,125 @@
+-- Every offset, size and limit of document 01, in bytes unless said otherwise.
+use Prim.Native.Nat.{ℕ}
+use lib.IntN.{ℤ, pos, negsuc}
+
+-- ---- a delta on the wire: the header's fields
+abbrev pub kindAt : ℕ
+kindAt = 0
+
+abbrev pub priorityFlagAt : ℕ
+priorityFlagAt = 1
+
+abbrev pub dependencyCountAt : ℕ
+dependencyCountAt = 2
+
+abbrev pub commandCountAt : ℕ
+commandCountAt = 3
+
+abbrev pub lengthAt : ℕ
+lengthAt = 4
+
+abbrev pub dependenciesOffsetAt : ℕ
+dependenciesOffsetAt = 6
+
+abbrev pub commandsOffsetAt : ℕ
+commandsOffsetAt = 8
+
+-- bytes 10-11, zero
+abbrev pub firstZerosAt : ℕ
+firstZerosAt = 10
+
+abbrev pub sequenceAt : ℕ
+sequenceAt = 12
+
+abbrev pub groupAt : ℕ
+groupAt = 24
+
+abbrev pub blockAt : ℕ
+blockAt = 28
+
+abbrev pub priorityAt : ℕ
+priorityAt = 32
+
+-- bytes 36-39, zero
+abbrev pub lastZerosAt : ℕ
+lastZerosAt = 36
+
+abbrev pub headerSize : ℕ
+headerSize = 40
+
+abbrev pub sequenceSize : ℕ
+sequenceSize = 12
+
+abbrev pub lineSize : ℕ
+lineSize = 10
+
+-- how many numbers a line has, 0000 among them: a sequence is line × 65536 + number
+abbrev pub numbersOfLine : ℕ
+numbersOfLine = 65536
+
+abbrev pub mostDependencies : ℕ
+mostDependencies = 8
+
+abbrev pub commandSize : ℕ
+commandSize = 8
+
+abbrev pub mostCommands : ℕ
+mostCommands = 8
+
+-- group, block and priority
+abbrev pub fieldLimit : ℕ
+fieldLimit = 2147483647
+
+-- ---- a command
+abbrev pub operationAt : ℕ
+operationAt = 0
+
+abbrev pub tagAt : ℕ
+tagAt = 1
+
+abbrev pub commandZerosAt : ℕ
+commandZerosAt = 2
+
+abbrev pub valueAt : ℕ
+valueAt = 4
+
+abbrev pub tagCount : ℕ
+tagCount = 64
+
+abbrev pub lowestValue : ℤ
+lowestValue = negsuc 999999
+
+abbrev pub highestValue : ℤ
+highestValue = pos 1000000
+
+-- ---- the station image
+abbrev pub imageSize : ℕ
+imageSize = 16384
+
+abbrev pub logCountAt : ℕ
+logCountAt = 0
+
+abbrev pub heldCountAt : ℕ
+heldCountAt = 2
+
+-- the setpoints, at the offset that bytes 4-5 hold
+abbrev pub setpointsStart : ℕ
+setpointsStart = 16
+
+-- the messages, at the offset that bytes 6-7 hold
+abbrev pub messagesStart : ℕ
+messagesStart = 272
+
+-- the most deltas that an image holds
+abbrev pub capacity : ℕ
+capacity = 64
+
+-- ---- steps, and what compose writes to
+abbrev pub stepSize : ℕ
+stepSize = 16
+
+abbrev pub stepRoom : ℕ
+stepRoom = 2032
+
+abbrev pub messageRoom : ℕ
+messageRoom = 200

@@ -1,0 +1,15 @@
+pub mod Tests
+pub mod Bytes
+pub mod Layout
+pub mod Message
+pub mod Listing
+pub mod Order
+pub mod Setpoints
+pub mod Image
+pub mod Steps
+pub mod Compose
+pub mod Codes
+pub mod Calls
+pub mod PlainStation
+pub mod Run
+pub mod Program

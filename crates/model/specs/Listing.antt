@@ -1,0 +1,66 @@
+-- What runs, and in which order, over any items that have a name, the names that they need, and a key.
+-- `Order` puts deltas in their place. Nothing here knows of bytes.
+use mathlib.Core.Path.{_≡_}
+use mathlib.Core.Logic.{_⊎_}
+use mathlib.Core.Bool.{Bool, true, false, cond, not, _&&_}
+use mathlib.Core.Option.{Option, some, none}
+use mathlib.Core.List.{List, [], _∷_, _++_}
+use Prim.Native.Nat.{ℕ, zero, suc}
+use lib.ListN.{length}
+use lib.Dec.{T}
+use Rattle.model.specs.Tests.{_∈_, has, hasAll, keep}
+
+module _ {A : Type 0} (name : A → ℕ) (needs : A → List ℕ) where
+  -- May follow the names `done`: it is not among them, and all that it needs is.
+  abbrev pub ready : List ℕ → A → Bool
+  ready done a = not (has (name a) done) && hasAll (needs a) done
+
+  -- A listing that goes on after the names `done`: "without repeats", and "each one's needs come earlier".
+  abbrev pub Listing : List ℕ → List A → Type 0
+  Listing done [] = Unit {0}
+  Listing done (a ∷ l) = T (ready done a) × Listing (name a ∷ done) l
+
+  -- "executable exactly if there is a listing of received deltas, without repeats, that ends in it
+  -- and in which each one's needs come earlier"
+  pub record Executable (S : List A) (a : A) : Type 0 where
+    pub before : List A
+    pub received : (b : A) → b ∈ (before ++ a ∷ []) → b ∈ S
+    pub listing : Listing [] (before ++ a ∷ [])
+
+  -- "lists each executable delta once, needs before"
+  pub record Complete (S l : List A) : Type 0 where
+    pub listing : Listing [] l
+    pub sound : (a : A) → a ∈ l → (a ∈ S) × Executable S a
+    pub complete : (a : A) → a ∈ S → Executable S a → a ∈ l
+
+  module _ {K : Type 0} (key : A → K) (less : K → K → Bool) where
+    -- The first list is not after the second "when keys are compared place by place".
+    abbrev pub NotAfter : List A → List A → Type 0
+    NotAfter [] l = Unit {0}
+    NotAfter (a ∷ k) [] = ⊥
+    NotAfter (a ∷ k) (b ∷ l) = T (less (key a) (key b)) ⊎ ((key a ≡ key b) × NotAfter k l)
+
+    -- "the first of all such listings"
+    pub record First (S l : List A) : Type 0 where
+      pub complete : Complete S l
+      pub first : (k : List A) → Complete S k → NotAfter l k
+
+    -- ---- the same list, computed: of all that are ready, the one of the lowest key, again and again
+    abbrev pub lower : A → Option A → Option A
+    lower a none = some a
+    lower a (some b) = cond (less (key b) (key a)) (some b) (some a)
+
+    abbrev pub lowest : List A → Option A
+    lowest [] = none
+    lowest (a ∷ l) = lower a (lowest l)
+
+    abbrev pub place : (List ℕ → List A) → List ℕ → Option A → List A
+    place rest done none = []
+    place rest done (some a) = a ∷ rest (name a ∷ done)
+
+    abbrev pub grow : List A → ℕ → List ℕ → List A
+    grow S zero done = []
+    grow S (suc n) done = place (grow S n) done (lowest (keep (ready done) S))
+
+    abbrev pub firstOf : List A → List A
+    firstOf S = grow S (length S) []

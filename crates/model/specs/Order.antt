@@ -1,0 +1,75 @@
+-- What runs, and in which order: the state of a station, executable deltas, the effective block, the key, the log and the held ones.
+use mathlib.Core.Bool.{Bool, true, false, cond, not, _&&_, _||_}
+use mathlib.Core.List.{List, [], _∷_, _++_, map}
+use Prim.Native.Nat.{ℕ, zero, suc, _-_, _<_, max}
+use lib.Dec.{eqb, ltb}
+use Rattle.model.specs.Tests.{_∈_, has, keep, greatest}
+use Rattle.model.specs.Layout.{fieldLimit, capacity}
+use Rattle.model.specs.Message.{Message, sequenceOf, hasPriority, groupOf, blockOf, priorityOf, needsOf}
+use Rattle.model.specs.Listing as L
+
+-- The state of a station: the deltas that it received, a set. A set is a list of messages that ascends strictly by sequence.
+pub record State : Type 0 where
+  pub deltas : List Message
+
+abbrev pub stateOf : List Message → State
+stateOf l = record { deltas = l }
+
+abbrev pub Ascending : List Message → Type 0
+Ascending [] = Unit {0}
+Ascending (m ∷ l) = ((x : Message) → x ∈ l → sequenceOf m < sequenceOf x) × Ascending l
+
+-- A message joins the set. One of the same sequence stays as it is.
+abbrev pub insert : Message → List Message → List Message
+insert m [] = m ∷ []
+insert m (x ∷ l) =
+    cond (ltb (sequenceOf m) (sequenceOf x)) (m ∷ x ∷ l) (cond (eqb (sequenceOf m) (sequenceOf x)) (x ∷ l) (x ∷ insert m l))
+
+abbrev pub add : Message → State → State
+add m S = stateOf (insert m (S .deltas))
+
+abbrev pub sequencesOf : List Message → List ℕ
+sequencesOf l = map sequenceOf l
+
+-- The received message of a sequence; the empty one where there is none.
+abbrev pub find : List Message → ℕ → Message
+find [] s = []
+find (m ∷ l) s = cond (eqb (sequenceOf m) s) m (find l s)
+
+-- ---- the key
+-- "The effective block is the greater of its own block (0 without priority) and the effective blocks of its needs":
+-- along needs of needs. Among 64 deltas no such way is longer than 64.
+abbrev pub blockAlong : ℕ → List Message → ℕ → ℕ
+blockAlong zero l s = 0
+blockAlong (suc n) l s = max (blockOf (find l s)) (greatest (blockAlong n l) (needsOf (find l s)))
+
+abbrev pub effectiveBlock : State → Message → ℕ
+effectiveBlock S m = blockAlong capacity (S .deltas) (sequenceOf m)
+
+-- "effective block, lower first; then explicit priority before none, and the greater priority first;
+-- then group, lower first; then sequence, lower first": five numbers, each lower first.
+abbrev pub keyOf : State → Message → List ℕ
+keyOf S m = effectiveBlock S m ∷ cond (hasPriority m) 0 1 ∷ (fieldLimit - priorityOf m) ∷ groupOf m ∷ sequenceOf m ∷ []
+
+abbrev pub less : List ℕ → List ℕ → Bool
+less [] [] = false
+less [] (b ∷ k) = true
+less (a ∷ l) [] = false
+less (a ∷ l) (b ∷ k) = ltb a b || (eqb a b && less l k)
+
+-- ---- declared
+abbrev pub Executable : State → Message → Type 0
+Executable S m = L.Executable sequenceOf needsOf (S .deltas) m
+
+-- "The log lists each executable delta once, needs before, and is the first of all such listings
+-- when keys are compared place by place."
+abbrev pub IsLog : State → List Message → Type 0
+IsLog S l = L.First sequenceOf needsOf (keyOf S) less (S .deltas) l
+
+-- ---- computed
+unfoldable pub logOf : State → List Message
+logOf S = L.firstOf sequenceOf needsOf (keyOf S) less (S .deltas)
+
+-- "All others are held": by ascending sequence.
+unfoldable pub heldOf : State → List Message
+heldOf S = let logged = sequencesOf (logOf S) in keep (λ m. not (has (sequenceOf m) logged)) (S .deltas)
