@@ -106,7 +106,7 @@ outcomeOf (encode m) = message 0 m
 outcomeOf (deliverAll l) = run [] begun l
 outcomeOf (composeOn line l) =
     let c = compose (imageOfAll begun l) (bytes 10 line) (command 1 3 (pos 5)) 0 0 (replicate messageRoom 0xEE) in
-    message (c .code) (take (c .length) (c .message))
+    message (c .code) (take (c .size) (c .message))
 
 abbrev ok : List Step → ℕ × Option (List Step)
 ok l = (0, some l)
@@ -114,10 +114,12 @@ ok l = (0, some l)
 examples : List (Input × Outcome)
 examples =
     -- A1's bytes
-    (encode a1,
-        message 0 (0x01 ∷ 0x00 ∷ 0x00 ∷ 0x01 ∷ 0x00 ∷ 0x30 ∷ 0x00 ∷ 0x28 ∷ 0x00 ∷ 0x28 ∷ 0x00 ∷ 0x00 ∷ 0x00 ∷ 0x00 ∷ 0x00 ∷ 0x00
-        ∷ 0x00 ∷ 0x0A ∷ 0x00 ∷ 0x00 ∷ 0x00 ∷ 0x01 ∷ 0x00 ∷ 0x01 ∷ 0x00 ∷ 0x00 ∷ 0x00 ∷ 0x01 ∷ 0x00 ∷ 0x00 ∷ 0x00 ∷ 0x00
-        ∷ 0x00 ∷ 0x00 ∷ 0x00 ∷ 0x00 ∷ 0x00 ∷ 0x00 ∷ 0x00 ∷ 0x00 ∷ 0x01 ∷ 0x03 ∷ 0x00 ∷ 0x00 ∷ 0x00 ∷ 0x00 ∷ 0x05 ∷ 0xDC ∷ []))
+    (
+      encode a1,
+      message 0 (0x01 ∷ 0x00 ∷ 0x00 ∷ 0x01 ∷ 0x00 ∷ 0x30 ∷ 0x00 ∷ 0x28 ∷ 0x00 ∷ 0x28 ∷ 0x00 ∷ 0x00 ∷ 0x00 ∷ 0x00 ∷ 0x00 ∷ 0x00
+          ∷ 0x00 ∷ 0x0A ∷ 0x00 ∷ 0x00 ∷ 0x00 ∷ 0x01 ∷ 0x00 ∷ 0x01 ∷ 0x00 ∷ 0x00 ∷ 0x00 ∷ 0x01 ∷ 0x00 ∷ 0x00 ∷ 0x00 ∷ 0x00
+          ∷ 0x00 ∷ 0x00 ∷ 0x00 ∷ 0x00 ∷ 0x00 ∷ 0x00 ∷ 0x00 ∷ 0x00 ∷ 0x01 ∷ 0x03 ∷ 0x00 ∷ 0x00 ∷ 0x00 ∷ 0x00 ∷ 0x05 ∷ 0xDC ∷ []),
+    )
     -- No deltas: L 0, H 0, used 272.
     ∷ (deliverAll [], station [] 0 0 272 [] [] (pos 0))
     -- A1: log A1, tag 3 is 1500.
@@ -126,19 +128,25 @@ examples =
     ∷ (deliverAll (a2 ∷ []), station (ok [] ∷ []) 0 1 320 [] (A 2 ∷ []) (pos 0))
     ∷ (deliverAll (a2 ∷ a1 ∷ []), station (ok [] ∷ ok (execute (A 1) ∷ execute (A 2) ∷ []) ∷ []) 2 0 368 (A 1 ∷ A 2 ∷ []) [] (pos 7))
     -- B1 then A1: undo B1, execute A1, B1; tag 3 is 1480.
-    ∷ (deliverAll (b1 ∷ a1 ∷ []),
-        station (ok (execute (B 1) ∷ []) ∷ ok (undo (B 1) ∷ execute (A 1) ∷ execute (B 1) ∷ []) ∷ []) 2 0 368 (A 1 ∷ B 1 ∷ []) [] (pos 1480))
+    ∷ (
+      deliverAll (b1 ∷ a1 ∷ []),
+      station (ok (execute (B 1) ∷ []) ∷ ok (undo (B 1) ∷ execute (A 1) ∷ execute (B 1) ∷ []) ∷ []) 2 0 368 (A 1 ∷ B 1 ∷ []) [] (pos 1480),
+    )
     -- Set 999990, add 20, add -20: 999980.
     ∷ (deliverAll (stopped ∷ []), station (ok (execute (A 1) ∷ []) ∷ []) 1 0 336 (A 1 ∷ []) [] (pos 999980))
     -- B1 block 1 priority 5, C1 block 1 priority 7, plain A1: log A1, C1, B1.
-    ∷ (deliverAll (b1-5 ∷ c1-7 ∷ a1 ∷ []),
-        station (ok (execute (B 1) ∷ []) ∷ ok (undo (B 1) ∷ execute (C 1) ∷ execute (B 1) ∷ [])
-        ∷ ok (undo (B 1) ∷ undo (C 1) ∷ execute (A 1) ∷ execute (C 1) ∷ execute (B 1) ∷ []) ∷ [])
-        3 0 416 (A 1 ∷ C 1 ∷ B 1 ∷ []) [] (pos 1480))
+    ∷ (
+      deliverAll (b1-5 ∷ c1-7 ∷ a1 ∷ []),
+      station (ok (execute (B 1) ∷ []) ∷ ok (undo (B 1) ∷ execute (C 1) ∷ execute (B 1) ∷ [])
+          ∷ ok (undo (B 1) ∷ undo (C 1) ∷ execute (A 1) ∷ execute (C 1) ∷ execute (B 1) ∷ []) ∷ [])
+          3 0 416 (A 1 ∷ C 1 ∷ B 1 ∷ []) [] (pos 1480),
+    )
     -- With plain C2 too: A1, C1, B1, C2.
-    ∷ (deliverAll (c2 ∷ a1 ∷ b1-5 ∷ c1-7 ∷ []),
-        station (ok [] ∷ ok (execute (A 1) ∷ []) ∷ ok (execute (B 1) ∷ []) ∷ ok (undo (B 1) ∷ execute (C 1) ∷ execute (B 1) ∷ execute (C 2) ∷ []) ∷ [])
-        4 0 464 (A 1 ∷ C 1 ∷ B 1 ∷ C 2 ∷ []) [] (pos 1480))
+    ∷ (
+      deliverAll (c2 ∷ a1 ∷ b1-5 ∷ c1-7 ∷ []),
+      station (ok [] ∷ ok (execute (A 1) ∷ []) ∷ ok (execute (B 1) ∷ []) ∷ ok (undo (B 1) ∷ execute (C 1) ∷ execute (B 1) ∷ execute (C 2) ∷ []) ∷ [])
+          4 0 464 (A 1 ∷ C 1 ∷ B 1 ∷ C 2 ∷ []) [] (pos 1480),
+    )
     -- A1 and B1 each naming the other: L 0, H 2.
     ∷ (deliverAll (b1-naming-a1 ∷ a1-naming-b1 ∷ []), station (ok [] ∷ ok [] ∷ []) 0 2 392 [] (A 1 ∷ B 1 ∷ []) (pos 0))
     -- A1 again: no step.

@@ -1,5 +1,5 @@
 -- The calls: from a call's arguments to its answer and to every byte of the buffers that it may write.
--- A refusal writes nothing, and its counts, length and value are 0.
+-- A refusal writes nothing, and its counts, size and value are 0. A buffer that a call only reads is not in its answer.
 use mathlib.Core.Bool.{cond}
 use mathlib.Core.List.{List, [], _∷_, _++_}
 use Prim.Native.Nat.{ℕ, zero, suc, _+_}
@@ -14,7 +14,7 @@ use Rattle.model.specs.Setpoints.{setpointsOf}
 use Rattle.model.specs.Image.{imageOf, stateIn, logIn}
 use Rattle.model.specs.Steps.{stepsOf, undosOf, executionsOf, stepsBytes}
 use Rattle.model.specs.Compose.{composed}
-use Rattle.model.specs.Codes.{lowest, emptyConditions, deliverConditions, composeConditions, readConditions, logMessageConditions, setpointConditions}
+use Rattle.model.specs.Codes.{lowestCode, emptyConditions, deliverConditions, composeConditions, readConditions, logMessageConditions, setpointConditions}
 
 -- New bytes at the front of a buffer, the rest unchanged.
 abbrev pub written : List ℕ → List ℕ → List ℕ
@@ -28,12 +28,12 @@ pub record Emptied : Type 0 where
 abbrev pub emptyState : State
 emptyState = stateOf []
 
-abbrev pub emptied : ℕ → List ℕ → Emptied
-emptied zero b = record { code = 0; image = imageOf emptyState }
-emptied (suc n) b = record { code = suc n; image = b }
+abbrev pub emptyAnswer : ℕ → List ℕ → Emptied
+emptyAnswer zero b = record { code = 0; image = imageOf emptyState }
+emptyAnswer (suc n) b = record { code = suc n; image = b }
 
 unfoldable pub empty : List ℕ → Emptied
-empty b = emptied (lowest (emptyConditions b)) b
+empty b = emptyAnswer (lowestCode (emptyConditions b)) b
 
 -- ---- deliver: image, message and step buffer
 pub record Delivered : Type 0 where
@@ -44,8 +44,8 @@ pub record Delivered : Type 0 where
   pub steps : List ℕ
 
 -- From one state to the next.
-abbrev pub accepted : State → State → List ℕ → Delivered
-accepted S next steps =
+abbrev pub acceptedAnswer : State → State → List ℕ → Delivered
+acceptedAnswer S next steps =
     let old = sequencesOf (logOf S) in
     let new = sequencesOf (logOf next) in
     record {
@@ -56,36 +56,36 @@ accepted S next steps =
       steps = written (stepsBytes (stepsOf old new)) steps;
     }
 
-abbrev pub delivered : ℕ → State → List ℕ → Message → List ℕ → Delivered
-delivered zero S b m steps = accepted S (add m S) steps
-delivered (suc n) S b m steps = record { code = suc n; undos = 0; executions = 0; image = b; steps = steps }
+abbrev pub deliverAnswer : ℕ → State → List ℕ → Message → List ℕ → Delivered
+deliverAnswer zero S b m steps = acceptedAnswer S (add m S) steps
+deliverAnswer (suc n) S b m steps = record { code = suc n; undos = 0; executions = 0; image = b; steps = steps }
 
 unfoldable pub deliverCode : List ℕ → Message → ℕ → ℕ
-deliverCode b m room = lowest (deliverConditions b m room)
+deliverCode b m room = lowestCode (deliverConditions b m room)
 
 unfoldable pub deliver : List ℕ → Message → List ℕ → Delivered
-deliver b m steps = delivered (deliverCode b m (length steps)) (stateIn b) b m steps
+deliver b m steps = deliverAnswer (deliverCode b m (length steps)) (stateIn b) b m steps
 
 -- ---- compose: image, line, commands, flag, priority and message buffer; the image is only read
 pub record Composed : Type 0 where
   pub code : ℕ
-  pub length : ℕ
+  pub size : ℕ
   pub message : List ℕ
 
-abbrev pub answered : ℕ → Message → List ℕ → Composed
-answered zero m buffer = record { code = 0; length = length m; message = written m buffer }
-answered (suc n) m buffer = record { code = suc n; length = 0; message = buffer }
+abbrev pub composeAnswer : ℕ → Message → List ℕ → Composed
+composeAnswer zero m buffer = record { code = 0; size = length m; message = written m buffer }
+composeAnswer (suc n) m buffer = record { code = suc n; size = 0; message = buffer }
 
 unfoldable pub composeCode : List ℕ → List ℕ → List ℕ → ℕ → ℕ → ℕ → ℕ
-composeCode b line commands flag priority room = lowest (composeConditions b line commands flag priority room)
+composeCode b line commands flag priority room = lowestCode (composeConditions b line commands flag priority room)
 
 unfoldable pub compose : List ℕ → List ℕ → List ℕ → ℕ → ℕ → List ℕ → Composed
 compose b line commands flag priority buffer =
-    answered (composeCode b line commands flag priority (length buffer)) (composed (stateIn b) (number line) commands (eqb flag 1) priority) buffer
+    composeAnswer (composeCode b line commands flag priority (length buffer)) (composed (stateIn b) (number line) commands (eqb flag 1) priority) buffer
 
--- ---- log message: the part of the image that holds the message at a place, and the second call, which gives the code
+-- ---- log message: the bytes of the part that holds the message at a place, and the second call, which gives the code
 unfoldable pub logMessageCode : List ℕ → ℕ → ℕ
-logMessageCode b place = lowest (logMessageConditions b place)
+logMessageCode b place = lowestCode (logMessageConditions b place)
 
 unfoldable pub logMessage : List ℕ → ℕ → List ℕ
 logMessage b place = cond (eqb (logMessageCode b place) 0) (getD (logIn b) place []) []
@@ -100,7 +100,7 @@ setpointAnswer zero b tag = record { code = 0; value = getD (setpointsOf (stateI
 setpointAnswer (suc n) b tag = record { code = suc n; value = pos 0 }
 
 unfoldable pub setpoint : List ℕ → ℕ → Setpoint
-setpoint b tag = setpointAnswer (lowest (setpointConditions b tag)) b tag
+setpoint b tag = setpointAnswer (lowestCode (setpointConditions b tag)) b tag
 
 -- ---- the log reader: "keeps the lent image together with the offset of the next message"
 pub record Reader : Type 0 where
@@ -127,5 +127,5 @@ nextMessage (suc n) b offset = []
 
 unfoldable pub next : Reader → Read
 next r =
-    let m = nextMessage (lowest (readConditions (r .image))) (r .image) (r .offset) in
+    let m = nextMessage (lowestCode (readConditions (r .image))) (r .image) (r .offset) in
     record { part = m; reader = record { image = r .image; offset = r .offset + length m } }

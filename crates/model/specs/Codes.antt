@@ -1,7 +1,7 @@
 -- Codes: for each call its own list of numbers and conditions, in the table's order. The lowest that holds is answered; 0 where none does.
 use mathlib.Core.Bool.{Bool, cond, not, _&&_, _||_}
 use mathlib.Core.List.{List, [], _∷_, _++_}
-use Prim.Native.Nat.{ℕ, _+_, _/_, _%_}
+use Prim.Native.Nat.{ℕ, _*_, _/_, _%_}
 use lib.ListN.{length}
 use lib.Dec.{eqb, ltb, leb}
 use Rattle.model.specs.Tests.{has, every, some?, same}
@@ -16,13 +16,13 @@ abbrev pub Conditions : Type 0
 Conditions = List (ℕ × Bool)
 
 -- "The lowest number that applies to the call is answered, and never when its condition fails."
-abbrev pub lowest : Conditions → ℕ
-lowest [] = 0
-lowest (c ∷ l) = cond (c .1) (c .0) (lowest l)
+abbrev pub lowestCode : Conditions → ℕ
+lowestCode [] = 0
+lowestCode (c ∷ l) = cond (c .1) (c .0) (lowestCode l)
 
--- ---- 1 and 2
-abbrev pub wrongImage : List ℕ → Bool
-wrongImage b = not (eqb (length b) imageSize)
+-- ---- 1: the sizes of an image and of a step buffer. 2 is `isImage`.
+abbrev pub wrongSize : List ℕ → Bool
+wrongSize b = not (eqb (length b) imageSize)
 
 abbrev pub smallSteps : ℕ → Bool
 smallSteps room = ltb room stepRoom
@@ -38,17 +38,18 @@ present S s = has s (sequencesOf (S .deltas))
 abbrev pub conflicts : State → Message → Bool
 conflicts S m = present S (sequenceOf m) && not (same (find (S .deltas) (sequenceOf m)) m)
 
-abbrev pub exceeds : State → Message → Bool
-exceeds S m = leb capacity (length (S .deltas)) && not (present S (sequenceOf m))
+abbrev pub full : State → Message → Bool
+full S m = leb capacity (length (S .deltas)) && not (present S (sequenceOf m))
 
 abbrev pub deliverConditions : List ℕ → Message → ℕ → Conditions
 deliverConditions b m room =
-    (1, wrongImage b || smallSteps room) ∷ (2, not (isImage b)) ∷ messageConditions m
-    ++ (7, conflicts (stateIn b) m) ∷ (8, exceeds (stateIn b) m) ∷ []
+    (1, wrongSize b || smallSteps room) ∷ (2, not (isImage b)) ∷ messageConditions m
+    ++ (7, conflicts (stateIn b) m) ∷ (8, full (stateIn b) m) ∷ []
 
 -- ---- compose. 3: "commands not 8 to 64 bytes by eights"
 abbrev pub commandsSized : List ℕ → Bool
-commandsSized c = isBytes c && leb 1 (length c / commandSize) && leb (length c / commandSize) mostCommands && eqb (length c % commandSize) 0
+commandsSized c =
+    isBytes c && leb commandSize (length c) && leb (length c) (commandSize * mostCommands) && eqb (length c % commandSize) 0
 
 -- 6: the priority (also nonzero without the flag), the flag, and the commands
 abbrev pub composeContent : List ℕ → ℕ → ℕ → Bool
@@ -72,16 +73,16 @@ manyDependencies S line = ltb mostDependencies (length (newDependencies S (newSe
 abbrev pub composeConditions : List ℕ → List ℕ → List ℕ → ℕ → ℕ → ℕ → Conditions
 composeConditions b line commands flag priority room =
     let S = stateIn b in
-    (1, wrongImage b || ltb room messageRoom || not (isBytes line && eqb (length line) lineSize)) ∷ (2, not (isImage b))
+    (1, wrongSize b || ltb room messageRoom || not (isBytes line && eqb (length line) lineSize)) ∷ (2, not (isImage b))
     ∷ (3, not (commandsSized commands)) ∷ (6, not (composeContent commands flag priority))
     ∷ (9, heldOn S (number line)) ∷ (10, pastLimit S (number line) (eqb flag 1)) ∷ (11, manyDependencies S (number line)) ∷ []
 
 -- ---- empty, log message and setpoint. 12: "log place not below L, or tag above 63"
 abbrev pub emptyConditions : List ℕ → Conditions
-emptyConditions b = (1, wrongImage b) ∷ []
+emptyConditions b = (1, wrongSize b) ∷ []
 
 abbrev pub readConditions : List ℕ → Conditions
-readConditions b = (1, wrongImage b) ∷ (2, not (isImage b)) ∷ []
+readConditions b = (1, wrongSize b) ∷ (2, not (isImage b)) ∷ []
 
 abbrev pub logMessageConditions : List ℕ → ℕ → Conditions
 logMessageConditions b place = readConditions b ++ (12, leb (logCount b) place) ∷ []

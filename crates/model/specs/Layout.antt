@@ -1,4 +1,4 @@
--- Every offset, size and limit of document 01, in bytes unless said otherwise.
+-- The offsets, sizes and limits of document 01, in bytes unless said otherwise.
 use Prim.Native.Nat.{ℕ}
 use lib.IntN.{ℤ, pos, negsuc}
 
@@ -118,8 +118,22 @@ capacity = 64
 abbrev pub stepSize : ℕ
 stepSize = 16
 
+-- where a step's sequence stands
+abbrev pub stepSequenceAt : ℕ
+stepSequenceAt = 4
+
 abbrev pub stepRoom : ℕ
 stepRoom = 2032
 
 abbrev pub messageRoom : ℕ
 messageRoom = 200
+
+-- ---- the listing program: how much it reads, and the lengths of a cut
+abbrev pub inputLimit : ℕ
+inputLimit = 60000
+
+abbrev pub shortestCut : ℕ
+shortestCut = 48
+
+abbrev pub longestCut : ℕ
+longestCut = 200

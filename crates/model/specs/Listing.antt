@@ -50,9 +50,9 @@ module _ {A : Type 0} (name : A → ℕ) (needs : A → List ℕ) where
     lower a none = some a
     lower a (some b) = cond (less (key b) (key a)) (some b) (some a)
 
-    abbrev pub lowest : List A → Option A
-    lowest [] = none
-    lowest (a ∷ l) = lower a (lowest l)
+    abbrev pub lowestOf : List A → Option A
+    lowestOf [] = none
+    lowestOf (a ∷ l) = lower a (lowestOf l)
 
     abbrev pub place : (List ℕ → List A) → List ℕ → Option A → List A
     place rest done none = []
@@ -60,7 +60,7 @@ module _ {A : Type 0} (name : A → ℕ) (needs : A → List ℕ) where
 
     abbrev pub grow : List A → ℕ → List ℕ → List A
     grow S zero done = []
-    grow S (suc n) done = place (grow S n) done (lowest (keep (ready done) S))
+    grow S (suc n) done = place (grow S n) done (lowestOf (keep (ready done) S))
 
     abbrev pub firstOf : List A → List A
     firstOf S = grow S (length S) []

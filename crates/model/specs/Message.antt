@@ -68,6 +68,7 @@ abbrev pub needsOf : Message → List ℕ
 needsOf m = predecessorOf (sequenceOf m) ++ dependenciesOf m
 
 -- ---- what code 3 asks: kind, byte 1, counts, T (also against the bytes handed over), offsets, bytes 10-11 and 36-39
+-- (and that it is a list of bytes, as all that a caller can hand over is)
 unfoldable pub layoutRight : Message → Bool
 layoutRight m =
     let D = dependencyCount m in

@@ -8,7 +8,7 @@ use Rattle.model.specs.Layout.{fieldLimit, capacity}
 use Rattle.model.specs.Message.{Message, sequenceOf, hasPriority, groupOf, blockOf, priorityOf, needsOf}
 use Rattle.model.specs.Listing as L
 
--- The state of a station: the deltas that it received, a set. A set is a list of messages that ascends strictly by sequence.
+-- The state of a station: the deltas that it received, a set. A set is kept as a list that ascends strictly by sequence (see `Valid`).
 pub record State : Type 0 where
   pub deltas : List Message
 
@@ -38,7 +38,8 @@ find (m ∷ l) s = cond (eqb (sequenceOf m) s) m (find l s)
 
 -- ---- the key
 -- "The effective block is the greater of its own block (0 without priority) and the effective blocks of its needs":
--- along needs of needs. Among 64 deltas no such way is longer than 64.
+-- along needs of needs, 64 deep, which is as far as the needs of an executable delta reach among 64. `laws` shows that
+-- equation of every executable delta; the number of a held one is used nowhere.
 abbrev pub blockAlong : ℕ → List Message → ℕ → ℕ
 blockAlong zero l s = 0
 blockAlong (suc n) l s = max (blockOf (find l s)) (greatest (blockAlong n l) (needsOf (find l s)))
@@ -48,8 +49,11 @@ effectiveBlock S m = blockAlong capacity (S .deltas) (sequenceOf m)
 
 -- "effective block, lower first; then explicit priority before none, and the greater priority first;
 -- then group, lower first; then sequence, lower first": five numbers, each lower first.
+abbrev pub keyWith : ℕ → Message → List ℕ
+keyWith effective m = effective ∷ cond (hasPriority m) 0 1 ∷ (fieldLimit - priorityOf m) ∷ groupOf m ∷ sequenceOf m ∷ []
+
 abbrev pub keyOf : State → Message → List ℕ
-keyOf S m = effectiveBlock S m ∷ cond (hasPriority m) 0 1 ∷ (fieldLimit - priorityOf m) ∷ groupOf m ∷ sequenceOf m ∷ []
+keyOf S m = keyWith (effectiveBlock S m) m
 
 abbrev pub less : List ℕ → List ℕ → Bool
 less [] [] = false

@@ -3,12 +3,12 @@ use mathlib.Core.Bool.{Bool, cond, not, _&&_}
 use Prim.Native.Nat.{ℕ}
 use Rattle.model.specs.Message.{Message, passes}
 use Rattle.model.specs.Order.{State, add}
-use Rattle.model.specs.Codes.{smallSteps, conflicts, exceeds}
+use Rattle.model.specs.Codes.{smallSteps, conflicts, full}
 
 -- "A delivery is refused if its step buffer is refused by 1, else if the message fails 3 to 6, else if the set has its sequence
 -- under other bytes, else if the set has 64 messages and not this sequence."
 unfoldable pub accepts : State → Message → ℕ → Bool
-accepts S m room = not (smallSteps room) && passes m && not (conflicts S m) && not (exceeds S m)
+accepts S m room = not (smallSteps room) && passes m && not (conflicts S m) && not (full S m)
 
 -- "A refused one changes nothing. Any other is accepted, and its message joins the set, where it may be already."
 unfoldable pub receive : State → Message → ℕ → State

@@ -5,15 +5,11 @@ use Prim.Native.Nat.{ℕ, zero, suc, _+_, _/_, _%_}
 use lib.ListN.{length, take, drop, replicate}
 use lib.Dec.{eqb, ltb}
 use Rattle.model.specs.Bytes.{field, join}
-use Rattle.model.specs.Layout.{lengthAt, stepRoom}
+use Rattle.model.specs.Layout.{lengthAt, stepRoom, inputLimit, shortestCut, longestCut}
 use Rattle.model.specs.Image.{imageOf, logCount, heldCount}
 use Rattle.model.specs.Calls.{emptyState, Delivered, deliver}
 
--- "up to 60,000 bytes (any beyond are dropped)"
-abbrev pub inputLimit : ℕ
-inputLimit = 60000
-
--- A number in decimal: its digits, at most `n` of them.
+-- A number in decimal: its last `n` digits, without zeros in front. No number that is printed has more than five.
 abbrev pub digits : ℕ → ℕ → List ℕ
 digits zero x = []
 digits (suc n) x = cond (ltb x 10) [] (digits n (x / 10)) ++ (48 + x % 10) ∷ []
@@ -22,8 +18,8 @@ abbrev pub decimal : ℕ → List ℕ
 decimal x = digits 5 x
 
 -- "Each line: message number from 1, code, undos, executions."
-unfoldable pub line : ℕ → ℕ → ℕ → ℕ → List ℕ
-line n code undos executions = decimal n ++ 32 ∷ decimal code ++ 32 ∷ decimal undos ++ 32 ∷ decimal executions ++ 10 ∷ []
+unfoldable pub printedLine : ℕ → ℕ → ℕ → ℕ → List ℕ
+printedLine n code undos executions = decimal n ++ 32 ∷ decimal code ++ 32 ∷ decimal undos ++ 32 ∷ decimal executions ++ 10 ∷ []
 
 -- "the word log, L, the word held, H"
 unfoldable pub lastLine : List ℕ → List ℕ
@@ -31,7 +27,9 @@ lastLine b = 108 ∷ 111 ∷ 103 ∷ 32 ∷ decimal (logCount b) ++ 32 ∷ 104 �
 
 -- "A cut outside 48..200 or past the end, or a rest of one to five bytes"
 unfoldable pub badCut : List ℕ → Bool
-badCut rest = ltb (length rest) 6 || ltb (field rest lengthAt 2) 48 || ltb 200 (field rest lengthAt 2) || ltb (length rest) (field rest lengthAt 2)
+badCut rest =
+    let size = field rest lengthAt 2 in
+    ltb (length rest) (lengthAt + 2) || ltb size shortestCut || ltb longestCut size || ltb (length rest) size
 
 abbrev pub stepBuffer : List ℕ
 stepBuffer = replicate stepRoom 0
@@ -44,7 +42,8 @@ linesFrom (suc most) n b (x ∷ rest) =
     let left = x ∷ rest in
     let a = deliver b (take (field left lengthAt 2) left) stepBuffer in
     let more = linesFrom most (suc n) (a .image) (drop (field left lengthAt 2) left) in
-    cond (badCut left) (line n 3 0 0 ++ lastLine b) (line n (a .code) (a .undos) (a .executions) ++ more)
+    cond (badCut left) (printedLine n 3 0 0 ++ lastLine b) (printedLine n (a .code) (a .undos) (a .executions) ++ more)
 
+-- "up to 60,000 bytes (any beyond are dropped)"
 unfoldable pub listing : List ℕ → List ℕ
 listing input = let read = take inputLimit input in linesFrom (length read) 1 (imageOf emptyState) read

@@ -1,5 +1,6 @@
 -- Demand 3 over a whole run, as one record. `Agreement` says what has to hold of an empty and a deliver call that are known by
--- what they promise: `begins b`, that empty left the image b, and `answers b c a`, that the call c on the image b answered a.
+-- what they promise: `begins b`, that empty answered 0 and wrote b, and `answers b c a`, that the call c on the image b answered a.
+-- `Begins` and `Answers` are those of the definitions; of the code they are the postconditions of its functions.
 use mathlib.Core.Path.{_≡_}
 use mathlib.Core.Logic.{_↔_}
 use mathlib.Core.Bool.{Bool, cond}
@@ -13,7 +14,7 @@ use Rattle.model.specs.Message.{Message}
 use Rattle.model.specs.Order.{State, sequencesOf, logOf}
 use Rattle.model.specs.Image.{imageOf, logIn}
 use Rattle.model.specs.Steps.{Step, undo, execute, undosOf, executionsOf, readSteps, Plays}
-use Rattle.model.specs.Calls.{Delivered, emptyState, deliverCode}
+use Rattle.model.specs.Calls.{Delivered, emptyState, empty, deliverCode, deliver}
 use Rattle.model.specs.PlainStation.{accepts, receive}
 
 -- A call of a list: deliver, with its message and its step buffer as lent.
@@ -63,11 +64,8 @@ acceptedIn (e ∷ earlier) = cond (eqb (e .answer .code) 0) (messageOfCall (e .c
 
 -- ---- "The steps of a call are the records at the front of its step buffer: as many undos as its answer counts,
 -- then as many executions as its answer counts; a refused call has none" (its counts are 0)
-pub record StepsTaken (e : Event) (steps : List Step) : Type 0 where
-  pub undone : List ℕ
-  pub executed : List ℕ
-  pub read : readSteps (e .answer .undos + e .answer .executions) (e .answer .steps) ≡ some steps
-  pub kinds : steps ≡ map undo undone ++ map execute executed
+pub record StepsTaken (e : Event) (undone executed : List ℕ) : Type 0 where
+  pub read : readSteps (e .answer .undos + e .answer .executions) (e .answer .steps) ≡ some (map undo undone ++ map execute executed)
   pub undos : length undone ≡ e .answer .undos
   pub executions : length executed ≡ e .answer .executions
 
@@ -75,29 +73,38 @@ pub record StepsTaken (e : Event) (steps : List Step) : Type 0 where
 abbrev pub Played : List Event → List ℕ → Type 0
 Played [] log = log ≡ []
 Played (e ∷ earlier) log =
-    (old : List ℕ) × (steps : List Step) × Played earlier old × StepsTaken e steps × Plays old steps log
+    (old : List ℕ) × (undone : List ℕ) × (executed : List ℕ) × Played earlier old × StepsTaken e undone executed
+    × Plays old (map undo undone ++ map execute executed) log
 
--- ---- the demand
+-- ---- the demand, of every list of calls from an image that empty wrote
 pub record Agreement (begins : List ℕ → Type 0) (answers : List ℕ → Call → Delivered → Type 0) : Type 0 where
   -- "Deliver answers 0 exactly where the plain station accepts, and otherwise the lowest number that applies."
   pub accepted : (b : List ℕ) → begins b → (e : Event) (earlier : List Event) → Run answers b (e ∷ earlier)
       → (e .answer .code ≡ 0) ↔ T (accepts? (stateAfter earlier) (e .call))
-  pub refused : (b : List ℕ) → begins b → (e : Event) (earlier : List Event) → Run answers b (e ∷ earlier)
+  pub code : (b : List ℕ) → begins b → (e : Event) (earlier : List Event) → Run answers b (e ∷ earlier)
       → e .answer .code ≡ codeFor (imageAfter b earlier) (e .call)
-  -- The image is the plain station's.
+  -- "Its log and image are those of the set": the image is the plain station's.
   pub image : (b : List ℕ) → begins b → (events : List Event) → Run answers b events → imageAfter b events ≡ imageOf (stateAfter events)
-  -- Equal accepted sets give byte-equal images.
+  -- "So a set of deltas has one image": equal accepted sets give equal images, on any two stations.
   pub equal : (b c : List ℕ) → begins b → begins c → (events others : List Event) → Run answers b events → Run answers c others
       → ((m : Message) → m ∈ acceptedIn events ↔ m ∈ acceptedIn others) → imageAfter b events ≡ imageAfter c others
   -- "After each call the played log, the image's log and the plain station's log are the same sequences in the same order."
   pub played : (b : List ℕ) → begins b → (events : List Event) → Run answers b events → (log : List ℕ) → Played events log ↔ (log ≡ logAfter events)
-  pub held : (b : List ℕ) → begins b → (events : List Event) → Run answers b events → sequencesOf (logIn (imageAfter b events)) ≡ logAfter events
+  pub imageLog : (b : List ℕ) → begins b → (events : List Event) → Run answers b events → sequencesOf (logIn (imageAfter b events)) ≡ logAfter events
   -- "The number of a delivery's undos is the length of its old log less that of the longest common start,
   -- and of its executions the length of its new log less the same."
   pub undos : (b : List ℕ) → begins b → (e : Event) (earlier : List Event) → Run answers b (e ∷ earlier)
       → e .answer .undos ≡ undosOf (logAfter earlier) (logAfter (e ∷ earlier))
   pub executions : (b : List ℕ) → begins b → (e : Event) (earlier : List Event) → Run answers b (e ∷ earlier)
       → e .answer .executions ≡ executionsOf (logAfter earlier) (logAfter (e ∷ earlier))
-  -- "Its rivals are all lists of undos and executions that can be played from its old log to its new one": none has fewer steps.
+  -- "Its rivals are all lists of undos and executions that can be played from its old log to its new one, both kinds counted
+  -- together": no rival is shorter.
   pub fewest : (b : List ℕ) → begins b → (e : Event) (earlier : List Event) → Run answers b (e ∷ earlier)
       → (rival : List Step) → Plays (logAfter earlier) rival (logAfter (e ∷ earlier)) → e .answer .undos + e .answer .executions ≤ length rival
+
+-- ---- the calls of the definitions
+abbrev pub Begins : List ℕ → Type 0
+Begins b = (lent : List ℕ) × (empty lent .code ≡ 0) × (b ≡ empty lent .image)
+
+abbrev pub Answers : List ℕ → Call → Delivered → Type 0
+Answers b (delivery m steps) a = a ≡ deliver b m steps

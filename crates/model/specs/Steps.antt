@@ -4,10 +4,11 @@ use mathlib.Core.Bool.{Bool, cond}
 use mathlib.Core.Option.{Option, some, none}
 use mathlib.Core.List.{List, [], _∷_, _++_, map, reverse}
 use Prim.Native.Nat.{ℕ, zero, suc, _-_}
-use lib.ListN.{length, drop}
-use lib.Dec.{eqb}
+use lib.ListN.{length, take, drop}
+use lib.Dec.{eqb, ltb}
+use Rattle.model.specs.Tests.{same}
 use Rattle.model.specs.Bytes.{bytes, field, join}
-use Rattle.model.specs.Layout.{sequenceSize, stepSize}
+use Rattle.model.specs.Layout.{sequenceSize, stepSize, stepSequenceAt}
 
 pub data Step : Type 0 where
   undo execute : ℕ → Step
@@ -36,11 +37,13 @@ stepBytes (execute s) = 2 ∷ 0 ∷ 0 ∷ 0 ∷ bytes sequenceSize s
 abbrev pub stepsBytes : List Step → List ℕ
 stepsBytes l = join (map stepBytes l)
 
--- A step read back: none where the first four bytes are of neither kind.
+-- A step read back from the front of a buffer: none where fewer than 16 bytes are there or they are of neither kind.
 abbrev pub readStep : List ℕ → Option Step
 readStep b =
-    cond (eqb (field b 0 4) 0x01000000) (some (undo (field b 4 sequenceSize)))
-    (cond (eqb (field b 0 4) 0x02000000) (some (execute (field b 4 sequenceSize))) none)
+    let s = field b stepSequenceAt sequenceSize in
+    let kind = take stepSequenceAt b in
+    cond (ltb (length b) stepSize) none
+    (cond (same kind (1 ∷ 0 ∷ 0 ∷ 0 ∷ [])) (some (undo s)) (cond (same kind (2 ∷ 0 ∷ 0 ∷ 0 ∷ [])) (some (execute s)) none))
 
 abbrev pub both : Option Step → Option (List Step) → Option (List Step)
 both none l = none

@@ -1,0 +1,124 @@
+-- Numbers and lists of bytes: what is written is read back, and what is read is in range.
+use mathlib.Core.Path.{_≡_, refl, sym, _∙_, ap, ap₂, subst}
+use mathlib.Core.Logic.{_⊎_, inl, inr, ⊎-elim}
+use mathlib.Core.Bool.{Bool, true, false, cond, not, _&&_}
+use mathlib.Core.List.{List, [], _∷_, _++_, map, List·Memᴰ·head, List·Memᴰ·tail, append-assoc}
+use Prim.Native.Nat.{ℕ, zero, suc, _+_, _*_, _-_, _/_, _%_, _^_, _≤_, _<_, min}
+use native.Mathlib.Omega.{arith}
+use native.Mathlib.Nat.{mod-eq-of-lt, pow-suc, mul-assoc, mul-comm, one-le-pow, pow-le-pow-right, lt-of-lt-of-le}
+use lib.Dec.{T, ltb, lit<, lit≤, ltb→lt, lt→ltb, nltb→le}
+use lib.Arith.{mod-mul}
+use lib.ListN.{length, take, drop, length-append, length-drop, length-take}
+use lib.Seq.{take-at, drop-at, take-append-le, drop-append-le}
+use lib.IntN.{ℤ, pos, negsuc, subℕ}
+use lib.Signed.{mag}
+use mir.Syntax.{w32}
+use mir.Val.{toZ, ofZ, sel, SFits}
+use mir.Facts.{toZ-ofZ}
+use Rattle.model.specs.Tests.{_∈_, every}
+use Rattle.model.specs.Bytes.{isBytes, numberFrom, number, bytes, field, parts, join, integer, word}
+use Rattle.order.specs.TestLaws.{and-l, and-r, and-i, decide}
+
+-- ---- a number's bytes
+pub length-bytes : (size n : ℕ) → length (bytes size n) ≡ size
+length-bytes zero n = refl
+length-bytes (suc size) n = ap suc (length-bytes size n)
+
+regroup : (a b p r : ℕ) → (a * 256 + b) * p + r ≡ a * (256 * p) + (b * p + r)
+regroup a b p r = omega arith
+
+pow-256 : (size : ℕ) → 256 ^ suc size ≡ 256 * 256 ^ size
+pow-256 size = pow-suc 256 size ∙ mul-comm (256 ^ size) 256
+
+numberFrom-bytes : (size n a : ℕ) → numberFrom a (bytes size n) ≡ a * 256 ^ size + n % 256 ^ size
+numberFrom-bytes zero n a = omega arith
+numberFrom-bytes (suc size) n a =
+    numberFrom-bytes size n (a * 256 + n / 256 ^ size % 256) ∙ regroup a (n / 256 ^ size % 256) (256 ^ size) (n % 256 ^ size)
+    ∙ ap₂ (λ (x y : ℕ). a * x + y) (sym (pow-256 size)) (sym split)
+  where
+    split : n % 256 ^ suc size ≡ n / 256 ^ size % 256 * 256 ^ size + n % 256 ^ size
+    split = ap (λ (x : ℕ). n % x) (pow-256 size) ∙ mod-mul n (lit< tt) (one-le-pow size 256 (lit≤ tt))
+
+-- a number that fits is read back from its bytes
+pub number-bytes : (size n : ℕ) → n < 256 ^ size → number (bytes size n) ≡ n
+number-bytes size n h = numberFrom-bytes size n 0 ∙ omega (arith, mod-eq-of-lt h)
+
+pub bytes-isBytes : (size n : ℕ) → T (isBytes (bytes size n))
+bytes-isBytes zero n = tt
+bytes-isBytes (suc size) n =
+    and-i (ltb (n / 256 ^ size % 256) 256) (isBytes (bytes size n)) (lt→ltb (n / 256 ^ size % 256) 256 (omega arith)) (bytes-isBytes size n)
+
+-- ---- lists of bytes
+pub isBytes-append : (a b : List ℕ) → T (isBytes a) → T (isBytes b) → T (isBytes (a ++ b))
+isBytes-append [] b p q = q
+isBytes-append (x ∷ a) b p q = and-i (ltb x 256) (isBytes (a ++ b)) (and-l (ltb x 256) (isBytes a) p) (isBytes-append a b (and-r (ltb x 256) (isBytes a) p) q)
+
+pub isBytes-take : (n : ℕ) (b : List ℕ) → T (isBytes b) → T (isBytes (take n b))
+isBytes-take zero b p = tt
+isBytes-take (suc n) [] p = tt
+isBytes-take (suc n) (x ∷ b) p = and-i (ltb x 256) (isBytes (take n b)) (and-l (ltb x 256) (isBytes b) p) (isBytes-take n b (and-r (ltb x 256) (isBytes b) p))
+
+pub isBytes-drop : (n : ℕ) (b : List ℕ) → T (isBytes b) → T (isBytes (drop n b))
+isBytes-drop zero b p = p
+isBytes-drop (suc n) [] p = tt
+isBytes-drop (suc n) (x ∷ b) p = isBytes-drop n b (and-r (ltb x 256) (isBytes b) p)
+
+numberFrom-range : (b : List ℕ) (a p : ℕ) → T (isBytes b) → a < p → numberFrom a b < p * 256 ^ length b
+numberFrom-range [] a p t h = omega arith
+numberFrom-range (x ∷ b) a p t h =
+    let x-byte : x < 256 = ltb→lt x 256 (and-l (ltb x 256) (isBytes b) t) in
+    subst (λ (z : ℕ). numberFrom (a * 256 + x) b < z) (mul-assoc p 256 (256 ^ length b) ∙ ap (λ (z : ℕ). p * z) (sym (pow-256 (length b))))
+    (numberFrom-range b (a * 256 + x) (p * 256) (and-r (ltb x 256) (isBytes b) t) (omega arith))
+
+pub number-range : (b : List ℕ) → T (isBytes b) → number b < 256 ^ length b
+number-range b t = let h : numberFrom 0 b < 1 * 256 ^ length b = numberFrom-range b 0 1 t (lit< tt) in omega arith
+
+-- a field of `size` bytes fits `size` bytes
+pub field-range : (b : List ℕ) (at size : ℕ) → T (isBytes b) → field b at size < 256 ^ size
+field-range b at size t =
+    lt-of-lt-of-le (number-range (take size (drop at b)) (isBytes-take size (drop at b) (isBytes-drop at b t)))
+    (pow-le-pow-right (lit< tt) (omega (arith, length-take size (drop at b))))
+
+-- a field that lies in the first of two lists is the first one's
+pub field-append : (a b : List ℕ) (at size : ℕ) → at + size ≤ length a → field (a ++ b) at size ≡ field a at size
+field-append a b at size h =
+    ap number (ap (take size) (drop-append-le at a b (omega arith)) ∙ take-append-le size (drop at a) b (omega (arith, length-drop at a)))
+
+-- ---- parts of equal size, end to end
+pub parts-join : (size : ℕ) (l : List (List ℕ)) (rest : List ℕ) → ((b : List ℕ) → b ∈ l → length b ≡ size) → parts (length l) size (join l ++ rest) ≡ l
+parts-join size [] rest h = refl
+parts-join size (b ∷ l) rest h =
+    rw (append-assoc, take-at b (join l ++ rest) size (h b (List·Memᴰ·head refl)), drop-at b (join l ++ rest) size (h b (List·Memᴰ·head refl)))
+    (ap (λ (k : List (List ℕ)). b ∷ k) (parts-join size l rest (λ c k. h c (List·Memᴰ·tail k))))
+
+pub length-join : (size : ℕ) (l : List (List ℕ)) → ((b : List ℕ) → b ∈ l → length b ≡ size) → length (join l) ≡ length l * size
+length-join size [] h = omega arith
+length-join size (b ∷ l) h =
+    length-append b (join l) ∙ omega (arith, h b (List·Memᴰ·head refl), length-join size l (λ c k. h c (List·Memᴰ·tail k)))
+
+pub join-append : (l k : List (List ℕ)) → join l ++ join k ≡ join (l ++ k)
+join-append [] k = refl
+join-append (b ∷ l) k = append-assoc b (join l) (join k) ∙ ap (λ (x : List ℕ). b ++ x) (join-append l k)
+
+-- ---- integers
+-- the language's own reading of a 32-bit number as signed, and its bits
+pub integer-toZ : (n : ℕ) → n < 4294967296 → integer n ≡ toZ w32 n
+integer-toZ n h = go (ltb n 2147483648) (ltb n 4294967296) (nltb→le n 4294967296)
+  where
+    go : (b c : Bool) → (T (not c) → 4294967296 ≤ n)
+        → cond b (pos n) (cond c (negsuc (4294967296 - suc n)) (pos (n - 4294967296))) ≡ sel b (pos n) (negsuc (4294967296 - suc n))
+    go true c f = refl
+    go false true f = refl
+    go false false f = absurd (let k : 4294967296 ≤ n = f tt in omega arith)
+
+pub word-ofZ : (z : ℤ) → word z ≡ ofZ w32 z
+word-ofZ (pos n) = refl
+word-ofZ (negsuc n) = refl
+
+-- an integer of 32 bits is read back from its bits
+pub integer-word : (z : ℤ) → mag z < 2147483648 → (word z < 4294967296) × (integer (word z) ≡ z)
+integer-word z h = (range z h, integer-toZ (word z) (range z h) ∙ ap (toZ w32) (word-ofZ z) ∙ toZ-ofZ (record { sfits = h }))
+  where
+    range : (z : ℤ) → mag z < 2147483648 → word z < 4294967296
+    range (pos n) h = omega arith
+    range (negsuc n) h = omega arith
