@@ -16,6 +16,10 @@ pub passes-layout : (m : Message) → T (passes m) → T (layoutRight m)
 unfolding passes
 passes-layout m t = search (and-l, and-r)
 
+pub passes-numbers : (m : Message) → T (passes m) → T (numbersRight m)
+unfolding passes
+passes-numbers m t = search (and-l, and-r)
+
 pub passes-all : (m : Message) → T (layoutRight m) → T (numbersRight m) → T (dependenciesRight m) → T (contentRight m) → T (passes m)
 unfolding passes
 passes-all m a b c d =

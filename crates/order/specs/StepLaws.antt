@@ -2,12 +2,12 @@
 use mathlib.Core.Path.{_≡_, refl, sym, _∙_, ap, ap₂, subst}
 use mathlib.Core.Logic.{_⊎_, inl, inr, ⊎-elim}
 use mathlib.Core.Bool.{Bool, true, false, cond}
-use mathlib.Core.List.{List, [], _∷_, _++_, map, reverse, reverseAux, append-nil, append-assoc}
+use mathlib.Core.List.{List, [], _∷_, _++_, map, reverse, reverseAux, append-nil, append-assoc, append-cancel-right}
 use Prim.Native.Nat.{ℕ, zero, suc, _+_, _-_, _≤_, _<_}
 use native.Mathlib.Omega.{arith}
 use native.Mathlib.Nat.{le-of-eq, le-of-lt, le-trans, le-refl}
-use lib.ListN.{length, take, drop, length-append, take-append-drop, length-map, length-reverse}
-use lib.Seq.{append-snoc}
+use lib.ListN.{length, take, drop, length-append, take-append-drop, length-map, length-reverse, length-drop}
+use lib.Seq.{append-snoc, drop-length, drop-append-seam}
 use lib.Dec.{T, eqb, eqb→eq, eqb-refl}
 use Rattle.model.specs.Steps.{Step, undo, execute, common, stepsOf, undosOf, executionsOf, Plays}
 
@@ -93,3 +93,47 @@ steps-count l k = simp (length-append, length-map, length-reverse) (steps-gap l 
 
 pub steps-fewest : (l k : List ℕ) (ss : List Step) → Plays l ss k → length (stepsOf l k) ≤ length ss
 steps-fewest l k ss h = omega (arith, steps-count l k, gap-least ss l k h)
+
+-- ---- from a log to itself there is no step
+pub common-self : (l : List ℕ) → common l l ≡ length l
+common-self [] = refl
+common-self (a ∷ l) = go (eqb a a) (eqb-refl a) (common-self l)
+  where
+    go : (c : Bool) → T c → common l l ≡ length l → cond c (suc (common l l)) 0 ≡ suc (length l)
+    go true t h = ap suc h
+    go false t h = absurd t
+
+-- from a log to a longer one that starts with it nothing is undone
+pub common-longer : (l r : List ℕ) → common l (l ++ r) ≡ length l
+common-longer [] r = refl
+common-longer (a ∷ l) r = go (eqb a a) (eqb-refl a) (common-longer l r)
+  where
+    go : (c : Bool) → T c → common l (l ++ r) ≡ length l → cond c (suc (common l (l ++ r))) 0 ≡ suc (length l)
+    go true t h = ap suc h
+    go false t h = absurd t
+
+pub steps-longer : (l r : List ℕ) → stepsOf l (l ++ r) ≡ map execute r
+steps-longer l r =
+    ap (λ (n : ℕ). map undo (reverse (drop n l)) ++ map execute (drop n (l ++ r))) (common-longer l r)
+    ∙ ap₂ (λ (x y : List ℕ). map undo (reverse x) ++ map execute y) (drop-length l) (drop-append-seam l r)
+
+-- ---- steps lead to one log at the most
+pub plays-unique : (ss : List Step) (l k j : List ℕ) → Plays l ss k → Plays l ss j → k ≡ j
+plays-unique [] l k j p q = sym p ∙ q
+plays-unique (undo s ∷ ss) l k j p q =
+    plays-unique ss (p .0) k j (p .2) (subst (λ (x : List ℕ). Plays x ss j) (sym (append-cancel-right (p .0) (q .0) (s ∷ []) (sym (p .1) ∙ q .1))) (q .2))
+plays-unique (execute s ∷ ss) l k j p q = plays-unique ss (l ++ s ∷ []) k j p q
+
+-- ---- the counts of the steps
+pub common-le : (l k : List ℕ) → (common l k ≤ length l) × (common l k ≤ length k)
+common-le [] k = (omega arith, omega arith)
+common-le (a ∷ l) [] = (omega arith, omega arith)
+common-le (a ∷ l) (b ∷ k) = go (eqb a b) (common-le l k)
+  where
+    go : (c : Bool) → (common l k ≤ length l) × (common l k ≤ length k)
+        → (cond c (suc (common l k)) 0 ≤ suc (length l)) × (cond c (suc (common l k)) 0 ≤ suc (length k))
+    go true h = (omega arith, omega arith)
+    go false h = (omega arith, omega arith)
+
+pub steps-counted : (l k : List ℕ) → length (stepsOf l k) ≡ undosOf l k + executionsOf l k
+steps-counted l k = simp (length-append, length-map, length-reverse, length-drop)

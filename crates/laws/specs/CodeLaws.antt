@@ -1,0 +1,105 @@
+-- The codes: the lowest number whose condition holds is answered, 0 exactly where none does, and a refusal leaves every buffer.
+use mathlib.Core.Path.{_≡_, refl, sym, _∙_, ap, subst}
+use mathlib.Core.Logic.{_⊎_, inl, inr, ⊎-elim, _↔_}
+use mathlib.Core.Bool.{Bool, true, false, cond}
+use mathlib.Core.List.{List, [], _∷_, List·Memᴰ·head, List·Memᴰ·tail, List·Memᴰ·not-nil, List·Memᴰ·cases-cons}
+use Prim.Native.Nat.{ℕ, zero, suc, _≤_, _<_}
+use native.Mathlib.Omega.{arith}
+use lib.ListN.{length}
+use lib.Dec.{T, eqb}
+use lib.IntN.{pos}
+use Rattle.model.specs.Tests.{_∈_}
+use Rattle.model.specs.Bytes.{number}
+use Rattle.model.specs.Message.{Message}
+use Rattle.model.specs.Image.{stateIn}
+use Rattle.model.specs.Compose.{composed}
+use Rattle.model.specs.Codes.{Conditions, lowestCode, emptyConditions, setpointConditions}
+use Rattle.model.specs.Calls.{Emptied, empty, emptyAnswer, Delivered, deliver, deliverCode, deliverAnswer, Composed, compose, composeCode, composeAnswer, Setpoint, setpoint, setpointAnswer}
+
+-- ---- the lowest number
+-- the numbers ascend, from one above `low` on
+abbrev pub Above : ℕ → Conditions → Type 0
+Above low [] = Unit {0}
+Above low (c ∷ l) = (low < c .0) × Above (c .0) l
+
+pub record Lowest (l : Conditions) (code : ℕ) : Type 0 where
+  -- it is answered only where its condition holds
+  pub holds : (code ≡ 0) ⊎ ((code, true) ∈ l)
+  -- and no lower one of the list does
+  pub least : (n : ℕ) → (n, true) ∈ l → (0 < code) × (code ≤ n)
+
+lowest-above : (low : ℕ) (l : Conditions) → Above low l → (n : ℕ) (b : Bool) → (n, b) ∈ l → low < n
+lowest-above low [] h n b k = absurd (List·Memᴰ·not-nil k)
+lowest-above low (c ∷ l) h n b k =
+    ⊎-elim (λ e. omega (arith, h .0, ap (λ (x : ℕ × Bool). x .0) e)) (λ j. omega (arith, h .0, lowest-above (c .0) l (h .1) n b j)) (List·Memᴰ·cases-cons k)
+
+pub lowest-is : (low : ℕ) (l : Conditions) → Above low l → Lowest l (lowestCode l)
+lowest-is low [] h = record { holds = inl refl; least = λ n k. absurd (List·Memᴰ·not-nil k) }
+lowest-is low (c ∷ l) h = go (c .1) refl (lowest-is (c .0) l (h .1))
+  where
+    lower : (b : Bool) → c .1 ≡ b → (n : ℕ) → (n, true) ∈ l → c .0 ≤ n
+    lower b e n k = let x : c .0 < n = lowest-above (c .0) l (h .1) n true k in omega arith
+
+    named : (b : Bool) → c .1 ≡ b → (c .0, b) ≡ c
+    named b e = λ i. (c .0, sym e i)
+
+    other : (n : ℕ) → c .1 ≡ false → (n, true) ≡ c → ⊥
+    other n e q = subst T (ap (λ (x : ℕ × Bool). x .1) q ∙ e) tt
+
+    go : (b : Bool) → c .1 ≡ b → Lowest l (lowestCode l) → Lowest (c ∷ l) (cond b (c .0) (lowestCode l))
+    go true e r = record {
+      holds = inr (List·Memᴰ·head (named true e));
+      least = λ n k. (
+        omega (arith, h .0),
+        ⊎-elim (λ q. omega (arith, ap (λ (x : ℕ × Bool). x .0) q)) (λ j. lower true e n j) (List·Memᴰ·cases-cons k),
+      );
+    }
+    go false e r = record {
+      holds = ⊎-elim inl (λ j. inr (List·Memᴰ·tail j)) (r .holds);
+      least = λ n k. ⊎-elim (λ q. absurd (other n e q)) (λ j. r .least n j) (List·Memᴰ·cases-cons k);
+    }
+
+-- ---- a refusal
+pub deliver-refused : (b : List ℕ) (m : Message) (steps : List ℕ) → ¬ (deliver b m steps .code ≡ 0)
+    → deliver b m steps ≡ record { code = deliverCode b m (length steps); undos = 0; executions = 0; image = b; steps = steps }
+unfolding deliver
+deliver-refused b m steps h = go (deliverCode b m (length steps)) h
+  where
+    go : (n : ℕ) → ¬ (deliverAnswer n (stateIn b) b m steps .code ≡ 0)
+        → deliverAnswer n (stateIn b) b m steps ≡ record { code = n; undos = 0; executions = 0; image = b; steps = steps }
+    go zero h = absurd (h refl)
+    go (suc n) h = refl
+
+pub deliver-code : (b : List ℕ) (m : Message) (steps : List ℕ) → deliver b m steps .code ≡ deliverCode b m (length steps)
+unfolding deliver
+deliver-code b m steps = go (deliverCode b m (length steps))
+  where
+    go : (n : ℕ) → deliverAnswer n (stateIn b) b m steps .code ≡ n
+    go zero = refl
+    go (suc n) = refl
+
+pub empty-refused : (b : List ℕ) → ¬ (empty b .code ≡ 0) → empty b .image ≡ b
+unfolding empty
+empty-refused b h = go (lowestCode (emptyConditions b)) h
+  where
+    go : (n : ℕ) → ¬ (emptyAnswer n b .code ≡ 0) → emptyAnswer n b .image ≡ b
+    go zero h = absurd (h refl)
+    go (suc n) h = refl
+
+pub compose-refused : (b line commands : List ℕ) (flag priority : ℕ) (buffer : List ℕ) → ¬ (compose b line commands flag priority buffer .code ≡ 0)
+    → (compose b line commands flag priority buffer .size ≡ 0) × (compose b line commands flag priority buffer .message ≡ buffer)
+unfolding compose
+compose-refused b line commands flag priority buffer h =
+    go (composeCode b line commands flag priority (length buffer)) (composed (stateIn b) (number line) commands (eqb flag 1) priority) h
+  where
+    go : (n : ℕ) (m : Message) → ¬ (composeAnswer n m buffer .code ≡ 0) → (composeAnswer n m buffer .size ≡ 0) × (composeAnswer n m buffer .message ≡ buffer)
+    go zero m h = absurd (h refl)
+    go (suc n) m h = (refl, refl)
+
+pub setpoint-refused : (b : List ℕ) (tag : ℕ) → ¬ (setpoint b tag .code ≡ 0) → setpoint b tag .value ≡ pos 0
+unfolding setpoint
+setpoint-refused b tag h = go (lowestCode (setpointConditions b tag)) h
+  where
+    go : (n : ℕ) → ¬ (setpointAnswer n b tag .code ≡ 0) → setpointAnswer n b tag .value ≡ pos 0
+    go zero h = absurd (h refl)
+    go (suc n) h = refl

@@ -1,0 +1,322 @@
+-- Compose: what it hands out passes 3 to 6, and delivered to the image that it was composed on it is accepted with no undo,
+-- its execution the first step.
+use mathlib.Core.Path.{_≡_, refl, sym, _∙_, ap, ap₂, subst}
+use mathlib.Core.Logic.{_⊎_, inl, inr, ⊎-elim}
+use mathlib.Core.Bool.{Bool, true, false, cond, not, _&&_, _||_}
+use mathlib.Core.Option.{Option, some}
+use mathlib.Core.List.{List, [], _∷_, _++_, map, reverse, List·Memᴰ·head, List·Memᴰ·tail, List·Memᴰ·not-nil, List·Memᴰ·cases-cons, List·Memᴰ·append-cases, Memᴰ·append-left, Memᴰ·append-right, Memᴰ·cast, Memᴰ·map, Memᴰ·of-map, map-append}
+use Prim.Native.Nat.{ℕ, zero, suc, _+_, _*_, _-_, _/_, _%_, _^_, _≤_, _<_, max}
+use native.Mathlib.Omega.{arith}
+use native.Mathlib.Nat.{suc-ne-zero}
+use lib.ListN.{length, length-append, take, drop}
+use lib.Seq.{take-at, drop-length, drop-append-seam}
+use lib.Dec.{T, eqb, ltb, leb, eqb→eq, eqb-refl, ltb→lt, lt→ltb, leb→le, nleb→lt, nltb→le, le→leb, T-not, not-T, lit<}
+use Rattle.model.specs.Tests.{_∈_, has, every, some?, keep, greatest, ascending}
+use Rattle.model.specs.Bytes.{isBytes, number, field, parts}
+use Rattle.model.specs.Layout.{imageSize, stepRoom, messageRoom, lineSize, sequenceSize, numbersOfLine, commandSize, mostDependencies, fieldLimit, capacity}
+use Rattle.model.specs.Message.{Message, sequenceOf, hasPriority, groupOf, blockOf, priorityOf, lineOf, numberOf, predecessorOf, dependenciesOf, needsOf, numbered, numbersRight, commandRight, blockRight, passes}
+use Rattle.model.specs.Order.{State, stateOf, add, insert, Ascending, sequencesOf, find, blockAlong, effectiveBlock, keyOf, keyWith, less, logOf, heldOf}
+use Rattle.model.specs.Image.{imageOf, Valid, stateIn, isImage}
+use Rattle.model.specs.Steps.{Step, undo, execute, common, stepsOf, undosOf, executionsOf, readSteps}
+use Rattle.model.specs.Compose.{messageOf, newNumber, newSequence, unneeded, newDependencies, newGroup, newBlock, composed}
+use Rattle.model.specs.Codes.{lowestCode, commandsSized, composeContent, heldOn, pastLimit, manyDependencies, composeConditions, smallSteps, conflicts, full, present}
+use Rattle.model.specs.Calls.{Composed, composeAnswer, composeCode, compose, Delivered, deliver}
+use Rattle.model.specs.PlainStation.{accepts, receive}
+use Rattle.model.specs.Run.{delivery}
+use Rattle.order.specs.TestLaws.{and-l, and-r, and-i, or-l, or-r, or-e, decide, has→∈, ∈→has, keep-∈, ∈-keep, every-∈, ∈-every, some-∈, ∈-some, greatest-≥, greatest-cong}
+use Rattle.order.specs.KeyOrder.{less-total}
+use Rattle.order.specs.ListingLaws.{after, after-has, after-from}
+use Rattle.order.specs.Extension.{extends}
+use Rattle.order.specs.StepLaws.{common-longer, steps-longer}
+use Rattle.laws.specs.SetLaws.{ascending-names, find-here, insert-from, insert-keeps, insert-has, insert-ascending, not-eqb}
+use Rattle.laws.specs.LogLaws.{keys-differ, log-complete, log-received, log-held, log-closed}
+use Rattle.laws.specs.MessageLaws.{sequence-range}
+use Rattle.laws.specs.BytesLaws.{number-range}
+use Rattle.laws.specs.ImageLaws.{image-declared, image-state}
+use Rattle.laws.specs.DeliverLaws.{code-zero, receive-accepted}
+use Rattle.laws.specs.RunLaws.{CallFacts, call-facts}
+use Rattle.laws.specs.ComposedMessage.{Parts, made-passes, made-sequence, made-dependencies}
+use Rattle.laws.specs.ComposeFacts.{own-numbered, own-new, predecessor-logged, dependency-logged, dependencies-ascend, dependencies-numbered, dependencies-other, dependencies-not-predecessor, unneeded-named}
+
+-- ---- a delta that needs every logged delta that none needs, and nothing that is not logged: the log goes on with it
+find-skip : (m : Message) (l : List Message) (s : ℕ) → (sequenceOf m ≡ s → ⊥) → find (m ∷ l) s ≡ find l s
+find-skip m l s n = go (eqb (sequenceOf m) s) (eqb→eq (sequenceOf m) s)
+  where
+    go : (c : Bool) → (T c → sequenceOf m ≡ s) → cond c m (find l s) ≡ find l s
+    go true f = absurd (n (f tt))
+    go false f = refl
+
+find-insert : (m : Message) (l : List Message) (s : ℕ) → (sequenceOf m ≡ s → ⊥) → find (insert m l) s ≡ find l s
+find-insert m [] s n = find-skip m [] s n
+find-insert m (x ∷ l) s n = go (ltb (sequenceOf m) (sequenceOf x)) (eqb (sequenceOf m) (sequenceOf x)) (find-insert m l s n)
+  where
+    go : (b c : Bool) → find (insert m l) s ≡ find l s → find (cond b (m ∷ x ∷ l) (cond c (x ∷ l) (x ∷ insert m l))) s ≡ find (x ∷ l) s
+    go true c ih = find-skip m (x ∷ l) s n
+    go false true ih = refl
+    go false false ih = ap (cond (eqb (sequenceOf x) s) x) ih
+
+module _ (S : State) (ascends : Ascending (S .deltas)) (m : Message) (fresh : (a : Message) → a ∈ S .deltas → sequenceOf m ≡ sequenceOf a → ⊥) where
+  abbrev Logged : ℕ → Type 0
+  Logged s = (a : Message) × (a ∈ logOf S) × (sequenceOf a ≡ s)
+
+  block-agrees : (n s : ℕ) → Logged s → blockAlong n (insert m (S .deltas)) s ≡ blockAlong n (S .deltas) s
+  block-agrees zero s k = refl
+  block-agrees (suc n) s k =
+      ap (λ (x : Message). max (blockOf x) (greatest (blockAlong n (insert m (S .deltas))) (needsOf x))) (find-insert m (S .deltas) s other)
+      ∙ ap (max (blockOf (find (S .deltas) s))) (greatest-cong (blockAlong n (insert m (S .deltas))) (blockAlong n (S .deltas)) (needsOf (find (S .deltas) s)) (λ t j. block-agrees n t (within t j)))
+    where
+      it : find (S .deltas) s ≡ k .0
+      it = subst (λ (t : ℕ). find (S .deltas) t ≡ k .0) (k .2) (find-here (S .deltas) ascends (k .0) (log-received S ascends (k .0) (k .1)))
+
+      other : sequenceOf m ≡ s → ⊥
+      other e = fresh (k .0) (log-received S ascends (k .0) (k .1)) (e ∙ sym (k .2))
+
+      within : (t : ℕ) → t ∈ needsOf (find (S .deltas) s) → Logged t
+      within t j = log-closed S ascends (k .0) (k .1) t (subst (λ (y : Message). t ∈ needsOf y) it j)
+
+  keys-agree : (a : Message) → a ∈ logOf S → keyOf (add m S) a ≡ keyOf S a
+  keys-agree a k = ap (λ (e : ℕ). keyWith e a) (block-agrees capacity (sequenceOf a) (a, k, refl))
+
+  covers : ((s : ℕ) → T (unneeded (logOf S) s) → s ∈ needsOf m)
+      → (a : Message) → a ∈ logOf S → (sequenceOf a ∈ needsOf m) ⊎ ((b : Message) × (b ∈ logOf S) × (sequenceOf a ∈ needsOf b))
+  covers all a k = ⊎-elim (λ t. inr (needed t))
+      (λ t. inl (all (sequenceOf a) (and-i (has (sequenceOf a) (sequencesOf (logOf S))) (not (some? (λ x. has (sequenceOf a) (needsOf x)) (logOf S))) (∈→has (Memᴰ·map sequenceOf k)) t)))
+      (decide (some? (λ x. has (sequenceOf a) (needsOf x)) (logOf S)))
+    where
+      needed : T (some? (λ x. has (sequenceOf a) (needsOf x)) (logOf S)) → (b : Message) × (b ∈ logOf S) × (sequenceOf a ∈ needsOf b)
+      needed t = let r = some-∈ (λ x. has (sequenceOf a) (needsOf x)) (logOf S) t in (r .0, r .1, has→∈ (sequenceOf a) (needsOf (r .0)) (r .2))
+
+  pub log-extends : ((s : ℕ) → s ∈ needsOf m → Logged s) → ((s : ℕ) → T (unneeded (logOf S) s) → s ∈ needsOf m)
+      → (rest : List Message) × (logOf (add m S) ≡ logOf S ++ m ∷ rest)
+  unfolding logOf
+  log-extends needed all =
+      extends sequenceOf needsOf less less-total (keyOf S) (keyOf (add m S)) (S .deltas) (insert m (S .deltas)) m (ascending-names (S .deltas) ascends) (keys-differ S ascends)
+      (keys-differ (add m S) (insert-ascending m (S .deltas) ascends))
+      (insert-has m (S .deltas) (λ x k e. absurd (fresh x k e))) (λ a k. insert-keeps m (S .deltas) a k) (λ a k. insert-from m (S .deltas) a k)
+      keys-agree (λ s k. let r = needed s k in subst (λ (t : ℕ). t ∈ after sequenceOf needsOf [] (logOf S)) (r .2) (after-has sequenceOf needsOf (logOf S) [] (r .1)))
+      (λ a k e. fresh a (log-received S ascends a k) (sym e)) (covers all)
+
+-- ---- what code 0 says of compose's arguments
+pub record Granted (b line commands : List ℕ) (flag priority room : ℕ) : Type 0 where
+  pub line-bytes : T (isBytes line)
+  pub line-length : length line ≡ lineSize
+  pub image : T (isImage b)
+  pub sized : T (commandsSized commands)
+  pub content : T (composeContent commands flag priority)
+  pub free : T (not (heldOn (stateIn b) (number line)))
+  pub number-small : newNumber (logOf (stateIn b)) (number line) < numbersOfLine
+  pub group-small : newGroup (logOf (stateIn b)) (newSequence (logOf (stateIn b)) (number line)) ≤ fieldLimit
+  pub block-small : newBlock (stateIn b) (eqb flag 1) ≤ fieldLimit
+  pub few : length (newDependencies (stateIn b) (newSequence (logOf (stateIn b)) (number line))) ≤ mostDependencies
+
+none-applies : (a b c d e f g : Bool) → _≡_ {A = ℕ} (cond a 1 (cond b 2 (cond c 3 (cond d 6 (cond e 9 (cond f 10 (cond g 11 0))))))) 0
+    → T (not a) × T (not b) × T (not c) × T (not d) × T (not e) × T (not f) × T (not g)
+none-applies true b c d e f g q = absurd (suc-ne-zero 0 q)
+none-applies false true c d e f g q = absurd (suc-ne-zero 1 q)
+none-applies false false true d e f g q = absurd (suc-ne-zero 2 q)
+none-applies false false false true e f g q = absurd (suc-ne-zero 5 q)
+none-applies false false false false true f g q = absurd (suc-ne-zero 8 q)
+none-applies false false false false false true g q = absurd (suc-ne-zero 9 q)
+none-applies false false false false false false true q = absurd (suc-ne-zero 10 q)
+none-applies false false false false false false false q = (tt, tt, tt, tt, tt, tt, tt)
+
+not-not : (b : Bool) → T (not (not b)) → T b
+not-not true t = tt
+not-not false t = t
+
+nor-l : (a b : Bool) → T (not (a || b)) → T (not a)
+nor-l true b t = t
+nor-l false b t = tt
+
+nor-r : (a b : Bool) → T (not (a || b)) → T (not b)
+nor-r true b t = absurd t
+nor-r false b t = t
+
+granted : (b line commands : List ℕ) (flag priority room : ℕ) → composeCode b line commands flag priority room ≡ 0 → Granted b line commands flag priority room
+unfolding composeCode
+granted b line commands flag priority room q =
+    let S = stateIn b in
+    let log = logOf S in
+    let s = newSequence log (number line) in
+    let h = none-applies (not (eqb (length b) imageSize) || ltb room messageRoom || not (isBytes line && eqb (length line) lineSize)) (not (isImage b)) (not (commandsSized commands)) (not (composeContent commands flag priority))
+    (heldOn S (number line)) (pastLimit S (number line) (eqb flag 1)) (manyDependencies S (number line)) q in
+    let l : T (isBytes line && eqb (length line) lineSize) =
+    not-not (isBytes line && eqb (length line) lineSize) (nor-r (not (eqb (length b) imageSize) || ltb room messageRoom) (not (isBytes line && eqb (length line) lineSize)) (h .0)) in
+    let n : T (not (leb numbersOfLine (newNumber log (number line)) || ltb fieldLimit (newGroup log s))) =
+    nor-l (leb numbersOfLine (newNumber log (number line)) || ltb fieldLimit (newGroup log s)) (ltb fieldLimit (newBlock S (eqb flag 1))) (h .5) in
+    record {
+      line-bytes = and-l (isBytes line) (eqb (length line) lineSize) l;
+      line-length = eqb→eq (length line) lineSize (and-r (isBytes line) (eqb (length line) lineSize) l);
+      image = not-not (isImage b) (h .1);
+      sized = not-not (commandsSized commands) (h .2);
+      content = not-not (composeContent commands flag priority) (h .3);
+      free = h .4;
+      number-small = nleb→lt numbersOfLine (newNumber log (number line)) (nor-l (leb numbersOfLine (newNumber log (number line))) (ltb fieldLimit (newGroup log s)) n);
+      group-small = nltb→le fieldLimit (newGroup log s) (nor-r (leb numbersOfLine (newNumber log (number line))) (ltb fieldLimit (newGroup log s)) n);
+      block-small = nltb→le fieldLimit (newBlock S (eqb flag 1)) (nor-r (leb numbersOfLine (newNumber log (number line)) || ltb fieldLimit (newGroup log s)) (ltb fieldLimit (newBlock S (eqb flag 1))) (h .5));
+      few = nltb→le mostDependencies (length (newDependencies S s)) (h .6);
+    }
+
+module _ (b line commands : List ℕ) (flag priority room : ℕ) (g : Granted b line commands flag priority room) where
+  abbrev S : State
+  S = stateIn b
+
+  abbrev own : ℕ
+  own = newSequence (logOf S) (number line)
+
+  abbrev message : Message
+  message = composed S (number line) commands (eqb flag 1) priority
+
+  valid : Valid S
+  valid = subst Valid (image-state b (image-declared b .0 (g .image))) (image-declared b .0 (g .image) .valid)
+
+  priority-fits : priority ≤ fieldLimit
+  priority-fits =
+      let t : T (composeContent commands flag priority) = g .content in
+      let h : T (leb priority fieldLimit) = search (and-l, and-r) depth 6 in leb→le priority fieldLimit h
+
+  parts-right : Parts (eqb flag 1) own (newGroup (logOf S) own) (newBlock S (eqb flag 1)) priority (newDependencies S own) commands
+  parts-right = record {
+    sequence-fits =
+        let h : number line < 256 ^ 10 = subst (λ (n : ℕ). number line < 256 ^ n) (g .line-length) (number-range line (g .line-bytes)) in
+        let k : newNumber (logOf S) (number line) < 65536 = g .number-small in
+        omega arith;
+    group-fits = g .group-small;
+    block-fits = g .block-small;
+    priority-fits = priority-fits;
+    few = g .few;
+    deps-fit = λ d k. let r = dependency-logged S valid (number line) (g .free) (g .number-small) d k in
+        subst (λ (n : ℕ). n < 256 ^ sequenceSize) (r .2) (sequence-range (r .0) (valid .pass (r .0) (log-received S (valid .ascends) (r .0) (r .1))));
+    commands-sized = g .sized;
+  }
+
+  block-right : T (blockRight (eqb flag 1) (newBlock S (eqb flag 1)) priority)
+  block-right =
+      let t : T (composeContent commands flag priority) = g .content in
+      let h : T (eqb flag 1 || eqb priority 0) = search (and-l, and-r) depth 6 in go (eqb flag 1) h
+    where
+      go : (f : Bool) → T (f || eqb priority 0) → T (blockRight f (newBlock S f) priority)
+      go true h = le→leb 1 (newBlock S true) (omega arith)
+      go false h = h
+
+  -- it passes 3 to 6
+  pub composed-passes : T (passes message)
+  unfolding composed
+  composed-passes =
+      let t : T (composeContent commands flag priority) = g .content in
+      made-passes (eqb flag 1) own (newGroup (logOf S) own) (newBlock S (eqb flag 1)) priority (newDependencies S own) commands parts-right
+      (own-numbered S valid (number line) (g .free) (g .number-small)) (dependencies-numbered S valid (number line) (g .free) (g .number-small))
+      (dependencies-ascend S valid (number line) (g .free) (g .number-small)) (dependencies-other S valid (number line) (g .free) (g .number-small))
+      (dependencies-not-predecessor S valid (number line) (g .free) (g .number-small)) block-right
+      (and-r (leb flag 1 && leb priority fieldLimit && (eqb flag 1 || eqb priority 0)) (every commandRight (parts (length commands / commandSize) commandSize commands)) t)
+
+  composed-sequence : sequenceOf message ≡ own
+  unfolding composed
+  composed-sequence = made-sequence (eqb flag 1) own (newGroup (logOf S) own) (newBlock S (eqb flag 1)) priority (newDependencies S own) commands parts-right
+
+  composed-dependencies : dependenciesOf message ≡ newDependencies S own
+  unfolding composed
+  composed-dependencies = made-dependencies (eqb flag 1) own (newGroup (logOf S) own) (newBlock S (eqb flag 1)) priority (newDependencies S own) commands parts-right
+
+  composed-needs : needsOf message ≡ predecessorOf own ++ newDependencies S own
+  composed-needs = ap₂ (λ (s : ℕ) (d : List ℕ). predecessorOf s ++ d) composed-sequence composed-dependencies
+
+  composed-new : (a : Message) → a ∈ S .deltas → sequenceOf message ≡ sequenceOf a → ⊥
+  composed-new a k e = own-new S valid (number line) (g .free) (g .number-small) a k (sym composed-sequence ∙ e)
+
+  -- the log goes on with it
+  pub composed-extends : (rest : List Message) × (logOf (add message S) ≡ logOf S ++ message ∷ rest)
+  composed-extends = log-extends S (valid .ascends) message composed-new needed all
+    where
+      needed : (s : ℕ) → s ∈ needsOf message → (a : Message) × (a ∈ logOf S) × (sequenceOf a ≡ s)
+      needed s k =
+          ⊎-elim (predecessor-logged S valid (number line) (g .free) (g .number-small) s) (dependency-logged S valid (number line) (g .free) (g .number-small) s)
+          (List·Memᴰ·append-cases (predecessorOf own) (subst (λ (l : List ℕ). s ∈ l) composed-needs k))
+
+      all : (s : ℕ) → T (unneeded (logOf S) s) → s ∈ needsOf message
+      all s t = subst (λ (l : List ℕ). s ∈ l) (sym composed-needs)
+          (⊎-elim (λ k. Memᴰ·append-left (newDependencies S own) k) (λ k. Memᴰ·append-right (predecessorOf own) k) (unneeded-named S valid (number line) (g .free) (g .number-small) s t))
+
+  -- delivered where fewer than 64 are, it is accepted
+  pub composed-accepted : length (S .deltas) < capacity → (room′ : ℕ) → stepRoom ≤ room′ → T (accepts S message room′)
+  unfolding accepts
+  composed-accepted h room′ r =
+      let a : T (not (smallSteps room′)) = not-T (smallSteps room′) (λ t. let k : room′ < 2032 = ltb→lt room′ stepRoom t in let z : ⊥ = omega arith in absurd z) in
+      let c : T (passes message) = composed-passes in
+      let d : T (not (conflicts S message)) = not-T (conflicts S message) (λ t. new (and-l (present S (sequenceOf message)) _ t)) in
+      let e : T (not (full S message)) = not-T (full S message) (λ t. let k : 64 ≤ length (S .deltas) = leb→le capacity (length (S .deltas)) (and-l (leb capacity (length (S .deltas))) (not (present S (sequenceOf message))) t) in let z : ⊥ = omega arith in absurd z) in
+      search and-i depth 6
+    where
+      new : T (present S (sequenceOf message)) → ⊥
+      new t = let r = Memᴰ·of-map sequenceOf (S .deltas) (has→∈ (sequenceOf message) (sequencesOf (S .deltas)) t) in composed-new (r .0) (r .1) (sym (r .2))
+
+  -- the log that it was composed on is kept, and it is executed first
+  pub composed-steps : (rest : List Step) × (stepsOf (sequencesOf (logOf S)) (sequencesOf (logOf (add message S))) ≡ execute (sequenceOf message) ∷ rest)
+  composed-steps =
+      let r = composed-extends in (
+        map execute (sequencesOf (r .0)),
+        ap (λ (l : List Message). stepsOf (sequencesOf (logOf S)) (sequencesOf l)) (r .1)
+            ∙ ap (stepsOf (sequencesOf (logOf S))) (map-append sequenceOf (logOf S) (message ∷ r .0)) ∙ steps-longer (sequencesOf (logOf S)) (sequenceOf message ∷ sequencesOf (r .0)),
+      )
+
+  pub composed-undos : undosOf (sequencesOf (logOf S)) (sequencesOf (logOf (add message S))) ≡ 0
+  composed-undos =
+      let r = composed-extends in
+      let e : sequencesOf (logOf (add message S)) ≡ sequencesOf (logOf S) ++ sequenceOf message ∷ sequencesOf (r .0) =
+      ap sequencesOf (r .1) ∙ map-append sequenceOf (logOf S) (message ∷ r .0) in
+      ap (λ (l : List ℕ). length (sequencesOf (logOf S)) - common (sequencesOf (logOf S)) l) e
+      ∙ omega (arith, common-longer (sequencesOf (logOf S)) (sequenceOf message ∷ sequencesOf (r .0)))
+
+-- ---- the promise
+abbrev pub composedBy : Composed → Message
+composedBy c = take (c .size) (c .message)
+
+pub record Promised (b m : List ℕ) : Type 0 where
+  pub passes-all : T (passes m)
+  -- "Delivered to the image it was composed on, if that holds fewer than 64, the result is accepted with no undo,
+  -- and its execution is the first step."
+  pub accepted : length (stateIn b .deltas) < capacity → (steps : List ℕ) → stepRoom ≤ length steps → deliver b m steps .code ≡ 0
+  pub no-undo : length (stateIn b .deltas) < capacity → (steps : List ℕ) → stepRoom ≤ length steps → deliver b m steps .undos ≡ 0
+  pub first-step : length (stateIn b .deltas) < capacity → (steps : List ℕ) → stepRoom ≤ length steps
+      → (rest : List Step) × (readSteps (deliver b m steps .undos + deliver b m steps .executions) (deliver b m steps .steps) ≡ some (execute (sequenceOf m) ∷ rest))
+
+granted-promise : (b line commands : List ℕ) (flag priority room : ℕ) → Granted b line commands flag priority room
+    → Promised b (composed (stateIn b) (number line) commands (eqb flag 1) priority)
+granted-promise b line commands flag priority room g = record {
+  passes-all = composed-passes b line commands flag priority room g;
+  accepted = λ h steps r. facts steps .accepted .1 (takes h steps r);
+  no-undo = λ h steps r. facts steps .undos ∙ ap (λ (R : State). undosOf (sequencesOf (logOf S′)) (sequencesOf (logOf R))) (added h steps r) ∙ composed-undos b line commands flag priority room g;
+  first-step = λ h steps r. let w = composed-steps b line commands flag priority room g in
+      (w .0, facts steps .read ∙ ap some (ap (λ (R : State). stepsOf (sequencesOf (logOf S′)) (sequencesOf (logOf R))) (added h steps r) ∙ w .1));
+}
+  where
+    S′ : State
+    S′ = stateIn b
+
+    m : Message
+    m = composed S′ (number line) commands (eqb flag 1) priority
+
+    is : b ≡ imageOf S′
+    is = image-declared b .0 (g .image) .image ∙ ap imageOf (image-state b (image-declared b .0 (g .image)))
+
+    facts : (steps : List ℕ) → CallFacts S′ (receive S′ m (length steps)) (delivery m steps) (deliver b m steps)
+    facts steps = call-facts S′ (valid b line commands flag priority room g) (delivery m steps) (deliver b m steps) (ap (λ (i : List ℕ). deliver i m steps) is)
+
+    takes : length (S′ .deltas) < capacity → (steps : List ℕ) → stepRoom ≤ length steps → T (accepts S′ m (length steps))
+    takes h steps r = composed-accepted b line commands flag priority room g h (length steps) r
+
+    added : length (S′ .deltas) < capacity → (steps : List ℕ) → stepRoom ≤ length steps → receive S′ m (length steps) ≡ add m S′
+    added h steps r = receive-accepted S′ m (length steps) (code-zero S′ m (length steps) .1 (takes h steps r))
+
+pub compose-promise : (b line commands : List ℕ) (flag priority : ℕ) (buffer : List ℕ) → compose b line commands flag priority buffer .code ≡ 0
+    → Promised b (composedBy (compose b line commands flag priority buffer))
+unfolding compose
+compose-promise b line commands flag priority buffer =
+    go (composeCode b line commands flag priority (length buffer)) (λ e. granted-promise b line commands flag priority (length buffer) (granted b line commands flag priority (length buffer) e))
+  where
+    m : Message
+    m = composed (stateIn b) (number line) commands (eqb flag 1) priority
+
+    go : (n : ℕ) → (n ≡ 0 → Promised b m) → composeAnswer n m buffer .code ≡ 0 → Promised b (composedBy (composeAnswer n m buffer))
+    go zero f e = subst (Promised b) (sym (take-at m (drop (length m) buffer) (length m) refl)) (f refl)
+    go (suc n) f e = absurd (suc-ne-zero n e)

@@ -1,0 +1,282 @@
+-- Demand 3 of the definitions' own calls: `Agreement` holds of them, and of every pair of calls that promises what they answer.
+use mathlib.Core.Path.{_≡_, refl, sym, _∙_, ap, ap₂, subst}
+use mathlib.Core.Logic.{_⊎_, inl, inr, ⊎-elim, _↔_}
+use mathlib.Core.Bool.{Bool, true, false, cond}
+use mathlib.Core.Option.{Option, some, none}
+use mathlib.Core.List.{List, [], _∷_, _++_, map, reverse, List·Memᴰ·head, List·Memᴰ·tail, List·Memᴰ·not-nil, List·Memᴰ·cases-cons, List·Memᴰ·append-cases, Memᴰ·cast, Memᴰ·of-map}
+use Prim.Native.Nat.{ℕ, zero, suc, _+_, _-_, _^_, _≤_, _<_}
+use native.Mathlib.Omega.{arith}
+use native.Mathlib.Nat.{suc-ne-zero, le-of-eq, sub-self}
+use lib.ListN.{length, length-map, length-reverse, length-drop, drop, length-append}
+use lib.Seq.{drop-length}
+use lib.Dec.{T, eqb, eqb→eq, eqb-refl}
+use Rattle.model.specs.Tests.{_∈_}
+use Rattle.model.specs.Layout.{sequenceSize, capacity}
+use Rattle.model.specs.Message.{Message, sequenceOf}
+use Rattle.model.specs.Order.{State, add, sequencesOf, logOf}
+use Rattle.model.specs.Image.{imageOf, Valid, logIn}
+use Rattle.model.specs.Steps.{Step, undo, execute, common, stepsOf, undosOf, executionsOf, stepsBytes, readSteps, Plays}
+use Rattle.model.specs.Codes.{lowestCode, emptyConditions}
+use Rattle.model.specs.Calls.{Delivered, deliverAnswer, deliverCode, deliver, emptyState, Emptied, emptyAnswer, empty}
+use Rattle.model.specs.PlainStation.{accepts, receive}
+use Rattle.model.specs.Run.{Call, delivery, Event, imageAfter, Run, accepts?, stateNext, stateAfter, logAfter, codeFor, messageOfCall, acceptedIn, StepsTaken, Played, Agreement, Begins, Answers}
+use Rattle.order.specs.StepLaws.{steps-play, steps-fewest, steps-counted, common-self, common-le, plays-unique}
+use Rattle.order.specs.TestLaws.{Same}
+use Rattle.laws.specs.SetLaws.{insert-from, insert-keeps, insert-has, ascending-unique}
+use Rattle.laws.specs.LogLaws.{log-received}
+use Rattle.laws.specs.MessageLaws.{sequence-range}
+use Rattle.laws.specs.ImageLaws.{log-back}
+use Rattle.laws.specs.StepBytesLaws.{nameOf, read-steps}
+use Rattle.laws.specs.DeliverLaws.{stateCode, deliver-code-is, deliver-is, code-zero, receive-refused, receive-accepted, accepts-same, receive-valid}
+
+-- ---- one call on the image of a valid state, after which the plain station's state is `next`
+pub record CallFacts (S next : State) (c : Call) (a : Delivered) : Type 0 where
+  pub accepted : (a .code ≡ 0) ↔ T (accepts? S c)
+  pub code : a .code ≡ codeFor (imageOf S) c
+  pub image : a .image ≡ imageOf next
+  pub undos : a .undos ≡ undosOf (sequencesOf (logOf S)) (sequencesOf (logOf next))
+  pub executions : a .executions ≡ executionsOf (sequencesOf (logOf S)) (sequencesOf (logOf next))
+  pub read : readSteps (a .undos + a .executions) (a .steps) ≡ some (stepsOf (sequencesOf (logOf S)) (sequencesOf (logOf next)))
+
+-- no step from a log to itself
+undos-self : (l : List ℕ) → undosOf l l ≡ 0
+undos-self l = omega (arith, common-self l)
+
+steps-self : (l : List ℕ) → stepsOf l l ≡ []
+steps-self l = ap (λ (r : List ℕ). map undo (reverse r) ++ map execute r) (ap (λ (n : ℕ). drop n l) (common-self l) ∙ drop-length l)
+
+-- the names of the steps between two logs are of those logs
+∈-drop : {A : Type 0} (n : ℕ) (l : List A) {a : A} → a ∈ drop n l → a ∈ l
+∈-drop zero l k = k
+∈-drop (suc n) [] k = k
+∈-drop (suc n) (x ∷ l) k = List·Memᴰ·tail (∈-drop n l k)
+
+∈-reverse : {A : Type 0} (l r : List A) {a : A} → a ∈ mathlib.Core.List.reverseAux l r → (a ∈ l) ⊎ (a ∈ r)
+∈-reverse [] r k = inr k
+∈-reverse (x ∷ l) r k =
+    ⊎-elim (λ j. inl (List·Memᴰ·tail j)) (λ j. ⊎-elim (λ e. inl (List·Memᴰ·head e)) inr (List·Memᴰ·cases-cons j)) (∈-reverse l (x ∷ r) k)
+
+steps-name : (old new : List ℕ) (s : Step) → s ∈ stepsOf old new → (nameOf s ∈ old) ⊎ (nameOf s ∈ new)
+steps-name old new s k = ⊎-elim undone executed (List·Memᴰ·append-cases (map undo (reverse (drop (common old new) old))) k)
+  where
+    undone : s ∈ map undo (reverse (drop (common old new) old)) → (nameOf s ∈ old) ⊎ (nameOf s ∈ new)
+    undone j =
+        let r = Memᴰ·of-map undo (reverse (drop (common old new) old)) j in
+        inl (Memᴰ·cast (sym (ap nameOf (r .2))) (∈-drop (common old new) old (⊎-elim (λ i. i) (λ i. absurd (List·Memᴰ·not-nil i)) (∈-reverse (drop (common old new) old) [] (r .1)))))
+
+    executed : s ∈ map execute (drop (common old new) new) → (nameOf s ∈ old) ⊎ (nameOf s ∈ new)
+    executed j =
+        let r = Memᴰ·of-map execute (drop (common old new) new) j in
+        inr (Memᴰ·cast (sym (ap nameOf (r .2))) (∈-drop (common old new) new (r .1)))
+
+log-range : (S : State) → Valid S → (s : ℕ) → s ∈ sequencesOf (logOf S) → s < 256 ^ sequenceSize
+log-range S valid s k =
+    let r = Memᴰ·of-map sequenceOf (logOf S) k in
+    subst (λ (n : ℕ). n < 256 ^ sequenceSize) (r .2) (sequence-range (r .0) (valid .pass (r .0) (log-received S (valid .ascends) (r .0) (r .1))))
+
+module _ (S : State) (valid : Valid S) (m : Message) (steps : List ℕ) where
+  code-is : (n : ℕ) → stateCode S m (length steps) ≡ n → n ≡ codeFor (imageOf S) (delivery m steps)
+  code-is n e = sym e ∙ sym (deliver-code-is S valid m (length steps))
+
+  accepted-facts : stateCode S m (length steps) ≡ 0 → CallFacts S (add m S) (delivery m steps) (deliverAnswer 0 S (imageOf S) m steps)
+  accepted-facts e = record {
+    accepted = (λ z. code-zero S m (length steps) .0 e, λ t. refl);
+    code = code-is 0 e;
+    image = refl;
+    undos = refl;
+    executions = refl;
+    read = subst (λ (n : ℕ). readSteps n (stepsBytes (stepsOf old new) ++ drop (length (stepsBytes (stepsOf old new))) steps) ≡ some (stepsOf old new))
+        (steps-counted old new) (read-steps (stepsOf old new) (drop (length (stepsBytes (stepsOf old new))) steps) in-range);
+  }
+    where
+      old : List ℕ
+      old = sequencesOf (logOf S)
+
+      new : List ℕ
+      new = sequencesOf (logOf (add m S))
+
+      valid-next : Valid (add m S)
+      valid-next = subst Valid (receive-accepted S m (length steps) e) (receive-valid S valid m (length steps))
+
+      in-range : (s : Step) → s ∈ stepsOf old new → nameOf s < 256 ^ sequenceSize
+      in-range s k = ⊎-elim (log-range S valid (nameOf s)) (log-range (add m S) valid-next (nameOf s)) (steps-name old new s k)
+
+  refused-facts : (n : ℕ) → stateCode S m (length steps) ≡ suc n → CallFacts S S (delivery m steps) (deliverAnswer (suc n) S (imageOf S) m steps)
+  refused-facts n e = record {
+    accepted = (λ z. absurd (suc-ne-zero n z), λ t. absurd (suc-ne-zero n (sym e ∙ code-zero S m (length steps) .1 t)));
+    code = code-is (suc n) e;
+    image = refl;
+    undos = sym (undos-self (sequencesOf (logOf S)));
+    executions = sym (undos-self (sequencesOf (logOf S)));
+    read = ap some (sym (steps-self (sequencesOf (logOf S))));
+  }
+
+  answer-facts : (n : ℕ) → stateCode S m (length steps) ≡ n
+      → CallFacts S (receive S m (length steps)) (delivery m steps) (deliverAnswer n S (imageOf S) m steps)
+  answer-facts zero e =
+      subst (λ (R : State). CallFacts S R (delivery m steps) (deliverAnswer 0 S (imageOf S) m steps)) (sym (receive-accepted S m (length steps) e)) (accepted-facts e)
+  answer-facts (suc n) e =
+      subst (λ (R : State). CallFacts S R (delivery m steps) (deliverAnswer (suc n) S (imageOf S) m steps))
+      (sym (receive-refused S m (length steps) (λ z. suc-ne-zero n (sym e ∙ z)))) (refused-facts n e)
+
+pub call-facts : (S : State) → Valid S → (c : Call) (a : Delivered) → Answers (imageOf S) c a → CallFacts S (stateNext S c) c a
+call-facts S valid (delivery m steps) a h =
+    subst (CallFacts S (receive S m (length steps)) (delivery m steps)) (sym (h ∙ deliver-is S valid m steps)) (answer-facts S valid m steps (stateCode S m (length steps)) refl)
+
+-- ---- whole lists
+empty-valid : Valid emptyState
+empty-valid = record { ascends = tt; fits = omega arith; pass = λ m k. absurd (List·Memᴰ·not-nil k) }
+
+next-valid : (S : State) → Valid S → (c : Call) → Valid (stateNext S c)
+next-valid S valid (delivery m steps) = receive-valid S valid m (length steps)
+
+pub state-valid : (events : List Event) → Valid (stateAfter events)
+state-valid [] = empty-valid
+state-valid (e ∷ earlier) = next-valid (stateAfter earlier) (state-valid earlier) (e .call)
+
+begins-image : (b : List ℕ) → Begins b → b ≡ imageOf emptyState
+unfolding empty
+begins-image b r = r .2 ∙ go (lowestCode (emptyConditions (r .0))) (r .1)
+  where
+    go : (n : ℕ) → emptyAnswer n (r .0) .code ≡ 0 → emptyAnswer n (r .0) .image ≡ imageOf emptyState
+    go zero e = refl
+    go (suc n) e = absurd (suc-ne-zero n e)
+
+-- a call on the image that the last one left
+on-image : (b : List ℕ) (S : State) → Valid S → b ≡ imageOf S → (c : Call) (a : Delivered) → Answers b c a → CallFacts S (stateNext S c) c a
+on-image b S valid e c a h = call-facts S valid c a (subst (λ (i : List ℕ). Answers i c a) e h)
+
+run-image : (b : List ℕ) → Begins b → (events : List Event) → Run Answers b events → imageAfter b events ≡ imageOf (stateAfter events)
+run-image b begun [] run = begins-image b begun
+run-image b begun (e ∷ earlier) run =
+    on-image (imageAfter b earlier) (stateAfter earlier) (state-valid earlier) (run-image b begun earlier (run .1)) (e .call) (e .answer) (run .0) .image
+
+event-facts : (b : List ℕ) → Begins b → (e : Event) (earlier : List Event) → Run Answers b (e ∷ earlier)
+    → CallFacts (stateAfter earlier) (stateAfter (e ∷ earlier)) (e .call) (e .answer)
+event-facts b begun e earlier run =
+    on-image (imageAfter b earlier) (stateAfter earlier) (state-valid earlier) (run-image b begun earlier (run .1)) (e .call) (e .answer) (run .0)
+
+-- ---- the accepted messages are the set
+keeps-set : (S : State) → Valid S → (c : Call) → T (accepts? S c) → Same (stateNext S c .deltas) (messageOfCall c ∷ S .deltas)
+keeps-set S valid (delivery m steps) t = subst (λ (R : State). Same (R .deltas) (m ∷ S .deltas)) (sym (receive-accepted S m (length steps) (code-zero S m (length steps) .1 t))) (λ x. (
+  λ k. ⊎-elim (λ e. List·Memᴰ·head e) (λ j. List·Memᴰ·tail j) (insert-from m (S .deltas) x k),
+  λ k. ⊎-elim (λ e. Memᴰ·cast e (insert-has m (S .deltas) (accepts-same S valid m (length steps) t))) (λ j. insert-keeps m (S .deltas) x j) (List·Memᴰ·cases-cons k),
+))
+
+keeps-refused : (S : State) → (c : Call) → ¬ T (accepts? S c) → stateNext S c ≡ S
+keeps-refused S (delivery m steps) h = receive-refused S m (length steps) (λ e. h (code-zero S m (length steps) .0 e))
+
+pub accepted-set : (b : List ℕ) → Begins b → (events : List Event) → Run Answers b events → Same (stateAfter events .deltas) (acceptedIn events)
+accepted-set b begun [] run = λ m. (λ k. k, λ k. k)
+accepted-set b begun (e ∷ earlier) run = go (eqb (e .answer .code) 0) (eqb→eq (e .answer .code) 0) (λ z. subst (λ (n : ℕ). T (eqb n 0)) (sym z) tt) (accepted-set b begun earlier (run .1))
+  where
+    facts : CallFacts (stateAfter earlier) (stateAfter (e ∷ earlier)) (e .call) (e .answer)
+    facts = event-facts b begun e earlier run
+
+    go : (t : Bool) → (T t → e .answer .code ≡ 0) → (e .answer .code ≡ 0 → T t) → Same (stateAfter earlier .deltas) (acceptedIn earlier)
+        → Same (stateNext (stateAfter earlier) (e .call) .deltas) (cond t (messageOfCall (e .call) ∷ acceptedIn earlier) (acceptedIn earlier))
+    go true f g ih = λ m.
+        let s = keeps-set (stateAfter earlier) (state-valid earlier) (e .call) (facts .accepted .0 (f tt)) m in (
+          λ k. ⊎-elim (λ q. List·Memᴰ·head q) (λ j. List·Memᴰ·tail (ih m .0 j)) (List·Memᴰ·cases-cons (s .0 k)),
+          λ k. s .1 (⊎-elim (λ q. List·Memᴰ·head q) (λ j. List·Memᴰ·tail (ih m .1 j)) (List·Memᴰ·cases-cons k)),
+        )
+    go false f g ih =
+        subst (λ (R : State). Same (R .deltas) (acceptedIn earlier)) (sym (keeps-refused (stateAfter earlier) (e .call) (λ t. g (facts .accepted .1 t)))) ih
+
+same-images : (b c : List ℕ) → Begins b → Begins c → (events others : List Event) → Run Answers b events → Run Answers c others
+    → ((m : Message) → m ∈ acceptedIn events ↔ m ∈ acceptedIn others) → imageAfter b events ≡ imageAfter c others
+same-images b c p q events others r t f =
+    run-image b p events r ∙ ap (λ (l : List Message). imageOf (Rattle.model.specs.Order.stateOf l)) sets ∙ sym (run-image c q others t)
+  where
+    sets : stateAfter events .deltas ≡ stateAfter others .deltas
+    sets = ascending-unique (stateAfter events .deltas) (stateAfter others .deltas) (state-valid events .ascends) (state-valid others .ascends) (λ m. (
+      λ k. accepted-set c q others t m .1 (f m .0 (accepted-set b p events r m .0 k)),
+      λ k. accepted-set b p events r m .1 (f m .1 (accepted-set c q others t m .0 k)),
+    ))
+
+-- ---- the played log
+undone-length : (old new : List ℕ) → length (reverse (drop (common old new) old)) ≡ undosOf old new
+undone-length old new = length-reverse (drop (common old new) old) ∙ length-drop (common old new) old
+
+taken : (S next : State) (e : Event) → CallFacts S next (e .call) (e .answer)
+    → StepsTaken e (reverse (drop (common (sequencesOf (logOf S)) (sequencesOf (logOf next))) (sequencesOf (logOf S))))
+    (drop (common (sequencesOf (logOf S)) (sequencesOf (logOf next))) (sequencesOf (logOf next)))
+taken S next e facts = record {
+  read = facts .read;
+  undos = undone-length (sequencesOf (logOf S)) (sequencesOf (logOf next)) ∙ sym (facts .undos);
+  executions = length-drop (common (sequencesOf (logOf S)) (sequencesOf (logOf next))) (sequencesOf (logOf next)) ∙ sym (facts .executions);
+}
+
+some-inj : {A : Type 0} (x y : A) → some x ≡ some y → x ≡ y
+some-inj x y e = ap (or-else x) e
+  where
+    or-else : {A : Type 0} → A → Option A → A
+    or-else d none = d
+    or-else d (some a) = a
+
+pub plays-log : (b : List ℕ) → Begins b → (events : List Event) → Run Answers b events → (log : List ℕ) → Played events log ↔ (log ≡ logAfter events)
+unfolding logOf
+plays-log b begun [] run log = (λ e. e, λ e. e)
+plays-log b begun (e ∷ earlier) run log = go (event-facts b begun e earlier run) (plays-log b begun earlier (run .1))
+  where
+    old : List ℕ
+    old = logAfter earlier
+
+    new : List ℕ
+    new = logAfter (e ∷ earlier)
+
+    go : CallFacts (stateAfter earlier) (stateAfter (e ∷ earlier)) (e .call) (e .answer) → ((l : List ℕ) → Played earlier l ↔ (l ≡ old))
+        → Played (e ∷ earlier) log ↔ (log ≡ new)
+    go facts ih = (
+      λ p. plays-unique (stepsOf old new) old log new
+          (subst (λ (ss : List Step). Plays old ss log) (some-inj _ _ (sym (p .4 .read) ∙ facts .read))
+          (subst (λ (l : List ℕ). Plays l (map undo (p .1) ++ map execute (p .2)) log) (ih (p .0) .0 (p .3)) (p .5)))
+          (steps-play old new),
+      λ q. (
+        old,
+        reverse (drop (common old new) old),
+        drop (common old new) new,
+        ih old .1 refl,
+        taken (stateAfter earlier) (stateAfter (e ∷ earlier)) e facts,
+        subst (Plays old (stepsOf old new)) (sym q) (steps-play old new),
+      ),
+    )
+
+-- ---- the theorem
+pub agreement : Agreement Begins Answers
+agreement = record {
+  accepted = λ b begun e earlier run. event-facts b begun e earlier run .accepted;
+  code = λ b begun e earlier run. event-facts b begun e earlier run .code ∙ ap (λ (i : List ℕ). codeFor i (e .call)) (sym (run-image b begun earlier (run .1)));
+  image = run-image;
+  equal = same-images;
+  played = plays-log;
+  imageLog = λ b begun events run. ap (λ (i : List ℕ). sequencesOf (logIn i)) (run-image b begun events run) ∙ ap sequencesOf (log-back (stateAfter events) (state-valid events));
+  undos = λ b begun e earlier run. event-facts b begun e earlier run .undos;
+  executions = λ b begun e earlier run. event-facts b begun e earlier run .executions;
+  fewest = λ b begun e earlier run rival plays.
+      let f = event-facts b begun e earlier run in
+      omega (arith, f .undos, f .executions, steps-counted (logAfter earlier) (logAfter (e ∷ earlier)), steps-fewest (logAfter earlier) (logAfter (e ∷ earlier)) rival plays);
+}
+
+-- ---- and so of every empty and deliver that promise what the definitions answer
+run-of : (answers : List ℕ → Call → Delivered → Type 0) → ((b : List ℕ) (c : Call) (a : Delivered) → answers b c a → Answers b c a)
+    → (b : List ℕ) (events : List Event) → Run answers b events → Run Answers b events
+run-of answers f b [] run = tt
+run-of answers f b (e ∷ earlier) run = (f (imageAfter b earlier) (e .call) (e .answer) (run .0), run-of answers f b earlier (run .1))
+
+pub agreement-of : (begins : List ℕ → Type 0) (answers : List ℕ → Call → Delivered → Type 0) → ((b : List ℕ) → begins b → Begins b)
+    → ((b : List ℕ) (c : Call) (a : Delivered) → answers b c a → Answers b c a) → Agreement begins answers
+agreement-of begins answers f g = record {
+  accepted = λ b begun e earlier run. agreement .accepted b (f b begun) e earlier (same-run b (e ∷ earlier) run);
+  code = λ b begun e earlier run. agreement .code b (f b begun) e earlier (same-run b (e ∷ earlier) run);
+  image = λ b begun events run. agreement .image b (f b begun) events (same-run b events run);
+  equal = λ b c p q events others r t. agreement .equal b c (f b p) (f c q) events others (same-run b events r) (same-run c others t);
+  played = λ b begun events run. agreement .played b (f b begun) events (same-run b events run);
+  imageLog = λ b begun events run. agreement .imageLog b (f b begun) events (same-run b events run);
+  undos = λ b begun e earlier run. agreement .undos b (f b begun) e earlier (same-run b (e ∷ earlier) run);
+  executions = λ b begun e earlier run. agreement .executions b (f b begun) e earlier (same-run b (e ∷ earlier) run);
+  fewest = λ b begun e earlier run. agreement .fewest b (f b begun) e earlier (same-run b (e ∷ earlier) run);
+}
+  where
+    same-run : (b : List ℕ) (events : List Event) → Run answers b events → Run Answers b events
+    same-run = run-of answers g

@@ -1,0 +1,118 @@
+-- The laws of the definitions, each as one statement. Their proofs stand in the files beside this one.
+use mathlib.Core.Path.{_≡_, refl}
+use mathlib.Core.Logic.{_↔_}
+use mathlib.Core.Bool.{Bool, true, false}
+use mathlib.Core.List.{List, [], _∷_, _++_}
+use Prim.Native.Nat.{ℕ, _+_, _≤_, _<_, max}
+use native.Mathlib.Omega.{arith}
+use lib.ListN.{length}
+use lib.Dec.{T}
+use Rattle.model.specs.Tests.{_∈_, greatest}
+use Rattle.model.specs.Layout.{imageSize}
+use Rattle.model.specs.Message.{Message, blockOf, needsOf}
+use Rattle.model.specs.Order.{State, find, sequencesOf, effectiveBlock, keyOf, less, Executable, IsLog, logOf, heldOf}
+use Rattle.model.specs.Image.{imageOf, Valid, IsImage, stateIn, logIn, isImage}
+use Rattle.model.specs.Steps.{Step, undosOf, executionsOf, stepsOf, Plays}
+use Rattle.model.specs.Codes.{Conditions, lowestCode, deliverConditions, composeConditions, emptyConditions, logMessageConditions, setpointConditions}
+use Rattle.model.specs.Calls.{Delivered, deliver, Composed, compose}
+use Rattle.model.specs.PlainStation.{accepts, receive}
+use Rattle.model.specs.Run.{delivery, Agreement, Begins, Answers}
+use Rattle.order.specs.KeyOrder.{Total}
+use Rattle.order.specs.TestLaws.{Same}
+use Rattle.order.specs.StepLaws.{steps-play, steps-counted, steps-fewest}
+use Rattle.laws.specs.LogLaws.{key-order, keys-differ, log-is, log-only, log-of-set, log-executable, held-is}
+use Rattle.laws.specs.EffectiveLaws.{effective-is}
+use Rattle.laws.specs.ImageLaws.{image-size, state-back, log-back, image-declared, image-state}
+use Rattle.laws.specs.CodeLaws.{Lowest, lowest-is}
+use Rattle.laws.specs.DeliverLaws.{receive-valid}
+use Rattle.laws.specs.RunLaws.{CallFacts, call-facts, agreement}
+use Rattle.laws.specs.ComposeLaws.{Promised, composedBy, compose-promise}
+
+-- 1. The computed log is the declared one and the only one. A received delta is in it exactly if it is executable; held are the others.
+pub record LogLaw (S : State) : Type 0 where
+  pub is-log : IsLog S (logOf S)
+  pub only : (l : List Message) → IsLog S l → l ≡ logOf S
+  pub executable : (m : Message) → m ∈ S .deltas → (m ∈ logOf S) ↔ Executable S m
+  pub held : (m : Message) → (m ∈ heldOf S) ↔ ((m ∈ S .deltas) × ¬ (m ∈ logOf S))
+
+pub log-law : (S : State) → Valid S → LogLaw S
+log-law S v = record {
+  is-log = log-is S (v .ascends);
+  only = log-only S (v .ascends);
+  executable = log-executable S (v .ascends);
+  held = held-is S (v .ascends);
+}
+
+-- It depends on the set alone.
+pub log-of-same : (S R : State) → Valid S → Valid R → Same (S .deltas) (R .deltas) → logOf S ≡ logOf R
+log-of-same S R p q f = log-of-set S R (p .ascends) (q .ascends) f
+
+-- 2. The key is a strict total order on every set, and the effective block is the paper's.
+pub record KeyLaw (S : State) : Type 0 where
+  pub order : Total less
+  pub differ : (a b : Message) → a ∈ S .deltas → b ∈ S .deltas → keyOf S a ≡ keyOf S b → a ≡ b
+  pub effective : (m : Message) → m ∈ S .deltas → Executable S m
+      → effectiveBlock S m ≡ max (blockOf m) (greatest (λ s. effectiveBlock S (find (S .deltas) s)) (needsOf m))
+
+pub key-law : (S : State) → Valid S → KeyLaw S
+key-law S v = record { order = key-order; differ = keys-differ S (v .ascends); effective = effective-is S (v .ascends) (v .fits) }
+
+-- 3. The steps lead from the old log to the new one, are counted as the paper says, and no rival has fewer.
+pub record StepLaw (old new : List ℕ) : Type 0 where
+  pub plays : Plays old (stepsOf old new) new
+  pub counted : length (stepsOf old new) ≡ undosOf old new + executionsOf old new
+  pub fewest : (rival : List Step) → Plays old rival new → length (stepsOf old new) ≤ length rival
+
+pub step-law : (old new : List ℕ) → StepLaw old new
+step-law old new = record { plays = steps-play old new; counted = steps-counted old new; fewest = steps-fewest old new }
+
+-- 4. The image of a valid state has 16,384 bytes and reads back to that state and its log.
+pub record ImageLaw (S : State) : Type 0 where
+  pub size : length (imageOf S) ≡ imageSize
+  pub state : stateIn (imageOf S) ≡ S
+  pub log : logIn (imageOf S) ≡ logOf S
+
+pub image-law : (S : State) → Valid S → ImageLaw S
+image-law S v = record { size = image-size S v; state = state-back S v; log = log-back S v }
+
+-- A buffer passes code 2 by computing exactly if it is declared an image, and it is the image of one state.
+pub image-test : (b : List ℕ) → T (isImage b) ↔ IsImage b
+image-test = image-declared
+
+pub image-of-one : (b : List ℕ) (i : IsImage b) → i .state ≡ stateIn b
+image-of-one = image-state
+
+-- 5. Deliver on the image of a valid state is the plain station's answer, whose state stays valid.
+pub deliver-law : (S : State) → Valid S → (m : Message) (steps : List ℕ)
+    → CallFacts S (receive S m (length steps)) (delivery m steps) (deliver (imageOf S) m steps)
+deliver-law S v m steps = call-facts S v (delivery m steps) (deliver (imageOf S) m steps) refl
+
+pub station-law : (S : State) → Valid S → (m : Message) (room : ℕ) → Valid (receive S m room)
+station-law = receive-valid
+
+-- 6. What compose hands out passes 3 to 6, and is accepted with no undo, its execution the first step.
+pub compose-law : (b line commands : List ℕ) (flag priority : ℕ) (buffer : List ℕ) → compose b line commands flag priority buffer .code ≡ 0
+    → Promised b (composedBy (compose b line commands flag priority buffer))
+compose-law = compose-promise
+
+-- 7. A call's code is the lowest number of its own list whose condition holds, and 0 exactly where none does. That a refusal
+-- leaves every buffer is in CodeLaws: `deliver-refused`, `empty-refused`, `compose-refused`, `setpoint-refused`.
+pub deliver-lowest : (b : List ℕ) (m : Message) (room : ℕ) → Lowest (deliverConditions b m room) (lowestCode (deliverConditions b m room))
+deliver-lowest b m room = lowest-is 0 (deliverConditions b m room) (omega arith)
+
+pub compose-lowest : (b line commands : List ℕ) (flag priority room : ℕ)
+    → Lowest (composeConditions b line commands flag priority room) (lowestCode (composeConditions b line commands flag priority room))
+compose-lowest b line commands flag priority room = lowest-is 0 (composeConditions b line commands flag priority room) (omega arith)
+
+pub empty-lowest : (b : List ℕ) → Lowest (emptyConditions b) (lowestCode (emptyConditions b))
+empty-lowest b = lowest-is 0 (emptyConditions b) (omega arith)
+
+pub log-message-lowest : (b : List ℕ) (place : ℕ) → Lowest (logMessageConditions b place) (lowestCode (logMessageConditions b place))
+log-message-lowest b place = lowest-is 0 (logMessageConditions b place) (omega arith)
+
+pub setpoint-lowest : (b : List ℕ) (tag : ℕ) → Lowest (setpointConditions b tag) (lowestCode (setpointConditions b tag))
+setpoint-lowest b tag = lowest-is 0 (setpointConditions b tag) (omega arith)
+
+-- Demand 3, of the definitions' own calls.
+pub agreement-law : Agreement Begins Answers
+agreement-law = agreement
