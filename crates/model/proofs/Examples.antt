@@ -63,6 +63,13 @@ b1-5 = urgent (B 1) 1 5 (command 2 3 (negsuc 19))
 abbrev c1-7 : Message
 c1-7 = urgent (C 1) 1 7 (command 2 4 (pos 20))
 
+-- "3 raises the tag to v if it is lower": to 3 it does nothing after 5, to 9 it raises.
+abbrev raised : Message
+raised = plain (A 1) [] (command 1 3 (pos 5) ++ command 3 3 (pos 3) ++ command 3 3 (pos 9) ++ command 3 3 (negsuc 0))
+
+abbrev a1-group-2 : Message
+a1-group-2 = messageOf false (A 1) 2 0 0 [] (command 1 3 (pos 1500))
+
 abbrev a1-naming-b1 : Message
 a1-naming-b1 = plain (A 1) (B 1 ∷ []) (command 1 3 (pos 1500))
 
@@ -155,6 +162,15 @@ examples =
     ∷ (composeOn (lineNumber 0xA) (b1 ∷ []), message 0 (messageOf false (A 1) 2 0 0 (B 1 ∷ []) (command 1 3 (pos 5))))
     -- Compose on B, log A1: B1, group 1, names A1.
     ∷ (composeOn (lineNumber 0xB) (a1 ∷ []), message 0 (messageOf false (B 1) 1 0 0 (A 1 ∷ []) (command 1 3 (pos 5))))
+    -- Beside the starred ones. A1 of group 2 and B1 of group 1: log B1, A1.
+    ∷ (
+      deliverAll (a1-group-2 ∷ b1 ∷ []),
+      station (ok (execute (A 1) ∷ []) ∷ ok (undo (A 1) ∷ execute (B 1) ∷ execute (A 1) ∷ []) ∷ []) 2 0 368 (B 1 ∷ A 1 ∷ []) [] (pos 1500),
+    )
+    -- Set 5, raise to 3, to 9, to -1: 9.
+    ∷ (deliverAll (raised ∷ []), station (ok (execute (A 1) ∷ []) ∷ []) 1 0 344 (A 1 ∷ []) [] (pos 9))
+    -- Compose on A, log A1: A2, group 1, which names nothing.
+    ∷ (composeOn (lineNumber 0xA) (a1 ∷ []), message 0 (messageOf false (A 2) 1 0 0 [] (command 1 3 (pos 5))))
     ∷ []
 
 -- Every example has the outcome that stands beside it.
