@@ -2,7 +2,6 @@
 use crate::layout::NUMBERS_OF_LINE;
 use buffer::get_u32;
 use buffer::get_u64;
-
 ghost use mathlib.Core.Path.{_≡_};
 ghost use Prim.Native.Nat.{_+_, _≤_};
 ghost use lib.ListN.{length};
