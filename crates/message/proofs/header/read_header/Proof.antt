@@ -1,0 +1,46 @@
+use native.Mathlib.Omega.{arith}
+use Rattle.message.specs.SequenceLaws.{from-number}
+use Rattle.message.specs.HeaderLaws.{header-is}
+use Rattle.model.specs.Message.{sequenceOf}
+use borrow.Author.Needs.{needs}
+use Rattle.message.proofs.header.read_header.Statement.{statement}
+use Rattle.message.proofs.header.read_header.Tie as tie
+
+read-sequence-requires : tie.Need-read-sequence-requires
+read-sequence-requires c κs = search needs
+
+get-u32-requires : tie.Need-get-u32-requires
+get-u32-requires c κs = search needs
+
+byte-requires : tie.Need-byte-requires
+byte-requires c κs = search needs
+
+cast-dependencies : tie.Need-cast-dependencies
+cast-dependencies c = search needs
+
+byte-requires-2 : tie.Need-byte-requires-2
+byte-requires-2 c κs = search needs
+
+cast-commands : tie.Need-cast-commands
+cast-commands c = search needs
+
+read-priority-requires : tie.Need-read-priority-requires
+read-priority-requires c κs = search needs
+
+returns : tie.Need-returns
+returns c =
+    let m = c .before .before .before .before .before .before .args .m .now in
+    header-is m (from-number (c .before .before .before .before .read-sequence .result) (sequenceOf m) (omega arith) (c .before .before .before .before .read-sequence .ensures)) (c .before .before .before .get-u32 .ensures) (c .before .before .byte .ensures .0) (c .before .byte2 .ensures .0) (c .read-priority .ensures)
+
+pub read-header-spec : {M : Type 1} → statement M
+read-header-spec =
+    tie.close
+    (tie.spec
+    read-sequence-requires
+    get-u32-requires
+    byte-requires
+    cast-dependencies
+    byte-requires-2
+    cast-commands
+    read-priority-requires
+    returns)

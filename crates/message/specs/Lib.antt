@@ -1,0 +1,12 @@
+pub mod Check
+pub mod Decisions
+pub mod Header
+pub mod HeaderLaws
+pub mod LayoutLaws
+pub mod ListLaws
+pub mod CommandLaws
+pub mod ContentLaws
+pub mod Parsed
+pub mod ParsedLaws
+pub mod Sequence
+pub mod SequenceLaws

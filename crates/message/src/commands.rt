@@ -1,0 +1,94 @@
+// The checks of commands, of a message's own and of those handed over to be composed.
+use crate::checks::Check;
+use crate::layout::COMMAND_SIZE;
+use crate::layout::COMMAND_ZEROS_AT;
+use crate::layout::HIGHEST_VALUE;
+use crate::layout::LOWEST_VALUE;
+use crate::layout::MOST_COMMANDS;
+use crate::layout::TAG_AT;
+use crate::layout::TAG_COUNT;
+use crate::layout::VALUE_AT;
+use buffer::byte;
+use buffer::get_u16;
+use buffer::get_u32;
+ghost use mathlib.Core.Path.{_≡_};
+ghost use Prim.Native.Nat.{_+_, _/_, _≤_};
+ghost use lib.ListN.{length, take, drop};
+ghost use Rattle.model.specs.Tests.{every};
+ghost use Rattle.model.specs.Bytes.{parts};
+ghost use Rattle.model.specs.Message.{commandRight};
+ghost use Rattle.model.specs.Codes.{commandsSized};
+ghost use Rattle.message.specs.Check.{right, valueRight};
+
+// Whether four bytes, as two's complement, are a value from -1000000 to 1000000.
+fn in_range(value: u32) -> bool
+    ensures { λ r. ⌜ r ≡ valueRight value ⌝ }
+{
+    if value <= HIGHEST_VALUE {
+        return true;
+    }
+    LOWEST_VALUE <= value
+}
+
+// The command that starts at a place: operation, tag, zeros and value.
+fn check_command(c: &[u8], at: usize) -> Check
+    requires { ⌜ at + 8 ≤ length (now c) ⌝ }
+    ensures { λ r. ⌜ right r ≡ commandRight (take 8 (drop at (now (c .entry)))) ⌝ }
+{
+    let operation = byte(c, at);
+    if operation < 1 {
+        return Check::Wrong;
+    }
+    if 3 < operation {
+        return Check::Wrong;
+    }
+    if TAG_COUNT <= byte(c, at + TAG_AT) {
+        return Check::Wrong;
+    }
+    if get_u16(c, at + COMMAND_ZEROS_AT) != 0 {
+        return Check::Wrong;
+    }
+    if in_range(get_u32(c, at + VALUE_AT)) {
+        return Check::Right;
+    }
+    Check::Wrong
+}
+
+// How many whole commands any bytes hold.
+fn count_commands(c: &[u8]) -> usize
+    ensures { λ r. ⌜ r ≡ length (now (c .entry)) / 8 ⌝ }
+{
+    c.len() / COMMAND_SIZE
+}
+
+// Every whole command of any bytes.
+pub fn check_commands(c: &[u8]) -> Check
+    ensures { λ r. ⌜ right r ≡ every commandRight (parts (length (now (c .entry)) / 8) 8 (now (c .entry))) ⌝ }
+{
+    let count = count_commands(c);
+    let mut k = 0;
+    while k < count {
+        let checked = check_command(c, COMMAND_SIZE * k);
+        let Check::Right = checked else {
+            return Check::Wrong;
+        };
+        k += 1;
+    }
+    Check::Right
+}
+
+// Whether any bytes are one to eight commands long, by whole commands.
+pub fn commands_sized(c: &[u8]) -> Check
+    ensures { λ r. ⌜ right r ≡ commandsSized (now (c .entry)) ⌝ }
+{
+    if c.len() < COMMAND_SIZE {
+        return Check::Wrong;
+    }
+    if COMMAND_SIZE * MOST_COMMANDS < c.len() {
+        return Check::Wrong;
+    }
+    if COMMAND_SIZE * count_commands(c) != c.len() {
+        return Check::Wrong;
+    }
+    Check::Right
+}

@@ -1,0 +1,9 @@
+// A delta on the wire: sequences, the header, the checks of codes 3 to 6, and how two headers compare by key.
+pub mod checks;
+pub mod commands;
+pub mod content;
+pub mod dependencies;
+pub mod header;
+pub mod layout;
+pub mod parse;
+pub mod sequence;
