@@ -3,3 +3,56 @@ pub mod integers;
 pub mod layout;
 pub mod operations;
 pub mod values;
+
+use layout::COMMAND_SIZE;
+use layout::HEADER_SIZE;
+use layout::OPERATION_AT;
+use layout::SEQUENCE_SIZE;
+use layout::TAG_AT;
+use layout::VALUE_AT;
+ghost use mathlib.Core.Path.{_≡_};
+ghost use Prim.Native.Nat.{_+_, _≤_};
+ghost use lib.ListN.{length, take, drop};
+ghost use Rattle.model.specs.Layout.{commandSize};
+ghost use Rattle.model.specs.Message.{commandsStart};
+ghost use Rattle.model.specs.Setpoints.{runCommand, runCommands};
+ghost use Rattle.setpoints.specs.Commands.{commandsIn};
+
+// Runs the command that starts at a place.
+fn run_command(values: [i32; 64], c: &[u8], at: usize) -> [i32; 64]
+    requires { ⌜ at + commandSize ≤ length (now c) ⌝ }
+    ensures { λ r. ⌜ r ≡ runCommand (take commandSize (drop at (now (c .entry)))) values ⌝ }
+{
+    let operation = buffer::byte(c, at + OPERATION_AT);
+    let tag = buffer::byte(c, at + TAG_AT) as usize;
+    let v = integers::of_word(buffer::get_u32(c, at + VALUE_AT));
+    operations::operate_tag(values, tag, operation, v)
+}
+
+// Runs the commands of a slice from first to last. A rest shorter than a command is left out.
+pub fn run_commands(values: [i32; 64], c: &[u8]) -> [i32; 64]
+    ensures { λ r. ⌜ r ≡ runCommands (commandsIn (now (c .entry))) values ⌝ }
+{
+    let mut current = values;
+    let mut at = 0;
+    while COMMAND_SIZE <= c.len() - at {
+        let next = run_command(current, c, at);
+        current = next;
+        at += COMMAND_SIZE;
+    }
+    current
+}
+
+// Runs a delta's commands: those that start past so many dependencies. A message that ends before them changes nothing.
+pub fn run_delta(values: [i32; 64], m: &[u8], dependencies: usize) -> [i32; 64]
+    ensures { λ r. ⌜ r ≡ runCommands (commandsIn (drop (commandsStart dependencies) (now (m .entry)))) values ⌝ }
+{
+    if m.len() < HEADER_SIZE {
+        return values;
+    }
+    if (m.len() - HEADER_SIZE) / SEQUENCE_SIZE < dependencies {
+        return values;
+    }
+    let from = HEADER_SIZE + SEQUENCE_SIZE * dependencies;
+    run_commands(values, &m[from..])
+}

@@ -3,10 +3,10 @@ use crate::layout::HIGHEST_VALUE;
 use crate::layout::LOWEST_VALUE;
 use crate::layout::TAG_COUNT;
 ghost use mathlib.Core.Path.{_≡_};
-ghost use lib.IntN.{pos, _+ℤ_};
-ghost use lib.ListN.{getD, set};
+ghost use lib.IntN.{_+ℤ_};
 ghost use Rattle.model.specs.Setpoints.{stop, raise};
 ghost use Rattle.model.specs.Setpoints as model;
+ghost use Rattle.setpoints.specs.Commands.{operateTag};
 
 // The sum, stopped at the lowest and at the highest value. It is taken at 64 bits, so it never wraps.
 pub fn add_stopped(x: i32, v: i32) -> i32
@@ -47,7 +47,7 @@ pub fn operate(operation: u32, x: i32, v: i32) -> i32
 
 // The values with one tag's operated on. A tag that is none of the 64 changes nothing.
 pub fn operate_tag(values: [i32; 64], tag: usize, operation: u32, v: i32) -> [i32; 64]
-    ensures { λ r. ⌜ r ≡ set values tag (model.operate operation (getD values tag (pos 0)) v) ⌝ }
+    ensures { λ r. ⌜ r ≡ operateTag values tag operation v ⌝ }
 {
     if TAG_COUNT <= tag {
         return values;

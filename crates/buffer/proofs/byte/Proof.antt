@@ -1,0 +1,20 @@
+use native.Mathlib.Omega.{arith}
+use mathlib.Core.Path.{sym}
+use Rattle.buffer.specs.FieldLaws.{field-byte}
+use borrow.Author.Needs.{needs}
+use Rattle.buffer.proofs.byte.Statement.{statement}
+use Rattle.buffer.proofs.byte.Tie as tie
+
+shared-slice-read-result : tie.Need-shared-slice-read-result
+shared-slice-read-result c = search needs
+
+cast-result : tie.Need-cast-result
+cast-result c = omega (arith, c .shared-slice-known .given (c .before .args .at))
+
+returns : tie.Need-returns
+returns c =
+    let a = c .before .args in
+    (sym (field-byte (a .s .now) (a .at) (omega arith)), omega (arith, c .shared-slice-known .given (a .at)))
+
+pub byte-spec : {M : Type 1} → statement M
+byte-spec = tie.close (tie.spec shared-slice-read-result cast-result returns)
