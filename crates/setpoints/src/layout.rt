@@ -12,6 +12,8 @@ pub const TAG_AT: usize = 1;
 
 pub const VALUE_AT: usize = 4;
 
+pub const VALUE_SIZE: usize = 4;
+
 // the tags, and the ends at which a sum is stopped
 pub const TAG_COUNT: usize = 64;
 

@@ -1,4 +1,4 @@
-use mathlib.Core.Path.{_≡_, sym, ap, _∙_}
+use mathlib.Core.Path.{sym, ap, _∙_}
 use native.Mathlib.Omega.{arith}
 use lib.IntN.{ℤ, pos}
 use lib.ListN.{set, getD}
@@ -7,11 +7,8 @@ use mir.Syntax.{w32}
 use mir.Val.{SFits}
 use mir.Facts.{toZ-ofZ}
 use borrow.Author.Needs.{needs}
-use Rattle.setpoints.proofs.operations.operate_tag.Statement.{statement}
-use Rattle.setpoints.proofs.operations.operate_tag.Tie as tie
-use Rattle.setpoints.proofs.operations.operate_tag.Reads as reads
-use Rattle.setpoints.proofs.operations.operate_tag.Lts as lts
-use Rattle.setpoints.proofs.operations.operate.Reads as operate-reads
+use Rattle.setpoints.proofs.operate_tag.Statement.{statement}
+use Rattle.setpoints.proofs.operate_tag.Tie as tie
 
 returns : tie.Need-returns
 returns c = sym (set-out _ _ _ (omega (arith, c .before .good .0)))
