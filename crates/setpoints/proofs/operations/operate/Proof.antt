@@ -17,7 +17,7 @@ returns-2 : tie.Need-returns-2
 unfolding operate
 returns-2 c =
     let s = c .before .before .before in
-    let e = rw (toZ-ofZ (s .fits .x), toZ-ofZ (s .fits .v)) at (c .add-stopped .ensures) in
+    let e = simp (toZ-ofZ (s .fits .x), toZ-ofZ (s .fits .v)) at (c .add-stopped .ensures) in
     simp (ne-eqb _ _ (c .before .before .if1 .left), eq-eqb _ _ (c .before .if2 .taken))
     (toZ-ofZ {z = c .add-stopped .result} (record { sfits = c .add-stopped .ok }) ∙ e)
 
@@ -28,7 +28,7 @@ returns-3 : tie.Need-returns-3
 unfolding operate
 returns-3 c =
     let s = c .before .before .before in
-    let e = rw (toZ-ofZ (s .fits .x), toZ-ofZ (s .fits .v)) at (c .raise-to .ensures) in
+    let e = simp (toZ-ofZ (s .fits .x), toZ-ofZ (s .fits .v)) at (c .raise-to .ensures) in
     simp (ne-eqb _ _ (c .before .before .if1 .left), ne-eqb _ _ (c .before .if2 .left))
     (toZ-ofZ {z = c .raise-to .result} (record { sfits = c .raise-to .ok }) ∙ e)
 

@@ -10,14 +10,14 @@ returns : tie.Need-returns
 unfolding raise
 returns c =
     let s = c .before in
-    let lower : ltZ (s .args .x) (s .args .v) ≡ true = rw (toZ-ofZ (s .fits .x), toZ-ofZ (s .fits .v)) at (c .if1 .taken) in
+    let lower : ltZ (s .args .x) (s .args .v) ≡ true = simp (toZ-ofZ (s .fits .x), toZ-ofZ (s .fits .v)) at (c .if1 .taken) in
     rw (toZ-ofZ (s .fits .v), lower)
 
 returns-2 : tie.Need-returns-2
 unfolding raise
 returns-2 c =
     let s = c .before in
-    let not-lower : ltZ (s .args .x) (s .args .v) ≡ false = rw (toZ-ofZ (s .fits .x), toZ-ofZ (s .fits .v)) at (c .if1 .left) in
+    let not-lower : ltZ (s .args .x) (s .args .v) ≡ false = simp (toZ-ofZ (s .fits .x), toZ-ofZ (s .fits .v)) at (c .if1 .left) in
     rw (toZ-ofZ (s .fits .x), not-lower)
 
 pub raise-to-spec : {M : Type 1} → statement M
