@@ -1,0 +1,36 @@
+use mathlib.Core.Path.{_∙_}
+use mir.Facts.{toZ-ofZ}
+use borrow.Author.Needs.{needs}
+use borrow.Author.Tests.{eq-eqb, ne-eqb}
+use Rattle.model.specs.Setpoints.{operate}
+use Rattle.setpoints.proofs.operations.operate.Statement.{statement}
+use Rattle.setpoints.proofs.operations.operate.Tie as tie
+
+returns : tie.Need-returns
+unfolding operate
+returns c = simp (toZ-ofZ (c .before .fits .v), eq-eqb _ _ (c .if1 .taken))
+
+add-stopped-requires : tie.Need-add-stopped-requires
+add-stopped-requires c κs = search needs
+
+returns-2 : tie.Need-returns-2
+unfolding operate
+returns-2 c =
+    let s = c .before .before .before in
+    let e = simp (toZ-ofZ (s .fits .x), toZ-ofZ (s .fits .v)) at (c .add-stopped .ensures) in
+    simp (ne-eqb _ _ (c .before .before .if1 .left), eq-eqb _ _ (c .before .if2 .taken))
+    (toZ-ofZ {z = c .add-stopped .result} (record { sfits = c .add-stopped .ok }) ∙ e)
+
+raise-to-requires : tie.Need-raise-to-requires
+raise-to-requires c κs = search needs
+
+returns-3 : tie.Need-returns-3
+unfolding operate
+returns-3 c =
+    let s = c .before .before .before in
+    let e = simp (toZ-ofZ (s .fits .x), toZ-ofZ (s .fits .v)) at (c .raise-to .ensures) in
+    simp (ne-eqb _ _ (c .before .before .if1 .left), ne-eqb _ _ (c .before .if2 .left))
+    (toZ-ofZ {z = c .raise-to .result} (record { sfits = c .raise-to .ok }) ∙ e)
+
+pub operate-spec : {M : Type 1} → statement M
+operate-spec = tie.close (tie.spec returns add-stopped-requires returns-2 raise-to-requires returns-3)

@@ -1,0 +1,62 @@
+-- Commands in a run of bytes, run from a place on; and that those of a right message are its own.
+use mathlib.Core.Path.{_≡_, refl, sym, ap, ap₂, _∙_}
+use mathlib.Core.List.{List, [], _∷_}
+use Prim.Native.Nat.{ℕ, zero, suc, _+_, _*_, _-_, _/_, _≤_, _<_}
+use native.Mathlib.Omega.{arith}
+use lib.Dec.{T}
+use lib.IntN.{ℤ}
+use lib.ListN.{length, take, drop, length-drop}
+use lib.Seq.{take-take, drop-drop}
+use Rattle.model.specs.Bytes.{number, field, parts, integer}
+use Rattle.model.specs.Layout.{commandSize, operationAt, tagAt, valueAt}
+use Rattle.model.specs.Message.{Message, dependencyCount, commandCount, commandsStart, commandsOf, layoutRight, passes}
+use Rattle.model.specs.Setpoints.{runCommand, runCommands, runDelta}
+use Rattle.laws.specs.MessageLaws.{layout-sized, passes-layout}
+use Rattle.setpoints.specs.Commands.{commandsIn, operateTag}
+
+-- ---- a field of a part is a field of the whole
+take-drop-take : (n i size : ℕ) (b : List ℕ) → i + size ≤ n → take size (drop i (take n b)) ≡ take size (drop i b)
+take-drop-take n zero size b h = take-take size n b (omega arith)
+take-drop-take zero (suc i) size b h = let z : ⊥ = omega arith in absurd z
+take-drop-take (suc n) (suc i) size [] h = refl
+take-drop-take (suc n) (suc i) size (x ∷ b) h = take-drop-take n i size b (omega arith)
+
+pub field-part : (b : List ℕ) (at n i size : ℕ) → i + size ≤ n → field (take n (drop at b)) i size ≡ field b (at + i) size
+field-part b at n i size h = ap number (take-drop-take n i size (drop at b) h ∙ ap (take size) (drop-drop i at b))
+
+-- ---- the command at a place, by the three fields read there
+pub run-read : (c : List ℕ) (at : ℕ) (values : List ℤ) {tag operation : ℕ} {v : ℤ}
+    → tag ≡ field c (at + tagAt) 1 → operation ≡ field c (at + operationAt) 1 → v ≡ integer (field c (at + valueAt) 4)
+    → operateTag values tag operation v ≡ runCommand (take commandSize (drop at c)) values
+unfolding runCommand
+run-read c at values {tag} p q r =
+    ap₂ (operateTag values tag)
+    (q ∙ sym (field-part c at commandSize operationAt 1 (omega arith)))
+    (r ∙ ap integer (sym (field-part c at commandSize valueAt 4 (omega arith))))
+    ∙ ap (λ (t : ℕ). operateTag values t (field (take commandSize (drop at c)) operationAt 1) (integer (field (take commandSize (drop at c)) valueAt 4)))
+    (p ∙ sym (field-part c at commandSize tagAt 1 (omega arith)))
+
+-- ---- the commands from a place on: none where fewer than eight bytes are left, else one and those behind it
+pub run-end : (c : List ℕ) (at : ℕ) (values : List ℤ) → length c - at < commandSize → values ≡ runCommands (commandsIn (drop at c)) values
+run-end c at values h =
+    sym (ap (λ (n : ℕ). runCommands (parts n commandSize (drop at c)) values) {x = length (drop at c) / commandSize} {y = 0} (omega (arith, length-drop at c)))
+
+pub run-next : (c : List ℕ) (at : ℕ) (values : List ℤ) → at + commandSize ≤ length c
+    → runCommands (commandsIn (drop at c)) values ≡ runCommands (commandsIn (drop (at + commandSize) c)) (runCommand (take commandSize (drop at c)) values)
+run-next c at values h =
+    let rest = drop (at + commandSize) c in
+    ap (λ (n : ℕ). runCommands (parts n commandSize (drop at c)) values) {x = length (drop at c) / commandSize} {y = suc (length rest / commandSize)}
+    (omega (arith, length-drop at c, length-drop (at + commandSize) c))
+    ∙ ap (λ (l : List ℕ). runCommands (parts (length rest / commandSize) commandSize l) (runCommand (take commandSize (drop at c)) values)) (drop-drop commandSize at c)
+
+-- ---- the commands behind a right message's dependencies are the message's commands
+pub commandsIn-message : (m : Message) → T (layoutRight m) → commandsIn (drop (commandsStart (dependencyCount m)) m) ≡ commandsOf m
+commandsIn-message m t =
+    let start = commandsStart (dependencyCount m) in
+    let e : length m ≡ start + 8 * commandCount m = layout-sized m t .total in
+    ap (λ (n : ℕ). parts n commandSize (drop start m)) {x = length (drop start m) / commandSize} {y = commandCount m} (omega (arith, length-drop start m))
+
+-- so a delta that passes 3 to 6 is run
+pub run-message : (m : Message) (values : List ℤ) → T (passes m) → runCommands (commandsIn (drop (commandsStart (dependencyCount m)) m)) values ≡ runDelta m values
+unfolding runDelta
+run-message m values t = ap (λ (l : List (List ℕ)). runCommands l values) (commandsIn-message m (passes-layout m t))

@@ -1,0 +1,38 @@
+-- Values as bytes, four for each; and that they can be written one after the other.
+use mathlib.Core.Path.{_≡_, refl, sym, ap, ap₂, _∙_}
+use mathlib.Core.List.{List, [], _∷_, _++_, map, append-assoc, append-nil}
+use Prim.Native.Nat.{ℕ, _+_, _*_, _≤_, _<_}
+use native.Mathlib.Omega.{arith}
+use native.Mathlib.Numerals.{add-one}
+use lib.IntN.{ℤ, pos}
+use lib.ListN.{length, take, getD, length-append}
+use lib.Seq.{paste, take-suc, length-take-le}
+use Rattle.model.specs.Bytes.{bytes, join, word}
+use Rattle.laws.specs.BytesLaws.{length-bytes}
+use Rattle.buffer.specs.PasteLaws.{paste-paste}
+
+abbrev pub wordsOf : List ℤ → List ℕ
+wordsOf values = join (map (λ v. bytes 4 (word v)) values)
+
+pub words-length : (values : List ℤ) → length (wordsOf values) ≡ 4 * length values
+words-length [] = refl
+words-length (v ∷ values) =
+    length-append (bytes 4 (word v)) (wordsOf values) ∙ omega (arith, length-bytes 4 (word v), words-length values)
+
+-- one value more
+words-snoc : (values : List ℤ) (v : ℤ) → wordsOf (values ++ (v ∷ [])) ≡ wordsOf values ++ bytes 4 (word v)
+words-snoc [] v = append-nil (bytes 4 (word v))
+words-snoc (x ∷ values) v =
+    ap (λ (b : List ℕ). bytes 4 (word x) ++ b) (words-snoc values v) ∙ sym (append-assoc (bytes 4 (word x)) (wordsOf values) (bytes 4 (word v)))
+
+-- the first i values are written, and then the value at i: so are the first i + 1
+pub words-next : (b : List ℕ) (at : ℕ) (values : List ℤ) (i : ℕ) → i < length values → at + 4 * i ≤ length b
+    → paste (paste b at (wordsOf (take i values)) (4 * i)) (at + 4 * i) (bytes 4 (word (getD values i (pos 0)))) 4
+    ≡ paste b at (wordsOf (take (i + 1) values)) (4 * (i + 1))
+words-next b at values i h k =
+    let v = getD values i (pos 0) in
+    let written : length (wordsOf (take i values)) ≡ 4 * i = words-length (take i values) ∙ ap (λ (n : ℕ). 4 * n) (length-take-le i values (omega arith)) in
+    let more : wordsOf (take i values) ++ bytes 4 (word v) ≡ wordsOf (take (i + 1) values) =
+    sym (words-snoc (take i values) v) ∙ ap wordsOf (sym (take-suc values i (pos 0) h)) ∙ ap (λ (n : ℕ). wordsOf (take n values)) (sym (add-one i)) in
+    paste-paste b at (wordsOf (take i values)) (bytes 4 (word v)) (4 * i) 4 k written
+    ∙ ap₂ (paste b at) more (let e : 4 * i + 4 ≡ 4 * (i + 1) = omega arith in e)
