@@ -9,7 +9,7 @@ use native.Mathlib.Nat.{mod-eq-of-lt, pow-suc, mul-assoc, mul-comm, one-le-pow, 
 use lib.Dec.{T, ltb, lit<, lit≤, ltb→lt, lt→ltb, nltb→le}
 use lib.Arith.{mod-mul}
 use lib.ListN.{length, take, drop, length-append, length-drop, length-take}
-use lib.Seq.{take-at, drop-at, take-append-le, drop-append-le}
+use lib.Seq.{take-at, drop-at, take-append-le, drop-append-le, take-take, drop-drop}
 use lib.IntN.{ℤ, pos, negsuc, subℕ}
 use lib.Signed.{mag}
 use mir.Syntax.{w32}
@@ -83,6 +83,16 @@ field-range b at size t =
 pub field-append : (a b : List ℕ) (at size : ℕ) → at + size ≤ length a → field (a ++ b) at size ≡ field a at size
 field-append a b at size h =
     ap number (ap (take size) (drop-append-le at a b (omega arith)) ∙ take-append-le size (drop at a) b (omega (arith, length-drop at a)))
+
+-- a field of a part is a field of the whole
+take-drop-take : (n i size : ℕ) (b : List ℕ) → i + size ≤ n → take size (drop i (take n b)) ≡ take size (drop i b)
+take-drop-take n zero size b h = take-take size n b (omega arith)
+take-drop-take zero (suc i) size b h = let z : ⊥ = omega arith in absurd z
+take-drop-take (suc n) (suc i) size [] h = refl
+take-drop-take (suc n) (suc i) size (x ∷ b) h = take-drop-take n i size b (omega arith)
+
+pub field-part : (b : List ℕ) (at n i size : ℕ) → i + size ≤ n → field (take n (drop at b)) i size ≡ field b (at + i) size
+field-part b at n i size h = ap number (take-drop-take n i size (drop at b) h ∙ ap (take size) (drop-drop i at b))
 
 -- ---- parts of equal size, end to end
 pub parts-join : (size : ℕ) (l : List (List ℕ)) (rest : List ℕ) → ((b : List ℕ) → b ∈ l → length b ≡ size) → parts (length l) size (join l ++ rest) ≡ l

@@ -11,18 +11,9 @@ use Rattle.model.specs.Bytes.{number, field, parts, integer}
 use Rattle.model.specs.Layout.{commandSize, operationAt, tagAt, valueAt}
 use Rattle.model.specs.Message.{Message, dependencyCount, commandCount, commandsStart, commandsOf, layoutRight, passes}
 use Rattle.model.specs.Setpoints.{runCommand, runCommands, runDelta}
+use Rattle.laws.specs.BytesLaws.{field-part}
 use Rattle.laws.specs.MessageLaws.{layout-sized, passes-layout}
 use Rattle.setpoints.specs.Commands.{commandsIn, operateTag}
-
--- ---- a field of a part is a field of the whole
-take-drop-take : (n i size : ℕ) (b : List ℕ) → i + size ≤ n → take size (drop i (take n b)) ≡ take size (drop i b)
-take-drop-take n zero size b h = take-take size n b (omega arith)
-take-drop-take zero (suc i) size b h = let z : ⊥ = omega arith in absurd z
-take-drop-take (suc n) (suc i) size [] h = refl
-take-drop-take (suc n) (suc i) size (x ∷ b) h = take-drop-take n i size b (omega arith)
-
-pub field-part : (b : List ℕ) (at n i size : ℕ) → i + size ≤ n → field (take n (drop at b)) i size ≡ field b (at + i) size
-field-part b at n i size h = ap number (take-drop-take n i size (drop at b) h ∙ ap (take size) (drop-drop i at b))
 
 -- ---- the command at a place, by the three fields read there
 pub run-read : (c : List ℕ) (at : ℕ) (values : List ℤ) {tag operation : ℕ} {v : ℤ}

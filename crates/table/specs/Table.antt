@@ -1,0 +1,27 @@
+-- What a table stands for: the messages that start at its places in the pool. The pool is any run of bytes.
+use mathlib.Core.List.{List, map}
+use Prim.Native.Nat.{ℕ, _+_}
+use lib.ListN.{take, drop}
+use Rattle.model.specs.Bytes.{field}
+use Rattle.model.specs.Layout.{lengthAt}
+use Rattle.model.specs.Message.{Message}
+use Rattle.model.specs.Order.{State, stateOf}
+use Rattle.model.specs.Image.{Valid}
+use Rattle.table.specs.declared.Table.{Table}
+
+abbrev pub startsOf : Table → List ℕ
+startsOf t = take (t .count) (t .starts)
+
+-- The message that starts at a place, cut by its length field.
+abbrev pub messageFrom : List ℕ → ℕ → Message
+messageFrom pool at = take (field pool (at + lengthAt) 2) (drop at pool)
+
+abbrev pub deltasOf : List ℕ → List ℕ → List Message
+deltasOf pool starts = map (messageFrom pool) starts
+
+abbrev pub setIn : List ℕ → List ℕ → State
+setIn pool starts = stateOf (deltasOf pool starts)
+
+-- At most 64 messages that pass 3 to 6, by ascending sequence.
+abbrev pub Holds : List ℕ → List ℕ → Type 0
+Holds pool starts = Valid (setIn pool starts)

@@ -1,0 +1,40 @@
+-- A message that passes 3 to 6 lies inside the pool, and its fields are read there.
+use mathlib.Core.Path.{_≡_, sym, _∙_, ap}
+use mathlib.Core.List.{List}
+use Prim.Native.Nat.{ℕ, _+_, _-_, _≤_, _<_, min}
+use native.Mathlib.Omega.{arith}
+use lib.ListN.{length, take, drop, length-take, length-drop}
+use lib.Dec.{T}
+use Rattle.model.specs.Bytes.{field}
+use Rattle.model.specs.Layout.{lengthAt}
+use Rattle.model.specs.Message.{Message, passes}
+use Rattle.laws.specs.BytesLaws.{field-part}
+use Rattle.laws.specs.MessageLaws.{Sized, passes-sized, sized-range}
+use Rattle.table.specs.Table.{messageFrom}
+
+pub record Lies (pool : List ℕ) (at : ℕ) : Type 0 where
+  pub least : 48 ≤ field pool (at + lengthAt) 2
+  pub most : field pool (at + lengthAt) 2 ≤ 200
+  pub inside : at + field pool (at + lengthAt) 2 ≤ length pool
+  pub size : length (messageFrom pool at) ≡ field pool (at + lengthAt) 2
+  -- a field of the message is the pool's, so much further on
+  pub fields : (i size : ℕ) → i + size ≤ field pool (at + lengthAt) 2 → field (messageFrom pool at) i size ≡ field pool (at + i) size
+
+pub passes-lies : (pool : List ℕ) (at : ℕ) → T (passes (messageFrom pool at)) → Lies pool at
+passes-lies pool at t =
+    let total : ℕ = field pool (at + 4) 2 in
+    let m : Message = messageFrom pool at in
+    let s : Sized m = passes-sized m t in
+    let least : 48 ≤ length m = sized-range m s .0 in
+    let most : length m ≤ 200 = sized-range m s .1 in
+    let cut : length m ≡ min total (length (drop at pool)) = length-take total (drop at pool) in
+    let left : length (drop at pool) ≡ length pool - at = length-drop at pool in
+    let e : field m 4 2 ≡ total = field-part pool at total 4 2 (omega arith) in
+    let size : length m ≡ total = sym (s .stated) ∙ e in
+    record {
+      least = omega arith;
+      most = omega arith;
+      inside = omega arith;
+      size = size;
+      fields = λ i n h. field-part pool at total i n h;
+    }
