@@ -16,7 +16,7 @@ use Rattle.model.specs.Image.{imageOf, Valid, stateIn, isImage}
 use Rattle.model.specs.Codes.{Conditions, lowestCode, messageConditions, smallSteps, present, conflicts, full}
 use Rattle.model.specs.Calls.{Delivered, deliverAnswer, deliverCode, deliver}
 use Rattle.model.specs.PlainStation.{accepts, receive}
-use Rattle.order.specs.TestLaws.{and-l, and-r, and-i, decide, has→∈, ∈→has, same→eq}
+use Rattle.order.specs.TestLaws.{is-true, and-l, and-r, and-i, decide, has→∈, ∈→has, same→eq}
 use Rattle.laws.specs.SetLaws.{insert-ascending, insert-from, insert-length, insert-there, find-here}
 use Rattle.laws.specs.ImageLaws.{state-back, image-size, image-passes}
 
@@ -26,10 +26,6 @@ stateConditions S m room = (1, smallSteps room) ∷ (2, false) ∷ messageCondit
 
 unfoldable pub stateCode : State → Message → ℕ → ℕ
 stateCode S m room = lowestCode (stateConditions S m room)
-
-is-true : (b : Bool) → T b → b ≡ true
-is-true true t = refl
-is-true false t = absurd t
 
 -- the code, from whether 1 and 2 apply to the image
 abbrev codeWith : Message → ℕ → Bool → Bool → State → ℕ

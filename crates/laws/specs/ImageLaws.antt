@@ -102,7 +102,7 @@ module _ (S : State) (valid : Valid S) where
   pub state-back : stateIn (imageOf S) ≡ S
   state-back = ap stateOf (ap setOf messages-back ∙ setOf-same (S .deltas) (logOf S ++ heldOf S) (valid .ascends) (log-held S (valid .ascends)))
 
-  used-fits : length (usedOf S) ≤ imageSize
+  pub used-fits : length (usedOf S) ≤ imageSize
   unfolding usedOf messagesOf
   used-fits = omega (
     arith,

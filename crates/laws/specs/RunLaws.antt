@@ -39,10 +39,10 @@ pub record CallFacts (S next : State) (c : Call) (a : Delivered) : Type 0 where
   pub read : readSteps (a .undos + a .executions) (a .steps) ≡ some (stepsOf (sequencesOf (logOf S)) (sequencesOf (logOf next)))
 
 -- no step from a log to itself
-undos-self : (l : List ℕ) → undosOf l l ≡ 0
+pub undos-self : (l : List ℕ) → undosOf l l ≡ 0
 undos-self l = omega (arith, common-self l)
 
-steps-self : (l : List ℕ) → stepsOf l l ≡ []
+pub steps-self : (l : List ℕ) → stepsOf l l ≡ []
 steps-self l = ap (λ (r : List ℕ). map undo (reverse r) ++ map execute r) (ap (λ (n : ℕ). drop n l) (common-self l) ∙ drop-length l)
 
 -- the names of the steps between two logs are of those logs

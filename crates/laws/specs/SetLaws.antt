@@ -100,6 +100,24 @@ insert-there m (x ∷ S) h k =
     go false false f g ih (inl e) = absurd (g tt e)
     go false false f g ih (inr j) = ap suc (ih j)
 
+-- one of the same sequence stays as it is
+pub insert-present : (m : Message) (l : List Message) → Ascending l → sequenceOf m ∈ map sequenceOf l → insert m l ≡ l
+insert-present m [] h k = absurd (List·Memᴰ·not-nil k)
+insert-present m (x ∷ l) h k =
+    go (ltb (sequenceOf m) (sequenceOf x)) (eqb (sequenceOf m) (sequenceOf x)) (ltb→lt (sequenceOf m) (sequenceOf x)) (not-eqb (sequenceOf m) (sequenceOf x)) (λ j. insert-present m l (h .1) j) (List·Memᴰ·cases-cons k)
+  where
+    above : sequenceOf m ∈ map sequenceOf l → sequenceOf x < sequenceOf m
+    above j = let r = Memᴰ·of-map sequenceOf l j in omega (arith, h .0 (r .0) (r .1), r .2)
+
+    go : (b c : Bool) → (T b → sequenceOf m < sequenceOf x) → (T (not c) → sequenceOf m ≡ sequenceOf x → ⊥)
+        → (sequenceOf m ∈ map sequenceOf l → insert m l ≡ l) → (sequenceOf m ≡ sequenceOf x) ⊎ (sequenceOf m ∈ map sequenceOf l)
+        → cond b (m ∷ x ∷ l) (cond c (x ∷ l) (x ∷ insert m l)) ≡ x ∷ l
+    go true c f g ih (inl e) = let z : ⊥ = (let u : sequenceOf m < sequenceOf x = f tt in omega (arith, e)) in absurd z
+    go true c f g ih (inr j) = let z : ⊥ = (let u : sequenceOf m < sequenceOf x = f tt in omega (arith, above j)) in absurd z
+    go false true f g ih o = refl
+    go false false f g ih (inl e) = absurd (g tt e)
+    go false false f g ih (inr j) = ap (λ (r : List Message). x ∷ r) (ih j)
+
 pub setOf-ascending : (l : List Message) → Ascending (setOf l)
 setOf-ascending [] = tt
 setOf-ascending (m ∷ l) = insert-ascending m (setOf l) (setOf-ascending l)

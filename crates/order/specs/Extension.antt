@@ -49,7 +49,7 @@ module _ {A : Type 0} (name : A → ℕ) (needs : A → List ℕ) where
 
   module _ {K : Type 0} (key : A → K) (less : K → K → Bool) (tot : Total less) (S : List A) (keys : (a b : A) → a ∈ S → b ∈ S → key a ≡ key b → a ≡ b) where
     -- the next one is placed
-    grow-next : (n : ℕ) (done : List ℕ) (a : A) → Next name needs key less tot S done a → grow name needs key less S (suc n) done ≡ a ∷ grow name needs key less S n (name a ∷ done)
+    pub grow-next : (n : ℕ) (done : List ℕ) (a : A) → Next name needs key less tot S done a → grow name needs key less S (suc n) done ≡ a ∷ grow name needs key less S n (name a ∷ done)
     grow-next n done a x = go (lowestOf name needs key less (keep (ready name needs done) S)) (next-is name needs key less tot S done)
       where
         go : (o : Option A) → Next? name needs key less tot S done o → place name needs key less (grow name needs key less S n) done o ≡ a ∷ grow name needs key less S n (name a ∷ done)

@@ -35,6 +35,15 @@ pub or-e : (a b : Bool) → T (a || b) → T a ⊎ T b
 or-e true b p = inl tt
 or-e false b p = inr p
 
+-- a test that is passed is true, and one that is not is false
+pub is-true : (b : Bool) → T b → b ≡ true
+is-true true t = refl
+is-true false t = absurd t
+
+pub is-false : (b : Bool) → T (not b) → b ≡ false
+is-false true t = absurd t
+is-false false t = refl
+
 -- a test is passed or its negation is
 pub decide : (b : Bool) → T b ⊎ T (not b)
 decide true = inl tt

@@ -1,0 +1,168 @@
+/* A host in C: begins a station, delivers the paper's examples, and checks answers, images and steps.
+ * Each check prints nothing; the last line counts them, and the exit status is 1 if one failed. */
+#include "bivamolune.h"
+
+#include <stdio.h>
+#include <string.h>
+
+static unsigned passed, failed;
+
+static void check(int right, const char *what) {
+    if (right) {
+        passed++;
+    } else {
+        failed++;
+        printf("failed: %s\n", what);
+    }
+}
+
+/* A plain delta of group 1 with one command and at most one dependency. */
+struct delta {
+    uint8_t bytes[200];
+    size_t size;
+};
+
+static void put(uint8_t *at, uint32_t value, size_t size) {
+    for (size_t i = size; i-- > 0; value /= 256) at[i] = (uint8_t)(value % 256);
+}
+
+static void put_sequence(uint8_t *at, uint8_t line, uint16_t number) {
+    memset(at, 0, 12);
+    at[5] = line;
+    at[9] = 1;
+    put(at + 10, number, 2);
+}
+
+static struct delta delta(uint8_t line, uint16_t number, uint8_t operation, uint8_t tag, int32_t value) {
+    struct delta d = {{0}, 48};
+    d.bytes[0] = 1;
+    d.bytes[3] = 1;
+    put(d.bytes + 4, 48, 2);
+    put(d.bytes + 6, 40, 2);
+    put(d.bytes + 8, 40, 2);
+    put_sequence(d.bytes + 12, line, number);
+    put(d.bytes + 24, 1, 4);
+    d.bytes[40] = operation;
+    d.bytes[41] = tag;
+    put(d.bytes + 44, (uint32_t)value, 4);
+    return d;
+}
+
+static struct delta prioritised(struct delta d, uint32_t block, uint32_t priority) {
+    d.bytes[1] = 1;
+    put(d.bytes + 28, block, 4);
+    put(d.bytes + 32, priority, 4);
+    return d;
+}
+
+static struct delta naming(struct delta d, uint8_t line, uint16_t number) {
+    memmove(d.bytes + 52, d.bytes + 40, 8);
+    put_sequence(d.bytes + 40, line, number);
+    d.bytes[2] = 1;
+    d.size = 60;
+    put(d.bytes + 4, 60, 2);
+    put(d.bytes + 8, 52, 2);
+    return d;
+}
+
+/* ---- a station */
+static uint8_t image[BIVAMOLUNE_IMAGE_SIZE];
+static uint8_t steps[BIVAMOLUNE_STEP_ROOM];
+
+static void begin(void) {
+    memset(image, 0xEE, sizeof image);
+    memset(steps, 0xEE, sizeof steps);
+    check(bivamolune_empty(image, sizeof image) == 0, "empty");
+}
+
+static uint32_t deliver(struct delta d) {
+    memset(steps, 0xEE, sizeof steps);
+    return bivamolune_deliver(image, sizeof image, d.bytes, d.size, steps, sizeof steps);
+}
+
+static uint32_t word(const uint8_t *at) {
+    return (uint32_t)at[0] << 24 | (uint32_t)at[1] << 16 | (uint32_t)at[2] << 8 | at[3];
+}
+
+static int32_t setpoint(unsigned tag) { return (int32_t)word(image + 16 + 4 * tag); }
+
+/* Counts: L, H and the bytes used. */
+static int counts(unsigned l, unsigned h, unsigned used) {
+    return image[0] * 256u + image[1] == l && image[2] * 256u + image[3] == h && image[8] * 256u + image[9] == used;
+}
+
+/* The answer, and the steps: "u" or "x", a line's letter and a digit for each; the rest of the buffer is as it was. */
+static int answers(uint32_t answer, uint32_t code, uint32_t undos, uint32_t executions, const char *names) {
+    size_t n = strlen(names) / 3;
+    int right = bivamolune_code(answer) == code && bivamolune_undos(answer) == undos
+        && bivamolune_executions(answer) == executions && n == undos + executions;
+    for (size_t i = 0; i < n; i++) {
+        uint8_t step[BIVAMOLUNE_STEP_SIZE] = {names[3 * i] == 'u' ? 1 : 2, 0, 0, 0};
+        put_sequence(step + 4, (uint8_t)(names[3 * i + 1] - 'A' + 10), (uint16_t)(names[3 * i + 2] - '0'));
+        right = right && memcmp(steps + i * sizeof step, step, sizeof step) == 0;
+    }
+    for (size_t i = n * BIVAMOLUNE_STEP_SIZE; i < sizeof steps; i++) right = right && steps[i] == 0xEE;
+    return right;
+}
+
+static void run_examples(void) {
+    struct delta a1 = delta(10, 1, 1, 3, 1500), b1 = delta(11, 1, 2, 3, -20), a2 = delta(10, 2, 1, 3, 7);
+
+    begin();
+    check(counts(0, 0, 272), "no deltas");
+
+    check(answers(deliver(a1), 0, 0, 1, "xA1") && setpoint(3) == 1500, "A1");
+    check(answers(deliver(a1), 0, 0, 0, ""), "A1 again");
+
+    begin();
+    check(answers(deliver(a2), 0, 0, 0, "") && counts(0, 1, 320), "A2 is held");
+    check(answers(deliver(a1), 0, 0, 2, "xA1xA2") && counts(2, 0, 368), "then A1");
+
+    begin();
+    check(answers(deliver(b1), 0, 0, 1, "xB1"), "B1");
+    check(answers(deliver(a1), 0, 1, 2, "uB1xA1xB1") && setpoint(3) == 1480, "then A1 undoes B1");
+
+    begin();
+    deliver(prioritised(b1, 1, 5));
+    deliver(prioritised(delta(12, 1, 2, 4, 20), 1, 7));
+    check(answers(deliver(a1), 0, 2, 3, "uB1uC1xA1xC1xB1"), "priorities");
+    check(answers(deliver(delta(12, 2, 2, 4, 1)), 0, 0, 1, "xC2") && counts(4, 0, 464), "with plain C2");
+
+    begin();
+    deliver(naming(a1, 11, 1));
+    check(answers(deliver(naming(b1, 10, 1)), 0, 0, 0, "") && counts(0, 2, 392), "a ring");
+}
+
+static void run_refusals(void) {
+    struct delta a1 = delta(10, 1, 1, 3, 1500), other = delta(10, 1, 1, 3, 2), zero = delta(10, 0, 1, 3, 1);
+    struct delta wrong_tag = delta(10, 1, 1, 64, 1), own = naming(delta(10, 2, 1, 3, 1), 10, 1);
+    uint8_t before[BIVAMOLUNE_IMAGE_SIZE];
+
+    begin();
+    deliver(a1);
+    memcpy(before, image, sizeof image);
+    check(bivamolune_empty(image, sizeof image - 1) == 1, "an image of 16,383 to empty");
+    check(bivamolune_deliver(image, sizeof image - 1, a1.bytes, a1.size, steps, sizeof steps) == 1, "an image of 16,383");
+    check(bivamolune_deliver(image, sizeof image, a1.bytes, a1.size, steps, sizeof steps - 1) == 1, "2,031 bytes for steps");
+    check(bivamolune_deliver(image, sizeof image, a1.bytes, a1.size - 1, steps, sizeof steps) == 3, "a message of 47");
+    check(bivamolune_deliver(image, sizeof image, NULL, 0, steps, sizeof steps) == 3, "no message");
+    check(answers(deliver(zero), 4, 0, 0, ""), "A0");
+    check(answers(deliver(own), 5, 0, 0, ""), "A2 naming A1");
+    check(answers(deliver(wrong_tag), 6, 0, 0, ""), "tag 64");
+    check(answers(deliver(other), 7, 0, 0, ""), "A1 with another value");
+    check(memcmp(before, image, sizeof image) == 0, "a refusal writes nothing");
+
+    for (uint8_t line = 11; line < 74; line++) deliver(delta(line, 1, 1, 3, line));
+    check(counts(64, 0, 272 + 64 * 48), "64 deltas");
+    check(answers(deliver(delta(74, 1, 1, 3, 1)), 8, 0, 0, ""), "a 65th");
+
+    image[1] = 65;
+    check(answers(deliver(a1), 2, 0, 0, ""), "a damaged count");
+}
+
+int main(void) {
+    run_examples();
+    run_refusals();
+    printf("%u passed, %u failed\n", passed, failed);
+    return failed != 0;
+}
