@@ -1,0 +1,182 @@
+//! The same list of calls to two implementations, compared byte for byte, and the
+//! shortest list that still shows a difference.
+
+use std::fmt::Write;
+
+use crate::boundary::{code, executions, length, undos, Calls};
+use crate::call::{Action, Call, Outcome, World};
+
+/// Where two implementations part, and in what.
+#[derive(Clone, Debug, PartialEq, Eq)]
+pub struct Difference {
+    /// The place of the call in its list.
+    pub place: usize,
+    pub what: String,
+}
+
+/// Makes the calls on both, each time from the same station, up to a difference.
+pub fn compare(one: &dyn Calls, two: &dyn Calls, calls: &[Call]) -> Option<Difference> {
+    let mut world = World::default();
+    for (place, call) in calls.iter().enumerate() {
+        let first = world.perform(one, call);
+        let second = world.perform(two, call);
+        if first != second {
+            let what = difference(&first, &second);
+            return Some(Difference { place, what });
+        }
+        world.follow(call, &first);
+    }
+    None
+}
+
+/// What differs, in words.
+fn difference(one: &Outcome, two: &Outcome) -> String {
+    if one.answer != two.answer {
+        return format!("answers {:#x} and {:#x}", one.answer, two.answer);
+    }
+    let buffers = [
+        ("image", &one.image, &two.image),
+        ("buffer", &one.buffer, &two.buffer),
+    ];
+    for (name, first, second) in buffers {
+        for (at, (a, b)) in first.iter().zip(second).enumerate() {
+            if a != b {
+                return format!("{name} byte {at}: {a:02X} and {b:02X}");
+            }
+        }
+    }
+    "buffers of different size".to_string()
+}
+
+/// The list with its composed messages written out, so that a delivery no longer
+/// hangs on the compose before it.
+fn spelled_out(calls: &dyn Calls, list: &[Call]) -> Vec<Call> {
+    let mut world = World::default();
+    let mut spelled = Vec::new();
+    for call in list {
+        spelled.push(world.spelled_out(call));
+        let outcome = world.perform(calls, call);
+        world.follow(call, &outcome);
+    }
+    spelled
+}
+
+/// A short list that still differs. Both the list as it is and the list spelled out
+/// are shrunk, and the shorter is taken.
+pub fn shrink(one: &dyn Calls, two: &dyn Calls, calls: &[Call]) -> Vec<Call> {
+    let as_it_is = drop_calls(one, two, calls.to_vec());
+    let spelled = spelled_out(one, calls);
+    if compare(one, two, &spelled).is_none() {
+        return as_it_is;
+    }
+    let spelled = drop_calls(one, two, spelled);
+    if spelled.len() <= as_it_is.len() {
+        spelled
+    } else {
+        as_it_is
+    }
+}
+
+/// Drops calls while the lists still differ: first all past the difference, then
+/// runs of calls, each half as long as the last, down to single ones.
+fn drop_calls(one: &dyn Calls, two: &dyn Calls, mut kept: Vec<Call>) -> Vec<Call> {
+    let mut run = kept.len();
+    while run > 0 {
+        match compare(one, two, &kept) {
+            Some(found) => kept.truncate(found.place + 1),
+            None => return kept,
+        }
+        let dropped = drop_runs(one, two, &mut kept, run);
+        if !dropped || run > 1 {
+            run /= 2;
+        }
+    }
+    kept
+}
+
+/// Drops each run of calls without which there is a difference still.
+fn drop_runs(one: &dyn Calls, two: &dyn Calls, kept: &mut Vec<Call>, run: usize) -> bool {
+    let mut dropped = false;
+    let mut start = 0;
+    while start < kept.len() {
+        let end = (start + run).min(kept.len());
+        let mut fewer = kept.clone();
+        fewer.drain(start..end);
+        match compare(one, two, &fewer) {
+            Some(found) => {
+                fewer.truncate(found.place + 1);
+                *kept = fewer;
+                dropped = true;
+            }
+            None => start = end,
+        }
+    }
+    dropped
+}
+
+/// The report of a difference: the seed and the shortest list found.
+pub fn report(one: &dyn Calls, two: &dyn Calls, seed: u64, calls: &[Call]) -> String {
+    let short = shrink(one, two, calls);
+    let mut text = format!("seed {seed} differs; {} calls show it:\n", short.len());
+    text += &trace(one, two, &short);
+    text
+}
+
+/// Each call of a list with both answers, up to a difference.
+pub fn trace(one: &dyn Calls, two: &dyn Calls, calls: &[Call]) -> String {
+    let mut text = String::new();
+    let mut world = World::default();
+    for (place, call) in calls.iter().enumerate() {
+        let first = world.perform(one, call);
+        let second = world.perform(two, call);
+        let _ = writeln!(text, "{place}: {}", describe(call));
+        let _ = writeln!(text, "    one: {}", answer(call, first.answer));
+        if first != second {
+            let _ = writeln!(text, "    two: {}", answer(call, second.answer));
+            let _ = writeln!(text, "    difference: {}", difference(&first, &second));
+            break;
+        }
+        world.follow(call, &first);
+    }
+    text
+}
+
+/// A packed answer taken apart.
+fn answer(call: &Call, packed: u32) -> String {
+    match call.action {
+        Action::Empty => format!("code {packed}"),
+        Action::Compose { .. } => {
+            format!("code {} length {}", code(packed), length(packed))
+        }
+        _ => {
+            let (undone, executed) = (undos(packed), executions(packed));
+            format!("code {} undos {undone} executions {executed}", code(packed))
+        }
+    }
+}
+
+/// A call with its arguments.
+fn describe(call: &Call) -> String {
+    let action = match &call.action {
+        Action::Deliver { message, steps } => {
+            format!("Deliver steps {steps} message {}", hex(message))
+        }
+        Action::Compose {
+            line,
+            commands,
+            priority_flag,
+            priority,
+            message,
+        } => format!(
+            "Compose line {} commands {} flag {priority_flag} priority {priority} message {message}",
+            hex(line),
+            hex(commands)
+        ),
+        other => format!("{other:?}"),
+    };
+    format!("{:?} {action}", call.view)
+}
+
+fn hex(bytes: &[u8]) -> String {
+    bytes.iter().map(|byte| format!("{byte:02X}")).collect()
+}

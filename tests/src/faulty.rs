@@ -1,0 +1,276 @@
+//! Deliberately wrong variants of the second implementation. Each shows that the
+//! differential runner finds its fault.
+
+use crate::boundary::{code, executions, length, undos, Calls, Reference};
+use crate::reference::bytes::{i32_at, u16_at, u8_at};
+use crate::reference::compose::Request;
+use crate::reference::image::{self, read_sized};
+use crate::reference::message::Delta;
+use crate::reference::order::{key, Order};
+use crate::reference::steps::{self, Steps};
+
+/// What is wrong.
+#[derive(Clone, Copy, Debug, PartialEq, Eq)]
+pub enum Fault {
+    /// Answers 8 with 63 present.
+    FullAt63,
+    /// Orders the log by key alone, so that a need may follow its user.
+    KeyAlone,
+    /// Empty leaves the bytes past the setpoints.
+    TailNotCleared,
+    /// A repeat writes a step that it does not count.
+    RepeatWrites,
+    /// Counts one execution too many where there was an undo.
+    CountsOff,
+    /// Undoes and executes the whole log each time.
+    UndoesEverything,
+    /// A new delta waits behind any held one.
+    WaitsBehindHeld,
+    /// Undoes an addition by subtracting.
+    Subtracts,
+    /// Writes a step buffer though it refuses by 7.
+    RefusalWrites,
+    /// Clears the step buffer past the steps.
+    StepsCleared,
+    /// With 64 present, answers 8 where 7 applies.
+    FullBeforeConflict,
+    /// Answers 6 where 5 applies too.
+    RangeBeforeDependencies,
+    /// Does not look at the bytes past the used part.
+    TailUnchecked,
+    /// Does not look at the setpoints of the image.
+    SetpointsUnchecked,
+    /// Compose clears the buffer past the message.
+    ComposeClears,
+    /// Compose takes the next group always.
+    ComposeNextGroup,
+    /// Compose answers 11 at eight dependencies.
+    ComposeAtEight,
+}
+
+/// Every fault.
+pub const FAULTS: [Fault; 17] = [
+    Fault::FullAt63,
+    Fault::KeyAlone,
+    Fault::TailNotCleared,
+    Fault::RepeatWrites,
+    Fault::CountsOff,
+    Fault::UndoesEverything,
+    Fault::WaitsBehindHeld,
+    Fault::Subtracts,
+    Fault::RefusalWrites,
+    Fault::StepsCleared,
+    Fault::FullBeforeConflict,
+    Fault::RangeBeforeDependencies,
+    Fault::TailUnchecked,
+    Fault::SetpointsUnchecked,
+    Fault::ComposeClears,
+    Fault::ComposeNextGroup,
+    Fault::ComposeAtEight,
+];
+
+/// The second implementation with one fault.
+#[derive(Clone, Copy, Debug)]
+pub struct Faulty(pub Fault);
+
+impl Calls for Faulty {
+    fn empty(&self, image: &mut [u8]) -> u32 {
+        let before = image.to_vec();
+        let answer = Reference.empty(image);
+        if self.0 == Fault::TailNotCleared && answer == 0 {
+            image[272..].copy_from_slice(&before[272..]);
+        }
+        answer
+    }
+
+    fn deliver(&self, image: &mut [u8], message: &[u8], buffer: &mut [u8]) -> u32 {
+        if self.0 == Fault::FullAt63 && makes_64(image, message) {
+            return if buffer.len() < steps::BUFFER { 1 } else { 8 };
+        }
+        let before = image.to_vec();
+        let answer = Reference.deliver(image, message, buffer);
+        match (self.0, code(answer)) {
+            (Fault::KeyAlone, 0) => key_alone(image, answer),
+            (Fault::RepeatWrites, 0) => repeat_writes(&before, image, message, buffer, answer),
+            (Fault::CountsOff, 0) if undos(answer) > 0 => answer + 65_536,
+            (Fault::UndoesEverything, 0) => undoes_everything(&before, image, buffer, answer),
+            (Fault::WaitsBehindHeld, 0) => waits_behind_held(&before, image, message, answer),
+            (Fault::Subtracts, 0) => subtracts(&before, image, answer),
+            (Fault::RefusalWrites, 7) => {
+                buffer[..16].fill(0);
+                answer
+            }
+            (Fault::StepsCleared, 0) => {
+                buffer[16 * (undos(answer) + executions(answer))..].fill(0);
+                answer
+            }
+            (Fault::FullBeforeConflict, 7) if count(&before) == 64 => 8,
+            (Fault::RangeBeforeDependencies, 5) if range_is_wrong(message) => 6,
+            (Fault::TailUnchecked, 2) => without_tail(image, message, buffer),
+            (Fault::SetpointsUnchecked, 2) => without_setpoints(image, message, buffer),
+            _ => answer,
+        }
+    }
+
+    fn compose(&self, image: &[u8], request: &Request, message: &mut [u8]) -> u32 {
+        let before = message.to_vec();
+        let answer = Reference.compose(image, request, message);
+        if code(answer) != 0 {
+            return answer;
+        }
+        match self.0 {
+            Fault::ComposeClears => message[length(answer)..].fill(0),
+            Fault::ComposeNextGroup if u16_at(image, 0) > 0 => next_group(image, message),
+            Fault::ComposeAtEight if message[2] == 8 => {
+                message.copy_from_slice(&before);
+                return 11;
+            }
+            _ => {}
+        }
+        answer
+    }
+}
+
+/// How many deltas an image counts.
+fn count(image: &[u8]) -> u16 {
+    u16_at(image, 0).wrapping_add(u16_at(image, 2))
+}
+
+/// Whether the message would be the 64th delta of the image.
+fn makes_64(image: &[u8], message: &[u8]) -> bool {
+    let mut copy = image.to_vec();
+    let answer = Reference.deliver(&mut copy, message, &mut [0; steps::BUFFER]);
+    code(answer) == 0 && count(image) == 63 && count(&copy) == 64
+}
+
+fn key_alone(image: &mut [u8], answer: u32) -> u32 {
+    let copy = image.to_vec();
+    if let Ok((_, mut order)) = read_sized(&copy) {
+        order.log.sort_by_key(key);
+        image.copy_from_slice(&image::write(&order));
+    }
+    answer
+}
+
+fn repeat_writes(
+    before: &[u8],
+    image: &[u8],
+    message: &[u8],
+    buffer: &mut [u8],
+    answer: u32,
+) -> u32 {
+    if before == image {
+        let mut record = [2, 0, 0, 0].to_vec();
+        record.extend(&message[12..24]);
+        buffer[..16].copy_from_slice(&record);
+    }
+    answer
+}
+
+/// The steps over both logs whole.
+fn undoes_everything(before: &[u8], image: &[u8], buffer: &mut [u8], answer: u32) -> u32 {
+    let (Ok((_, old)), Ok((_, new))) = (read_sized(before), read_sized(image)) else {
+        return answer;
+    };
+    let mut undos = old.log_sequences();
+    undos.reverse();
+    let executions = new.log_sequences();
+    let all = 256 * undos.len() as u32 + 65_536 * executions.len() as u32;
+    steps::write(&Steps { undos, executions }, buffer);
+    all
+}
+
+fn waits_behind_held(before: &[u8], image: &mut [u8], message: &[u8], answer: u32) -> u32 {
+    let (Ok((mut set, old)), Ok(delta)) = (read_sized(before), Delta::check(message)) else {
+        return answer;
+    };
+    if old.held.is_empty() || set.insert(delta.sequence(), delta).is_some() {
+        return answer;
+    }
+    let mut held = old.held.clone();
+    held.push(delta);
+    held.sort_by_key(Delta::sequence);
+    let log = old.log.clone();
+    image.copy_from_slice(&image::write(&Order { log, held }));
+    0
+}
+
+/// Setpoints got from the old ones by taking additions back and executing the rest.
+fn subtracts(before: &[u8], image: &mut [u8], answer: u32) -> u32 {
+    let (Ok((_, old)), Ok((_, new))) = (read_sized(before), read_sized(image)) else {
+        return answer;
+    };
+    let kept = old.log.len() - undos(answer);
+    let undone: Vec<Delta> = old.log[kept..].iter().rev().map(|p| p.delta).collect();
+    let mut setpoints = [0; 64];
+    for (tag, setpoint) in setpoints.iter_mut().enumerate() {
+        *setpoint = i32_at(before, 16 + 4 * tag);
+    }
+    for command in undone.iter().flat_map(|delta| delta.commands().chunks(8)) {
+        if u8_at(command, 0) != 2 {
+            return answer;
+        }
+        setpoints[usize::from(command[1])] -= i32_at(command, 4);
+    }
+    for placed in &new.log[kept..] {
+        setpoints = crate::reference::setpoints::run(placed.delta.commands(), setpoints);
+    }
+    for (tag, setpoint) in setpoints.iter().enumerate() {
+        image[16 + 4 * tag..20 + 4 * tag].copy_from_slice(&setpoint.to_be_bytes());
+    }
+    answer
+}
+
+/// Whether the message without its dependencies answers 6.
+fn range_is_wrong(message: &[u8]) -> bool {
+    let commands = 40 + 12 * usize::from(message[2]);
+    let mut alone = [&message[..40], &message[commands..]].concat();
+    alone[2] = 0;
+    alone[4..10].copy_from_slice(&[0, 40 + 8 * message[3], 0, 40, 0, 40]);
+    Delta::check(&alone).is_err()
+}
+
+fn without_tail(image: &mut [u8], message: &[u8], buffer: &mut [u8]) -> u32 {
+    let mut copy = image.to_vec();
+    let used = usize::from(u16_at(&copy, 8)).min(copy.len());
+    copy[used..].fill(0);
+    let answer = Reference.deliver(&mut copy, message, buffer);
+    if code(answer) != 2 {
+        image.copy_from_slice(&copy);
+    }
+    answer
+}
+
+fn without_setpoints(image: &mut [u8], message: &[u8], buffer: &mut [u8]) -> u32 {
+    let Some(mut right) = rebuilt(image) else {
+        return 2;
+    };
+    let answer = Reference.deliver(&mut right, message, buffer);
+    image.copy_from_slice(&right);
+    answer
+}
+
+/// The image with its setpoints computed anew, if that makes it one.
+fn rebuilt(image: &[u8]) -> Option<Vec<u8>> {
+    let mut setpoints = [0; 64];
+    let mut at = 272;
+    for _ in 0..u16_at(image, 0).min(64) {
+        let length = usize::from(u16_at(image, at + 4));
+        let delta = Delta::check(image.get(at..at + length)?).ok()?;
+        setpoints = crate::reference::setpoints::run(delta.commands(), setpoints);
+        at += length;
+    }
+    let mut image = image.to_vec();
+    for (tag, setpoint) in setpoints.iter().enumerate() {
+        image[16 + 4 * tag..20 + 4 * tag].copy_from_slice(&setpoint.to_be_bytes());
+    }
+    read_sized(&image).is_ok().then_some(image)
+}
+
+/// The highest group of the log plus one.
+fn next_group(image: &[u8], message: &mut [u8]) {
+    if let Ok((_, order)) = read_sized(image) {
+        let highest = order.log.iter().map(|p| p.delta.group()).max().unwrap_or(0);
+        message[24..28].copy_from_slice(&(highest + 1).to_be_bytes());
+    }
+}

@@ -1,0 +1,15 @@
+//! A second implementation of the furnace log, written from the paper alone,
+//! and the tools that hold another implementation against it.
+
+#![deny(warnings)]
+#![deny(unsafe_code)]
+
+pub mod boundary;
+pub mod call;
+pub mod differential;
+pub mod edit;
+pub mod faulty;
+pub mod generate;
+pub mod random;
+pub mod reference;
+pub mod wire;

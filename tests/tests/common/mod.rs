@@ -1,0 +1,207 @@
+//! A station for tests. It reads images and steps by the paper's offsets itself.
+
+#![deny(warnings)]
+#![allow(dead_code)]
+
+use bivamolune_tests::boundary::{code, executions, length, undos, Calls};
+use bivamolune_tests::reference::compose::Request;
+use bivamolune_tests::wire::{add, line, set, Draft, Line};
+
+pub const A: u8 = 0x0A;
+pub const B: u8 = 0x0B;
+pub const C: u8 = 0x0C;
+pub const D: u8 = 0x0D;
+
+pub const IMAGE: usize = 16_384;
+pub const STEPS: usize = 2_032;
+pub const MESSAGE: usize = 200;
+
+/// What unwritten bytes of step and message buffers hold.
+pub const PATTERN: u8 = 0xA5;
+
+/// The implementation under test: the library's functions where they are linked.
+#[cfg(feature = "link")]
+pub const SUBJECT: bivamolune_tests::boundary::Library = bivamolune_tests::boundary::Library;
+#[cfg(not(feature = "link"))]
+pub const SUBJECT: bivamolune_tests::boundary::Reference = bivamolune_tests::boundary::Reference;
+
+/// A delta of a line of the examples, in group 1, which sets tag 0 to 1.
+pub fn delta(letter: u8, number: u16) -> Draft {
+    Draft::new(line(letter), number)
+}
+
+/// A1 of the examples: sets tag 3 to 1500.
+pub fn a1() -> Draft {
+    delta(A, 1).commands(&[set(3, 1500)])
+}
+
+/// B1 of the examples: adds -20 to tag 3.
+pub fn b1() -> Draft {
+    delta(B, 1).commands(&[add(3, -20)])
+}
+
+/// Line and number as in the examples: A1, B2; other lines by the last byte of the UID.
+pub fn name(sequence: &[u8]) -> String {
+    let number = u16::from_be_bytes([sequence[10], sequence[11]]);
+    match sequence[5] {
+        letter @ 0x0A..=0x0F => format!("{letter:X}{number}"),
+        other => format!("{other:02X}.{number}"),
+    }
+}
+
+/// The two-byte number at an offset.
+pub fn u16_at(bytes: &[u8], at: usize) -> usize {
+    usize::from(bytes[at]) * 256 + usize::from(bytes[at + 1])
+}
+
+/// The four-byte number at an offset.
+pub fn u32_at(bytes: &[u8], at: usize) -> u32 {
+    bytes[at..at + 4]
+        .iter()
+        .fold(0, |n, b| n * 256 + u32::from(*b))
+}
+
+/// The messages of an image: `skip` are left out, `take` are given.
+pub fn messages(image: &[u8], skip: usize, take: usize) -> Vec<Vec<u8>> {
+    let mut at = 272;
+    let mut all = Vec::new();
+    for _ in 0..skip + take {
+        let length = u16_at(image, at + 4);
+        all.push(image[at..at + length].to_vec());
+        at += length;
+    }
+    all.split_off(skip)
+}
+
+/// Names of messages, with blanks between.
+fn names(messages: &[Vec<u8>]) -> String {
+    let names: Vec<String> = messages.iter().map(|m| name(&m[12..24])).collect();
+    names.join(" ")
+}
+
+/// An image, and the calls on it.
+#[derive(Clone)]
+pub struct Station {
+    pub image: Vec<u8>,
+}
+
+impl Station {
+    /// The station empty makes out of a buffer of other bytes.
+    pub fn new() -> Station {
+        let mut image = vec![PATTERN; IMAGE];
+        assert_eq!(SUBJECT.empty(&mut image), 0);
+        Station { image }
+    }
+
+    /// A new station with these deltas, all accepted.
+    pub fn with(drafts: &[Draft]) -> Station {
+        let mut station = Station::new();
+        for draft in drafts {
+            assert_eq!(station.code(&draft.bytes()), 0, "{draft:?}");
+        }
+        station
+    }
+
+    /// Delivers; the code and the steps, such as "-B1 +A1 +B1".
+    pub fn deliver(&mut self, draft: &Draft) -> (u32, String) {
+        self.deliver_bytes(&draft.bytes())
+    }
+
+    /// Delivers a message; the code alone.
+    pub fn code(&mut self, message: &[u8]) -> u32 {
+        self.deliver_bytes(message).0
+    }
+
+    /// Delivers with a step buffer of the least size.
+    pub fn deliver_bytes(&mut self, message: &[u8]) -> (u32, String) {
+        self.deliver_into(message, STEPS)
+    }
+
+    /// Delivers; bytes past the steps must be unchanged, and all bytes on a refusal.
+    pub fn deliver_into(&mut self, message: &[u8], size: usize) -> (u32, String) {
+        let mut steps = vec![PATTERN; size];
+        let before = self.image.clone();
+        let answer = SUBJECT.deliver(&mut self.image, message, &mut steps);
+        let (undone, executed) = (undos(answer), executions(answer));
+        if code(answer) != 0 {
+            assert_eq!((undone, executed), (0, 0), "counts of a refusal");
+            assert!(before == self.image, "a refusal wrote the image");
+        }
+        let end = 16 * (undone + executed);
+        assert!(steps[end..].iter().all(|byte| *byte == PATTERN));
+        (code(answer), played(&steps[..end], undone))
+    }
+
+    /// Composes into a buffer of 200 bytes.
+    pub fn compose(&self, request: &Request) -> (u32, Vec<u8>) {
+        self.compose_into(request, MESSAGE)
+    }
+
+    /// Composes; bytes past the message must be unchanged, and all on a refusal.
+    pub fn compose_into(&self, request: &Request, size: usize) -> (u32, Vec<u8>) {
+        let mut message = vec![PATTERN; size];
+        let answer = SUBJECT.compose(&self.image, request, &mut message);
+        let written = length(answer);
+        assert_eq!(written == 0, code(answer) != 0, "length beside the code");
+        assert!(message[written..].iter().all(|byte| *byte == PATTERN));
+        message.truncate(written);
+        (code(answer), message)
+    }
+
+    /// The code of composing on a line without priority.
+    pub fn compose_code(&self, line: Line) -> u32 {
+        self.compose(&plain_request(&line)).0
+    }
+
+    /// Bytes 0-1.
+    pub fn log_count(&self) -> usize {
+        u16_at(&self.image, 0)
+    }
+
+    /// Bytes 2-3.
+    pub fn held_count(&self) -> usize {
+        u16_at(&self.image, 2)
+    }
+
+    /// The log's names in order.
+    pub fn log(&self) -> String {
+        names(&messages(&self.image, 0, self.log_count()))
+    }
+
+    /// The held deltas' names in order.
+    pub fn held(&self) -> String {
+        names(&messages(&self.image, self.log_count(), self.held_count()))
+    }
+
+    /// A setpoint as it stands in the image.
+    pub fn value(&self, tag: usize) -> i32 {
+        u32_at(&self.image, 16 + 4 * tag) as i32
+    }
+}
+
+/// A request without priority that sets tag 0 to 1.
+pub fn plain_request(line: &[u8]) -> Request<'_> {
+    Request {
+        line,
+        commands: &[1, 0, 0, 0, 0, 0, 0, 1],
+        priority_flag: 0,
+        priority: 0,
+    }
+}
+
+/// Step records as "-B1 +A1"; the first `undone` must be undos, the rest executions.
+fn played(records: &[u8], undone: usize) -> String {
+    let mut played = Vec::new();
+    for (place, record) in records.chunks(16).enumerate() {
+        let kind = if place < undone { 1 } else { 2 };
+        assert_eq!(record[..4], [kind, 0, 0, 0]);
+        let sign = if kind == 1 { '-' } else { '+' };
+        played.push(format!("{sign}{}", name(&record[4..])));
+    }
+    played.join(" ")
+}
+
+/// A code and steps, for comparing.
+pub fn steps(code: u32, steps: &str) -> (u32, String) {
+    (code, steps.to_string())
+}

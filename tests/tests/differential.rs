@@ -1,0 +1,132 @@
+//! The differential runner: no difference where there is none, and every deliberate
+//! fault found and shown by a short list of calls.
+
+#![deny(warnings)]
+
+mod common;
+
+use std::process::{Command, Output};
+
+use bivamolune_tests::boundary::Reference;
+use bivamolune_tests::call::Call;
+use bivamolune_tests::differential::{compare, report, shrink};
+use bivamolune_tests::faulty::{Fault, Faulty, FAULTS};
+use bivamolune_tests::generate::case;
+use common::SUBJECT;
+
+#[test]
+fn the_subject_agrees_with_the_second_implementation() {
+    for seed in 0..6_000 {
+        let calls = case(seed);
+        if compare(&Reference, &SUBJECT, &calls).is_some() {
+            panic!("{}", report(&Reference, &SUBJECT, seed, &calls));
+        }
+    }
+}
+
+/// The most calls that the shortest list for a fault has.
+fn bound(fault: Fault) -> usize {
+    match fault {
+        // Empty, 63 deltas, and the one that is refused.
+        Fault::FullAt63 => 65,
+        // Empty, 64 deltas, and a conflict.
+        Fault::FullBeforeConflict => 66,
+        // Empty alone, or empty and the refused message.
+        Fault::TailNotCleared | Fault::RangeBeforeDependencies => 2,
+        // Empty, eight ends of the log with all they need, and compose.
+        Fault::ComposeAtEight => 25,
+        _ => 10,
+    }
+}
+
+/// The first of the seeds that shows a fault, with its calls.
+fn find(fault: Fault) -> (u64, Vec<Call>) {
+    let differs = |calls: &[Call]| compare(&Reference, &Faulty(fault), calls).is_some();
+    let found = (0..6_000).find(|seed| differs(&case(*seed)));
+    let seed = found.unwrap_or_else(|| panic!("{fault:?} was not found"));
+    (seed, case(seed))
+}
+
+#[test]
+fn every_fault_is_found_and_shown_shortly() {
+    for fault in FAULTS {
+        let (seed, calls) = find(fault);
+        let short = shrink(&Reference, &Faulty(fault), &calls);
+        let shown = report(&Reference, &Faulty(fault), seed, &calls);
+        println!(
+            "{fault:?}: seed {seed}, {} calls, then {}",
+            calls.len(),
+            short.len()
+        );
+        assert!(short.len() <= bound(fault), "{fault:?}\n{shown}");
+        assert!(compare(&Reference, &Faulty(fault), &short).is_some());
+        assert!(shown.contains(&format!("seed {seed} differs")));
+        assert!(shown.contains("difference: "));
+    }
+}
+
+#[test]
+fn no_call_of_a_short_list_can_be_dropped() {
+    for fault in [Fault::KeyAlone, Fault::CountsOff, Fault::ComposeAtEight] {
+        let (_, calls) = find(fault);
+        let short = shrink(&Reference, &Faulty(fault), &calls);
+        for place in 0..short.len() {
+            let mut fewer = short.clone();
+            fewer.remove(place);
+            let found = compare(&Reference, &Faulty(fault), &fewer);
+            assert_eq!(found, None, "{fault:?} without call {place}");
+        }
+    }
+}
+
+/// Runs the program with these words.
+fn long_run(words: &[&str]) -> Output {
+    Command::new(env!("CARGO_BIN_EXE_long_run"))
+        .args(words)
+        .output()
+        .expect("the program runs")
+}
+
+#[test]
+fn the_program_counts_what_it_ran() {
+    let output = long_run(&["--deliveries", "500", "--start", "9"]);
+    let printed = String::from_utf8_lossy(&output.stdout);
+    assert_eq!(output.status.code(), Some(0), "{printed}");
+    assert!(printed.starts_with("no difference: "), "{printed}");
+    assert!(printed.contains("cases from seed 9, "), "{printed}");
+    let words: Vec<&str> = printed.split(' ').collect();
+    let at = words
+        .iter()
+        .position(|word| *word == "deliveries,")
+        .unwrap_or(0);
+    let deliveries: usize = words[at - 1].parse().expect("a number");
+    assert!(deliveries >= 500);
+}
+
+#[test]
+fn the_program_ends_with_an_error_on_a_difference() {
+    let output = long_run(&["--deliveries", "100000", "--fault", "4"]);
+    let printed = String::from_utf8_lossy(&output.stdout);
+    assert_eq!(output.status.code(), Some(1), "{printed}");
+    assert!(printed.contains(" differs; "), "{printed}");
+    let (seed, _) = find(FAULTS[4]);
+    let again = long_run(&["--seed", &seed.to_string(), "--fault", "4"]);
+    assert_eq!(again.status.code(), Some(1));
+    let shown = String::from_utf8_lossy(&again.stdout);
+    assert!(shown.ends_with(printed.as_ref()), "{shown}");
+}
+
+#[test]
+fn the_program_shows_one_seed() {
+    let output = long_run(&["--seed", "3"]);
+    let printed = String::from_utf8_lossy(&output.stdout);
+    assert_eq!(output.status.code(), Some(0), "{printed}");
+    assert!(
+        printed.starts_with("0: Station Empty\n    one: code 0\n"),
+        "{printed}"
+    );
+    let calls = case(3).len();
+    assert!(printed.ends_with(&format!("seed 3: {calls} calls, no difference\n")));
+    assert_eq!(long_run(&["--seed"]).status.code(), Some(2));
+    assert_eq!(long_run(&["--nothing", "3"]).status.code(), Some(2));
+}

@@ -1,0 +1,157 @@
+//! Sizes of buffers, just inside and just outside, and the bytes past the written part.
+
+#![deny(warnings)]
+
+mod common;
+
+use bivamolune_tests::boundary::Calls;
+use bivamolune_tests::reference::compose::Request;
+use bivamolune_tests::reference::reader::Reader;
+use bivamolune_tests::reference::station::{log_message, log_message_code, setpoint};
+use bivamolune_tests::wire::{line, Draft};
+use common::{a1, delta, plain_request, steps, Station, A, B, MESSAGE, PATTERN, STEPS, SUBJECT};
+
+#[test]
+fn image_sizes() {
+    for (size, code) in [(0, 1), (16_383, 1), (16_384, 0), (16_385, 1), (32_768, 1)] {
+        let mut image = vec![PATTERN; size];
+        assert_eq!(SUBJECT.empty(&mut image), code, "empty on {size}");
+        let mut image = Station::new().image;
+        image.resize(size, 0);
+        let before = image.clone();
+        let mut buffer = vec![PATTERN; STEPS];
+        let answer = SUBJECT.deliver(&mut image, &a1().bytes(), &mut buffer);
+        assert_eq!(answer % 256, code, "deliver on {size}");
+        assert_eq!(image == before, code == 1);
+        let mut message = vec![PATTERN; MESSAGE];
+        let line = line(A);
+        let answer = SUBJECT.compose(&before, &plain_request(&line), &mut message);
+        assert_eq!(answer % 256, code, "compose on {size}");
+    }
+}
+
+#[test]
+fn a_refused_empty_writes_nothing() {
+    for size in [0, 16, 272, 16_383, 16_385] {
+        let mut image = vec![PATTERN; size];
+        assert_eq!(SUBJECT.empty(&mut image), 1);
+        assert!(image.iter().all(|byte| *byte == PATTERN));
+    }
+}
+
+#[test]
+fn image_sizes_of_the_calls_that_read() {
+    let image = Station::with(&[a1()]).image;
+    for (size, code) in [(0, 1), (16_383, 1), (16_384, 0), (16_385, 1)] {
+        let mut image = image.clone();
+        image.resize(size, 0);
+        let value = if code == 0 { 1500 } else { 0 };
+        let length = if code == 0 { 48 } else { 0 };
+        assert_eq!(setpoint(&image, 3), (code, value));
+        assert_eq!(log_message_code(&image, 0), code);
+        assert_eq!(log_message(&image, 0).len(), length);
+        assert_eq!(Reader::new(&image).next_message().len(), length);
+    }
+}
+
+#[test]
+fn step_buffer_sizes() {
+    for (size, expected) in [
+        (0, 1),
+        (16, 1),
+        (2_031, 1),
+        (2_032, 0),
+        (2_033, 0),
+        (9_000, 0),
+    ] {
+        let mut station = Station::new();
+        let (code, _) = station.deliver_into(&a1().bytes(), size);
+        assert_eq!(code, expected, "step buffer of {size}");
+        assert_eq!(station.log_count(), 1 - expected as usize);
+    }
+}
+
+#[test]
+fn a_repeat_still_asks_for_a_step_buffer() {
+    let mut station = Station::with(&[a1()]);
+    assert_eq!(station.deliver_into(&a1().bytes(), 2_031).0, 1);
+    assert_eq!(station.deliver_into(&a1().bytes(), 2_032).0, 0);
+}
+
+#[test]
+fn message_buffer_sizes() {
+    let station = Station::new();
+    let line = line(A);
+    for (size, expected) in [(0, 1), (48, 1), (199, 1), (200, 0), (201, 0), (4_000, 0)] {
+        let (code, message) = station.compose_into(&plain_request(&line), size);
+        assert_eq!(code, expected, "message buffer of {size}");
+        assert_eq!(message.len(), if expected == 0 { 48 } else { 0 });
+    }
+}
+
+#[test]
+fn line_sizes() {
+    let station = Station::new();
+    for (size, expected) in [(0, 1), (9, 1), (10, 0), (11, 1), (12, 1)] {
+        let line = vec![7; size];
+        let (code, _) = station.compose(&plain_request(&line));
+        assert_eq!(code, expected, "line of {size}");
+    }
+}
+
+#[test]
+fn command_sizes() {
+    let station = Station::new();
+    let one = [1, 0, 0, 0, 0, 0, 0, 1];
+    let nine = one.repeat(9);
+    let sizes = [(0, 3), (1, 3), (7, 3), (8, 0), (9, 3), (15, 3), (16, 0)];
+    for (size, expected) in sizes
+        .into_iter()
+        .chain([(63, 3), (64, 0), (65, 3), (72, 3)])
+    {
+        let request = Request {
+            commands: &nine[..size],
+            ..plain_request(&[7; 10])
+        };
+        let (code, message) = station.compose(&request);
+        assert_eq!(code, expected, "commands of {size}");
+        assert_eq!(message.len(), if expected == 0 { 40 + size } else { 0 });
+    }
+}
+
+/// A request with everything wrong but the size of its line.
+const WRONG: Request = Request {
+    line: &[7; 10],
+    commands: &[],
+    priority_flag: 2,
+    priority: u32::MAX,
+};
+
+#[test]
+fn sizes_come_before_everything_else() {
+    let mut station = Station::new();
+    station.image[15] = 1;
+    assert_eq!(station.deliver_into(&[], 2_031).0, 1);
+    assert_eq!(station.deliver_into(&[], 2_032).0, 2);
+    let short_line = Request {
+        line: &[7; 9],
+        ..WRONG
+    };
+    assert_eq!(station.compose(&short_line).0, 1);
+    assert_eq!(station.compose_into(&WRONG, 199).0, 1);
+    assert_eq!(station.compose(&WRONG).0, 2);
+    station.image[15] = 0;
+    assert_eq!(station.compose(&WRONG).0, 3);
+    assert_eq!(station.deliver_into(&[], 2_032).0, 3);
+}
+
+#[test]
+fn one_hundred_and_twenty_seven_steps() {
+    let lone: Vec<Draft> = (1..=63).map(|number| delta(B, number)).collect();
+    let mut station = Station::with(&lone);
+    let undos = (1..=63).rev().map(|number| format!("-B{number}"));
+    let executions = (1..=63).map(|number| format!("+B{number}"));
+    let all: Vec<String> = undos.chain(["+A1".to_string()]).chain(executions).collect();
+    assert_eq!(all.len(), 127);
+    assert_eq!(station.deliver(&a1()), steps(0, &all.join(" ")));
+}

@@ -1,0 +1,159 @@
+//! The listing program, run as a program.
+
+#![deny(warnings)]
+
+mod common;
+
+use std::io::Write;
+use std::process::{Command, Stdio};
+use std::thread;
+
+use bivamolune_tests::wire::{line, sequence, set, Draft};
+use common::{a1, b1, delta, A, B};
+
+/// What the program prints for an input.
+fn listing(input: &[u8]) -> String {
+    let mut child = Command::new(env!("CARGO_BIN_EXE_listing"))
+        .stdin(Stdio::piped())
+        .stdout(Stdio::piped())
+        .spawn()
+        .expect("the program starts");
+    let mut stdin = child.stdin.take().expect("its input is piped");
+    let bytes = input.to_vec();
+    let writer = thread::spawn(move || stdin.write_all(&bytes));
+    let output = child.wait_with_output().expect("the program ends");
+    writer
+        .join()
+        .expect("no panic")
+        .expect("all input is taken");
+    assert!(output.status.success());
+    String::from_utf8(output.stdout).expect("plain characters")
+}
+
+/// The messages end to end.
+fn input(drafts: &[Draft]) -> Vec<u8> {
+    drafts.iter().flat_map(Draft::bytes).collect()
+}
+
+#[test]
+fn the_example() {
+    let expected = "1 0 0 1\n2 0 1 2\nlog 2 held 0\n";
+    assert_eq!(listing(&input(&[b1(), a1()])), expected);
+}
+
+#[test]
+fn no_input() {
+    assert_eq!(listing(&[]), "log 0 held 0\n");
+}
+
+#[test]
+fn refusals_inside_a_cut_do_not_end_reading() {
+    let zero = delta(A, 0);
+    let own = delta(A, 2).naming(&[sequence(line(A), 1)]);
+    let tag = delta(B, 1).commands(&[set(64, 0)]);
+    let other = a1().group(2);
+    let mut bytes = input(&[zero, own, tag, a1(), other, a1()]);
+    // A wrong kind under a right length.
+    let mut kind = b1().bytes();
+    kind[0] = 2;
+    bytes.extend(kind);
+    bytes.extend(b1().bytes());
+    let expected = "1 4 0 0\n2 5 0 0\n3 6 0 0\n4 0 0 1\n5 7 0 0\n6 0 0 0\n\
+                    7 3 0 0\n8 0 0 1\nlog 2 held 0\n";
+    assert_eq!(listing(&bytes), expected);
+}
+
+#[test]
+fn held_ones_are_counted() {
+    let expected = "1 0 0 0\n2 0 0 1\nlog 1 held 1\n";
+    assert_eq!(listing(&input(&[delta(A, 2), b1()])), expected);
+}
+
+#[test]
+fn cuts_outside_48_to_200() {
+    for length in [0_u16, 1, 47, 201, 0x3000, 0xFFFF] {
+        let mut bytes = input(&[a1(), b1()]);
+        bytes.extend(delta(A, 2).bytes());
+        bytes[52..54].copy_from_slice(&length.to_be_bytes());
+        bytes.resize(70_000, 0);
+        assert_eq!(
+            listing(&bytes),
+            "1 0 0 1\n2 3 0 0\nlog 1 held 0\n",
+            "{length}"
+        );
+    }
+}
+
+#[test]
+fn cuts_of_48_and_200() {
+    let needs: Vec<_> = (0x10..0x18).map(|last| sequence(line(last), 1)).collect();
+    let long = delta(A, 1).naming(&needs).commands(&[set(0, 1); 8]);
+    assert_eq!(long.bytes().len(), 200);
+    let expected = "1 0 0 0\n2 0 0 1\nlog 1 held 1\n";
+    assert_eq!(listing(&input(&[long, b1()])), expected);
+    // A cut of 49 is delivered, refused by code 3, and does not end reading.
+    let mut odd = a1().bytes();
+    odd[5] = 49;
+    odd.push(0);
+    odd.extend(b1().bytes());
+    assert_eq!(listing(&odd), "1 3 0 0\n2 0 0 1\nlog 1 held 0\n");
+}
+
+#[test]
+fn a_cut_past_the_end() {
+    let bytes = input(&[a1(), b1()]);
+    assert_eq!(listing(&bytes[..95]), "1 0 0 1\n2 3 0 0\nlog 1 held 0\n");
+    assert_eq!(listing(&bytes[..96]), "1 0 0 1\n2 0 0 1\nlog 2 held 0\n");
+}
+
+#[test]
+fn a_rest_of_one_to_six_bytes() {
+    let bytes = input(&[a1(), b1()]);
+    for rest in 1..=6 {
+        let expected = "1 0 0 1\n2 3 0 0\nlog 1 held 0\n";
+        assert_eq!(listing(&bytes[..48 + rest]), expected, "a rest of {rest}");
+    }
+    assert_eq!(listing(&[1]), "1 3 0 0\nlog 0 held 0\n");
+}
+
+#[test]
+fn sixty_thousand_bytes() {
+    // 1250 messages of 48 bytes are 60,000 bytes.
+    let mut bytes = a1().bytes().repeat(1_250);
+    assert_eq!(bytes.len(), 60_000);
+    let mut expected = "1 0 0 1\n".to_string();
+    for number in 2..=1_250 {
+        expected += &format!("{number} 0 0 0\n");
+    }
+    let with_last = |last: &str| expected.clone() + last;
+    assert_eq!(listing(&bytes), with_last("log 1 held 0\n"));
+    // What lies beyond is dropped, be it a message, a part of one, or much more.
+    bytes.extend(b1().bytes());
+    assert_eq!(listing(&bytes[..60_001]), with_last("log 1 held 0\n"));
+    assert_eq!(listing(&bytes), with_last("log 1 held 0\n"));
+    bytes.resize(500_000, 1);
+    assert_eq!(listing(&bytes), with_last("log 1 held 0\n"));
+}
+
+#[test]
+fn a_message_across_the_sixty_thousandth_byte() {
+    // One message of 60 bytes and 1249 of 48: the last is cut 12 bytes short.
+    let first = b1().naming(&[sequence(line(A), 1)]);
+    assert_eq!(first.bytes().len(), 60);
+    let mut bytes = first.bytes();
+    bytes.extend(a1().bytes().repeat(1_249));
+    assert_eq!(bytes.len(), 60_012);
+    let printed = listing(&bytes);
+    let lines: Vec<&str> = printed.lines().collect();
+    assert_eq!(lines.len(), 1_251);
+    assert_eq!(lines[..3], ["1 0 0 0", "2 0 0 2", "3 0 0 0"]);
+    assert_eq!(lines[1_249..], ["1250 3 0 0", "log 2 held 0"]);
+}
+
+#[test]
+fn a_full_station() {
+    let drafts: Vec<Draft> = (1..=65).map(|number| delta(A, number)).collect();
+    let printed = listing(&input(&drafts));
+    let lines: Vec<&str> = printed.lines().collect();
+    assert_eq!(lines[63..], ["64 0 0 1", "65 8 0 0", "log 64 held 0"]);
+}
