@@ -15,7 +15,7 @@ use Rattle.model.specs.Message.{valueOf, commandRight}
 use Rattle.model.specs.Codes.{commandsSized}
 use Rattle.order.specs.TestLaws.{and-l, and-r, and-i, decide}
 use Rattle.message.specs.Check.{valueRight}
-use Rattle.message.specs.Decisions.{eq→eqb, T-true, T-false, and-true, leb-same}
+use Rattle.sequence.specs.Decisions.{eq→eqb, T-true, T-false, and-true, leb-same}
 
 pub record Command (c : List ℕ) : Type 0 where
   pub least : 1 ≤ field c 0 1

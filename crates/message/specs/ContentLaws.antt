@@ -10,7 +10,7 @@ use Rattle.model.specs.Tests.{every}
 use Rattle.model.specs.Bytes.{field, parts}
 use Rattle.model.specs.Message.{Message, groupOf, blockOf, priorityOf, hasPriority, blockRight, dependencyCount, commandCount, commandsStart, totalLength, commandsOf, commandRight, contentRight}
 use Rattle.message.specs.Check.{priorityRight}
-use Rattle.message.specs.Decisions.{and-assoc}
+use Rattle.sequence.specs.Decisions.{and-assoc}
 
 -- the two parts before the commands, and the commands as those of all bytes past the dependencies
 pub content-parts : (m : Message) → length m ≡ totalLength (dependencyCount m) (commandCount m)

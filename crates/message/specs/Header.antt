@@ -6,7 +6,7 @@ use Rattle.model.specs.Message.{Message, hasPriority, dependencyCount, commandC
 use Rattle.message.specs.declared.header.Header.{Header}
 use Rattle.message.specs.declared.header.Priority.{Priority}
 use Rattle.message.specs.declared.header.Priority.the-variants.{Absent, Given}
-use Rattle.message.specs.Sequence.{sequenceNumber, sequenceFrom}
+use Rattle.sequence.specs.Sequence.{sequenceNumber, sequenceFrom}
 
 abbrev pub priorityIn : Message → Priority
 priorityIn m = cond (hasPriority m) (Given (blockOf m) (priorityOf m)) Absent

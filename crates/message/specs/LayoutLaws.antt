@@ -11,7 +11,7 @@ use Rattle.model.specs.Message.{Message, dependencyCount, commandCount, totalLe
 use Rattle.order.specs.TestLaws.{and-l, and-r, and-i}
 use Rattle.laws.specs.MessageLaws.{layout-sized, sized-range}
 use Rattle.message.specs.Check.{countsRight, offsetsRight}
-use Rattle.message.specs.Decisions.{eq→eqb, T-true, T-false, and-assoc}
+use Rattle.sequence.specs.Decisions.{eq→eqb, T-true, T-false, and-assoc}
 
 pub record Counts (m : Message) : Type 0 where
   pub kind : field m 0 1 ≡ 1

@@ -5,7 +5,7 @@ use Prim.Native.Nat.{ℕ}
 use borrow.Author.Tests.{not-true, not-false}
 use Rattle.model.specs.Tests.{has, every, ascending}
 use Rattle.model.specs.Message.{Message, sequenceOf, predecessorOf, dependenciesOf, dependenciesRight}
-use Rattle.message.specs.Sequence.{sequenceNumber, predecessorList}
+use Rattle.sequence.specs.Sequence.{sequenceNumber, predecessorList}
 use borrow.Author.Needs.{needs}
 use Rattle.message.proofs.dependencies.check_dependencies.Statement.{statement}
 use Rattle.message.proofs.dependencies.check_dependencies.Tie as tie

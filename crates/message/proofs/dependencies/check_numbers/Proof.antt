@@ -7,7 +7,7 @@ use native.Mathlib.Omega.{arith}
 use borrow.Author.Needs.{needs}
 use Rattle.model.specs.Tests.{every, has, ascending}
 use Rattle.model.specs.Message.{numbered, numberOf, sequenceOf, dependenciesOf, numbersRight}
-use Rattle.message.specs.Sequence.{sequenceNumber}
+use Rattle.sequence.specs.Sequence.{sequenceNumber}
 use borrow.Author.Tests.{eq-eqb, ne-eqb}
 use Rattle.message.specs.ListLaws.{every-step, every-end, length-dependencies}
 use borrow.Author.Needs.{needs}

@@ -1,10 +1,10 @@
 use native.Mathlib.Omega.{arith}
 use mathlib.Core.Path.{sym}
 use borrow.Author.Tests.{lt-ltb, le-ltb}
-use Rattle.message.specs.Sequence.{sequenceNumber}
-use Rattle.message.specs.Decisions.{ltb-same}
-use Rattle.message.proofs.sequence.less.Statement.{statement}
-use Rattle.message.proofs.sequence.less.Tie as tie
+use Rattle.sequence.specs.Sequence.{sequenceNumber}
+use Rattle.sequence.specs.Decisions.{ltb-same}
+use Rattle.sequence.proofs.less.Statement.{statement}
+use Rattle.sequence.proofs.less.Tie as tie
 
 returns : tie.Need-returns
 returns c = let a = c .before .before .before .args in sym (lt-ltb (sequenceNumber (a .a)) (sequenceNumber (a .b)) (omega arith))

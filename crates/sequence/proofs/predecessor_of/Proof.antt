@@ -5,10 +5,10 @@ use mathlib.Core.List.{List, [], _∷_}
 use Prim.Native.Nat.{ℕ, _-_}
 use borrow.Author.Tests.{lt-ltb, le-ltb}
 use Rattle.model.specs.Message.{numberOf}
-use Rattle.message.specs.Sequence.{sequenceNumber}
+use Rattle.sequence.specs.Sequence.{sequenceNumber}
 use borrow.Author.Needs.{needs}
-use Rattle.message.proofs.sequence.predecessor_of.Statement.{statement}
-use Rattle.message.proofs.sequence.predecessor_of.Tie as tie
+use Rattle.sequence.proofs.predecessor_of.Statement.{statement}
+use Rattle.sequence.proofs.predecessor_of.Tie as tie
 
 number-of-requires : tie.Need-number-of-requires
 number-of-requires c κs = search needs

@@ -3,10 +3,10 @@ use mathlib.Core.Path.{sym}
 use Prim.Native.Nat.{_/_}
 use borrow.Author.Tests.{ne-eqb}
 use Rattle.model.specs.Message.{lineOf}
-use Rattle.message.specs.Sequence.{sequenceNumber}
-use Rattle.message.specs.Decisions.{eqb-same}
-use Rattle.message.proofs.sequence.same_line.Statement.{statement}
-use Rattle.message.proofs.sequence.same_line.Tie as tie
+use Rattle.sequence.specs.Sequence.{sequenceNumber}
+use Rattle.sequence.specs.Decisions.{eqb-same}
+use Rattle.sequence.proofs.same_line.Statement.{statement}
+use Rattle.sequence.proofs.same_line.Tie as tie
 
 returns : tie.Need-returns
 returns c =

@@ -2,8 +2,8 @@
 use mathlib.Core.Path.{_≡_, refl, sym, _∙_, ap, ap₂}
 use Prim.Native.Nat.{ℕ, _+_, _*_, _/_, _%_, _<_}
 use native.Mathlib.Omega.{arith}
-use Rattle.message.specs.declared.sequence.Sequence.{Sequence}
-use Rattle.message.specs.Sequence.{sequenceNumber, sequenceFrom}
+use Rattle.sequence.specs.declared.Sequence.{Sequence}
+use Rattle.sequence.specs.Sequence.{sequenceNumber, sequenceFrom}
 
 pub number-from : (n : ℕ) → sequenceNumber (sequenceFrom n) ≡ n
 number-from n = omega arith

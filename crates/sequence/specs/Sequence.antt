@@ -1,9 +1,9 @@
 -- What a sequence of two numbers stands for.
 use mathlib.Core.List.{List, [], _∷_}
 use Prim.Native.Nat.{ℕ, _+_, _*_, _/_, _%_}
-use Rattle.message.specs.declared.sequence.Sequence.{Sequence}
-use Rattle.message.specs.declared.sequence.Predecessor.{Predecessor}
-use Rattle.message.specs.declared.sequence.Predecessor.the-variants.{Of, Absent}
+use Rattle.sequence.specs.declared.Sequence.{Sequence}
+use Rattle.sequence.specs.declared.Predecessor.{Predecessor}
+use Rattle.sequence.specs.declared.Predecessor.the-variants.{Of, Absent}
 
 -- the number of its twelve bytes: 2 ^ 32 of the high part, and the low part
 abbrev pub sequenceNumber : Sequence → ℕ

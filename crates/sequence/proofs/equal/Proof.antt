@@ -1,10 +1,10 @@
 use native.Mathlib.Omega.{arith}
 use mathlib.Core.Path.{sym}
 use borrow.Author.Tests.{ne-eqb}
-use Rattle.message.specs.Sequence.{sequenceNumber}
-use Rattle.message.specs.Decisions.{eqb-same}
-use Rattle.message.proofs.sequence.equal.Statement.{statement}
-use Rattle.message.proofs.sequence.equal.Tie as tie
+use Rattle.sequence.specs.Sequence.{sequenceNumber}
+use Rattle.sequence.specs.Decisions.{eqb-same}
+use Rattle.sequence.proofs.equal.Statement.{statement}
+use Rattle.sequence.proofs.equal.Tie as tie
 
 returns : tie.Need-returns
 returns c =

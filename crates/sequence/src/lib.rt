@@ -1,5 +1,4 @@
 // Sequences as two numbers: how they are read, compared and taken apart.
-use crate::layout::NUMBERS_OF_LINE;
 use buffer::get_u32;
 use buffer::get_u64;
 ghost use mathlib.Core.Path.{_≡_};
@@ -8,7 +7,10 @@ ghost use lib.ListN.{length};
 ghost use lib.Dec.{eqb, ltb};
 ghost use Rattle.model.specs.Bytes.{field};
 ghost use Rattle.model.specs.Message.{numberOf, lineOf, predecessorOf};
-ghost use Rattle.message.specs.Sequence.{sequenceNumber, predecessorList};
+ghost use Rattle.sequence.specs.Sequence.{sequenceNumber, predecessorList};
+
+// How many numbers a line has, 0000 among them.
+pub const NUMBERS_OF_LINE: u32 = 65536;
 
 // The twelve bytes of a sequence: the first eight, and the last four.
 pub struct Sequence {

@@ -1,8 +1,8 @@
 use native.Mathlib.Omega.{arith}
 use Rattle.buffer.specs.FieldLaws.{field-split}
 use borrow.Author.Needs.{needs}
-use Rattle.message.proofs.sequence.read_sequence.Statement.{statement}
-use Rattle.message.proofs.sequence.read_sequence.Tie as tie
+use Rattle.sequence.proofs.read_sequence.Statement.{statement}
+use Rattle.sequence.proofs.read_sequence.Tie as tie
 
 get-u64-requires : tie.Need-get-u64-requires
 get-u64-requires c κs = search needs
