@@ -1,5 +1,5 @@
 -- What the tests of block and priority say, as facts.
-use mathlib.Core.Path.{_≡_, _∙_, ap, ap₂}
+use mathlib.Core.Path.{_≡_, refl, _∙_, ap, ap₂}
 use mathlib.Core.Bool.{Bool, true, false, cond, _&&_}
 use Prim.Native.Nat.{ℕ, _+_, _*_, _/_, _≤_, _<_}
 use native.Mathlib.Omega.{arith}
@@ -10,7 +10,6 @@ use Rattle.model.specs.Tests.{every}
 use Rattle.model.specs.Bytes.{field, parts}
 use Rattle.model.specs.Message.{Message, groupOf, blockOf, priorityOf, hasPriority, blockRight, dependencyCount, commandCount, commandsStart, totalLength, commandsOf, commandRight, contentRight}
 use Rattle.message.specs.Check.{priorityRight}
-use Rattle.sequence.specs.Decisions.{and-assoc}
 
 -- the two parts before the commands, and the commands as those of all bytes past the dependencies
 pub content-parts : (m : Message) → length m ≡ totalLength (dependencyCount m) (commandCount m)
@@ -28,7 +27,8 @@ content-parts m h =
     rest = drop (commandsStart (dependencyCount m)) m
 
     go : (a b c d e : Bool) → a && b && c && d && e ≡ a && (b && c && d && e)
-    go a b c d e = simp and-assoc
+    go true b c d e = refl
+    go false b c d e = refl
 
     count : commandCount m ≡ length rest / 8
     count = let l = length-drop (commandsStart (dependencyCount m)) m in omega arith

@@ -20,10 +20,6 @@ pub and-true : (a : Bool) → a && true ≡ a
 and-true true = refl
 and-true false = refl
 
-pub and-assoc : (a b c : Bool) → a && b && c ≡ a && (b && c)
-and-assoc true b c = refl
-and-assoc false b c = refl
-
 pub same-decision : (a b : Bool) → (T a → T b) → (T b → T a) → a ≡ b
 same-decision true true f g = refl
 same-decision true false f g = absurd (f tt)
