@@ -83,6 +83,7 @@ layout-parts m t = go (isBytes m) t _ _ _ _ _ _ _ _ _ _ _
     split : (p f g h i j k : Bool) → p && f && g && h && i && j && k ≡ p && (f && g && h && i && j && k)
     split true f g h i j k = refl
     split false f g h i j k = refl
+
     go : (z : Bool) → T z → (a b c d e f g h i j k : Bool)
         → z && a && b && c && d && e && f && g && h && i && j && k ≡ a && b && c && d && e && (f && g && h && i && j && k)
     go true t a b c d e f g h i j k = split (a && b && c && d && e) f g h i j k
