@@ -1,13 +1,12 @@
 -- What the tests of block and priority say, as facts.
 use mathlib.Core.Path.{_≡_, refl, _∙_, ap, ap₂}
-use mathlib.Core.Bool.{Bool, true, false, cond, _&&_}
-use Prim.Native.Nat.{ℕ, _+_, _*_, _/_, _≤_, _<_}
+use mathlib.Core.Bool.{Bool, true, false, _&&_}
+use Prim.Native.Nat.{ℕ, _/_}
 use native.Mathlib.Omega.{arith}
-use lib.Dec.{T, eqb, leb}
+use lib.Dec.{leb}
 use lib.ListN.{length, drop, length-drop}
-use borrow.Author.Tests.{eq-eqb, ne-eqb, le-leb, lt-leb}
 use Rattle.model.specs.Tests.{every}
-use Rattle.model.specs.Bytes.{field, parts}
+use Rattle.model.specs.Bytes.{parts}
 use Rattle.model.specs.Message.{Message, groupOf, blockOf, priorityOf, hasPriority, blockRight, dependencyCount, commandCount, commandsStart, totalLength, commandsOf, commandRight, contentRight}
 use Rattle.message.specs.Check.{priorityRight}
 
