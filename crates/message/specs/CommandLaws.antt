@@ -1,21 +1,21 @@
 -- What the tests of a command say, as facts.
-use mathlib.Core.Path.{_≡_, refl, sym, _∙_, ap}
-use mathlib.Core.Logic.{_⊎_, inl, inr, ⊎-elim}
-use mathlib.Core.Bool.{Bool, true, false, cond, not, _&&_}
+use mathlib.Core.Path.{_≡_, sym, _∙_}
+use mathlib.Core.Logic.{_⊎_, ⊎-elim}
+use mathlib.Core.Bool.{true, false, not}
 use mathlib.Core.List.{List}
 use Prim.Native.Nat.{ℕ, suc, _-_, _%_, _≤_, _<_}
 use native.Mathlib.Omega.{arith}
 use lib.Dec.{T, eqb, ltb, leb, eqb→eq, leb→le, ltb→lt, le→leb, lt→ltb, nltb→le}
-use lib.IntN.{ℤ, pos, negsuc}
+use lib.IntN.{pos, negsuc}
 use lib.Signed.{leZ}
 use borrow.Author.Tests.{lt-ltb, le-ltb, le-leb, lt-leb}
 use lib.ListN.{length}
-use Rattle.model.specs.Bytes.{isBytes, field, integer}
+use Rattle.model.specs.Bytes.{isBytes, field}
 use Rattle.model.specs.Message.{valueOf, commandRight}
 use Rattle.model.specs.Codes.{commandsSized}
 use Rattle.order.specs.TestLaws.{and-l, and-r, and-i, decide}
 use Rattle.message.specs.Check.{valueRight}
-use Rattle.message.specs.Decisions.{eq→eqb, T-true, T-false, and-true, leb-same}
+use Rattle.sequence.specs.Decisions.{eq→eqb, T-true, T-false, and-true, leb-same}
 
 pub record Command (c : List ℕ) : Type 0 where
   pub least : 1 ≤ field c 0 1

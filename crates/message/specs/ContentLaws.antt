@@ -1,16 +1,14 @@
 -- What the tests of block and priority say, as facts.
-use mathlib.Core.Path.{_≡_, _∙_, ap, ap₂}
-use mathlib.Core.Bool.{Bool, true, false, cond, _&&_}
-use Prim.Native.Nat.{ℕ, _+_, _*_, _/_, _≤_, _<_}
+use mathlib.Core.Path.{_≡_, refl, _∙_, ap, ap₂}
+use mathlib.Core.Bool.{Bool, true, false, _&&_}
+use Prim.Native.Nat.{ℕ, _/_}
 use native.Mathlib.Omega.{arith}
-use lib.Dec.{T, eqb, leb}
+use lib.Dec.{leb}
 use lib.ListN.{length, drop, length-drop}
-use borrow.Author.Tests.{eq-eqb, ne-eqb, le-leb, lt-leb}
 use Rattle.model.specs.Tests.{every}
-use Rattle.model.specs.Bytes.{field, parts}
+use Rattle.model.specs.Bytes.{parts}
 use Rattle.model.specs.Message.{Message, groupOf, blockOf, priorityOf, hasPriority, blockRight, dependencyCount, commandCount, commandsStart, totalLength, commandsOf, commandRight, contentRight}
 use Rattle.message.specs.Check.{priorityRight}
-use Rattle.message.specs.Decisions.{and-assoc}
 
 -- the two parts before the commands, and the commands as those of all bytes past the dependencies
 pub content-parts : (m : Message) → length m ≡ totalLength (dependencyCount m) (commandCount m)
@@ -28,7 +26,8 @@ content-parts m h =
     rest = drop (commandsStart (dependencyCount m)) m
 
     go : (a b c d e : Bool) → a && b && c && d && e ≡ a && (b && c && d && e)
-    go a b c d e = simp and-assoc
+    go true b c d e = refl
+    go false b c d e = refl
 
     count : commandCount m ≡ length rest / 8
     count = let l = length-drop (commandsStart (dependencyCount m)) m in omega arith

@@ -1,12 +1,11 @@
 -- The header of a message, and what it says of it.
 use mathlib.Core.Path.{_≡_}
-use mathlib.Core.Bool.{Bool, cond}
-use Prim.Native.Nat.{ℕ}
+use mathlib.Core.Bool.{cond}
 use Rattle.model.specs.Message.{Message, hasPriority, dependencyCount, commandCount, sequenceOf, groupOf, blockOf, priorityOf}
 use Rattle.message.specs.declared.header.Header.{Header}
 use Rattle.message.specs.declared.header.Priority.{Priority}
 use Rattle.message.specs.declared.header.Priority.the-variants.{Absent, Given}
-use Rattle.message.specs.Sequence.{sequenceNumber, sequenceFrom}
+use Rattle.sequence.specs.Sequence.{sequenceNumber, sequenceFrom}
 
 abbrev pub priorityIn : Message → Priority
 priorityIn m = cond (hasPriority m) (Given (blockOf m) (priorityOf m)) Absent

@@ -2,12 +2,12 @@
 use mathlib.Core.Path.{_≡_, refl}
 use Prim.Native.Nat.{ℕ}
 use Rattle.model.specs.Message.{Message, sequenceOf, groupOf, dependencyCount, commandCount}
-use Rattle.message.specs.declared.sequence.Sequence.{Sequence}
+use Rattle.sequence.specs.declared.Sequence.{Sequence}
 use Rattle.message.specs.declared.header.Header.{Header}
 use Rattle.message.specs.declared.header.Priority.{Priority}
-use Rattle.message.specs.Sequence.{sequenceFrom}
+use Rattle.sequence.specs.Sequence.{sequenceFrom}
 use Rattle.message.specs.Header.{priorityIn, headerOf, Describes}
-use Rattle.message.specs.SequenceLaws.{number-from}
+use Rattle.sequence.specs.SequenceLaws.{number-from}
 
 pub header-describes : (m : Message) → Describes m (headerOf m)
 unfolding headerOf

@@ -1,8 +1,7 @@
 -- What the tests of code 3 say, as facts.
-use mathlib.Core.Path.{_≡_, refl, sym, _∙_, ap}
+use mathlib.Core.Path.{_≡_, refl, sym}
 use mathlib.Core.Bool.{Bool, true, false, _&&_}
-use mathlib.Core.List.{List}
-use Prim.Native.Nat.{ℕ, _+_, _*_, _≤_, _<_}
+use Prim.Native.Nat.{_≤_, _<_}
 use native.Mathlib.Omega.{arith}
 use lib.ListN.{length}
 use lib.Dec.{T, eqb, leb, eqb→eq, leb→le, le→leb}
@@ -11,7 +10,7 @@ use Rattle.model.specs.Message.{Message, dependencyCount, commandCount, totalLe
 use Rattle.order.specs.TestLaws.{and-l, and-r, and-i}
 use Rattle.laws.specs.MessageLaws.{layout-sized, sized-range}
 use Rattle.message.specs.Check.{countsRight, offsetsRight}
-use Rattle.message.specs.Decisions.{eq→eqb, T-true, T-false, and-assoc}
+use Rattle.sequence.specs.Decisions.{eq→eqb, T-true, T-false}
 
 pub record Counts (m : Message) : Type 0 where
   pub kind : field m 0 1 ≡ 1
@@ -80,9 +79,13 @@ pub layout-parts : (m : Message) → T (isBytes m) → layoutRight m ≡ countsR
 unfolding layoutRight countsRight offsetsRight
 layout-parts m t = go (isBytes m) t _ _ _ _ _ _ _ _ _ _ _
   where
+    split : (p f g h i j k : Bool) → p && f && g && h && i && j && k ≡ p && (f && g && h && i && j && k)
+    split true f g h i j k = refl
+    split false f g h i j k = refl
+
     go : (z : Bool) → T z → (a b c d e f g h i j k : Bool)
         → z && a && b && c && d && e && f && g && h && i && j && k ≡ a && b && c && d && e && (f && g && h && i && j && k)
-    go true t a b c d e f g h i j k = simp and-assoc
+    go true t a b c d e f g h i j k = split (a && b && c && d && e) f g h i j k
     go false t a b c d e f g h i j k = absurd t
 
 -- fewer bytes than a header's are no message

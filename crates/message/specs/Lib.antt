@@ -1,5 +1,4 @@
 pub mod Check
-pub mod Decisions
 pub mod Header
 pub mod HeaderLaws
 pub mod LayoutLaws
@@ -8,5 +7,3 @@ pub mod CommandLaws
 pub mod ContentLaws
 pub mod Parsed
 pub mod ParsedLaws
-pub mod Sequence
-pub mod SequenceLaws

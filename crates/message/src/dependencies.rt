@@ -4,20 +4,20 @@ use crate::layout::DEPENDENCY_COUNT_AT;
 use crate::layout::HEADER_SIZE;
 use crate::layout::SEQUENCE_AT;
 use crate::layout::SEQUENCE_SIZE;
-use crate::sequence::Predecessor;
-use crate::sequence::Sequence;
-use crate::sequence::equal;
-use crate::sequence::less;
-use crate::sequence::number_of;
-use crate::sequence::predecessor_of;
-use crate::sequence::read_sequence;
 use buffer::byte;
+use sequence::Predecessor;
+use sequence::Sequence;
+use sequence::equal;
+use sequence::less;
+use sequence::number_of;
+use sequence::predecessor_of;
+use sequence::read_sequence;
 ghost use mathlib.Core.Path.{_≡_};
 ghost use Prim.Native.Nat.{_≤_, _<_};
 ghost use lib.ListN.{length, getD};
 ghost use Rattle.model.specs.Tests.{has, ascending};
 ghost use Rattle.model.specs.Message.{dependencyCount, commandsStart, dependenciesOf, numbersRight, dependenciesRight};
-ghost use Rattle.message.specs.Sequence.{sequenceNumber};
+ghost use Rattle.sequence.specs.Sequence.{sequenceNumber};
 ghost use Rattle.message.specs.Check.{right};
 
 // A message's dependency at a place.

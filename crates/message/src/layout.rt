@@ -29,9 +29,6 @@ pub const HEADER_SIZE: usize = 40;
 
 pub const SEQUENCE_SIZE: usize = 12;
 
-// How many numbers a line has.
-pub const NUMBERS_OF_LINE: u32 = 65536;
-
 pub const MOST_DEPENDENCIES: usize = 8;
 
 pub const COMMAND_SIZE: usize = 8;

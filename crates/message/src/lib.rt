@@ -1,4 +1,4 @@
-// A delta on the wire: sequences, the header, the checks of codes 3 to 6, and how two headers compare by key.
+// A delta on the wire: the header, the checks of codes 3 to 6, and parse.
 pub mod checks;
 pub mod commands;
 pub mod content;
@@ -6,4 +6,3 @@ pub mod dependencies;
 pub mod header;
 pub mod layout;
 pub mod parse;
-pub mod sequence;

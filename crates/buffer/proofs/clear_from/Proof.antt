@@ -1,8 +1,8 @@
 -- The invariant: the zeros so far are a copy of i - at of them.
 use Prim.Native.Nat.{ℕ, suc, _≤_, _<_, _-_, _+_}
 use mathlib.Core.Path.{_≡_, refl, sym, ap, _∙_}
-use mathlib.Core.List.{List, [], _++_, append-nil}
-use lib.ListN.{length, length-set, set, getD, take, drop, replicate, length-replicate, getD-replicate, drop-of-length-le}
+use mathlib.Core.List.{List, _++_, append-nil}
+use lib.ListN.{length, length-set, set, take, replicate, length-replicate, getD-replicate, drop-of-length-le}
 use lib.Seq.{paste, paste-zero, paste-suc, take-all}
 use native.Mathlib.Omega.{arith}
 use native.Mathlib.Nat.{sub-self}

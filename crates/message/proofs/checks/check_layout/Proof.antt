@@ -1,8 +1,7 @@
 use mathlib.Core.Path.{sym, _∙_, ap}
 use mathlib.Core.Bool.{Bool, _&&_}
 use Rattle.buffer.specs.FieldLaws.{all-bytes}
-use Rattle.message.specs.Check.{right, countsRight, offsetsRight}
-use Rattle.message.specs.declared.checks.Check.{Check}
+use Rattle.message.specs.Check.{right, offsetsRight}
 use Rattle.message.specs.LayoutLaws.{layout-parts, short-wrong}
 use borrow.Author.Needs.{needs}
 use Rattle.message.proofs.checks.check_layout.Statement.{statement}

@@ -1,10 +1,7 @@
 use native.Mathlib.Omega.{arith}
-use mathlib.Core.Path.{_≡_, sym, _∙_, ap, subst}
-use mathlib.Core.Bool.{Bool, true, false}
-use Prim.Native.Nat.{ℕ}
+use mathlib.Core.Path.{sym, _∙_, ap, subst}
 use lib.Dec.{T, lit≤}
 use lib.ListN.{take, drop}
-use Rattle.model.specs.Bytes.{field}
 use Rattle.message.specs.Check.{valueRight}
 use Rattle.message.specs.ListLaws.{field-part, field-part-start}
 use Rattle.message.specs.CommandLaws.{command-wrong, command-right}

@@ -1,13 +1,12 @@
-use Prim.Native.Nat.{ℕ, _+_, _≤_, _-_}
+use Prim.Native.Nat.{_+_, _≤_, _-_}
 use mathlib.Core.Path.{_≡_, refl, sym, _∙_, ap, ap₂}
-use mathlib.Core.Bool.{Bool, true, false, not, _&&_, _||_}
-use lib.ListN.{length, drop, getD}
-use lib.Dec.{eqb, ltb}
+use mathlib.Core.Bool.{Bool, _&&_}
+use lib.ListN.{drop}
+use lib.Dec.{ltb}
 use native.Mathlib.Omega.{arith}
 use borrow.Author.Needs.{needs}
-use Rattle.model.specs.Tests.{every, has, ascending}
-use Rattle.model.specs.Message.{numbered, numberOf, sequenceOf, dependenciesOf, numbersRight}
-use Rattle.message.specs.Sequence.{sequenceNumber}
+use Rattle.model.specs.Tests.{ascending}
+use Rattle.model.specs.Message.{dependenciesOf}
 use borrow.Author.Tests.{not-true, not-false}
 use Rattle.message.specs.ListLaws.{ascending-step, ascending-end, length-dependencies}
 use borrow.Author.Needs.{needs}

@@ -1,11 +1,11 @@
 use mathlib.Core.Path.{_≡_, refl, sym, _∙_, ap}
-use mathlib.Core.Bool.{Bool, true, false, not, _&&_}
-use mathlib.Core.List.{List, [], _∷_}
+use mathlib.Core.Bool.{Bool, true, not, _&&_}
+use mathlib.Core.List.{List}
 use Prim.Native.Nat.{ℕ}
 use borrow.Author.Tests.{not-true, not-false}
 use Rattle.model.specs.Tests.{has, every, ascending}
 use Rattle.model.specs.Message.{Message, sequenceOf, predecessorOf, dependenciesOf, dependenciesRight}
-use Rattle.message.specs.Sequence.{sequenceNumber, predecessorList}
+use Rattle.sequence.specs.Sequence.{predecessorList}
 use borrow.Author.Needs.{needs}
 use Rattle.message.proofs.dependencies.check_dependencies.Statement.{statement}
 use Rattle.message.proofs.dependencies.check_dependencies.Tie as tie

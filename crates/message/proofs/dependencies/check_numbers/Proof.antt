@@ -1,13 +1,11 @@
 use Prim.Native.Nat.{ℕ, _+_, _≤_, _-_}
-use mathlib.Core.Path.{_≡_, refl, sym, _∙_, ap, ap₂}
-use mathlib.Core.Bool.{Bool, true, false, not, _&&_, _||_}
-use lib.ListN.{length, drop, getD}
-use lib.Dec.{eqb, ltb}
+use mathlib.Core.Path.{_≡_, sym, _∙_, ap}
+use mathlib.Core.Bool.{Bool, true, false, not, _&&_}
+use lib.ListN.{drop, getD}
 use native.Mathlib.Omega.{arith}
 use borrow.Author.Needs.{needs}
-use Rattle.model.specs.Tests.{every, has, ascending}
+use Rattle.model.specs.Tests.{every}
 use Rattle.model.specs.Message.{numbered, numberOf, sequenceOf, dependenciesOf, numbersRight}
-use Rattle.message.specs.Sequence.{sequenceNumber}
 use borrow.Author.Tests.{eq-eqb, ne-eqb}
 use Rattle.message.specs.ListLaws.{every-step, every-end, length-dependencies}
 use borrow.Author.Needs.{needs}

@@ -1,5 +1,5 @@
 use native.Mathlib.Omega.{arith}
-use Rattle.message.specs.SequenceLaws.{from-number}
+use Rattle.sequence.specs.SequenceLaws.{from-number}
 use Rattle.message.specs.HeaderLaws.{header-is}
 use Rattle.model.specs.Message.{sequenceOf}
 use borrow.Author.Needs.{needs}

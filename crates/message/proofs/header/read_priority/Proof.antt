@@ -1,11 +1,9 @@
 use native.Mathlib.Omega.{arith}
-use mathlib.Core.Path.{_≡_, sym, _∙_, ap, ap₂}
+use mathlib.Core.Path.{sym, _∙_, ap, ap₂}
 use mathlib.Core.Bool.{Bool, cond}
-use Prim.Native.Nat.{ℕ}
 use borrow.Author.Tests.{eq-eqb, ne-eqb}
 use Rattle.model.specs.Bytes.{field}
 use Rattle.model.specs.Message.{blockOf, priorityOf}
-use Rattle.message.specs.declared.header.Priority.{Priority}
 use Rattle.message.specs.declared.header.Priority.the-variants.{Absent, Given}
 use borrow.Author.Needs.{needs}
 use Rattle.message.proofs.header.read_priority.Statement.{statement}

@@ -1,5 +1,5 @@
 use native.Mathlib.Omega.{arith}
-use mathlib.Core.Path.{_≡_, sym, _∙_, ap}
+use mathlib.Core.Path.{sym, _∙_, ap}
 use Rattle.message.specs.Check.{right}
 use Rattle.message.specs.ParsedLaws.{sized, wrong-layout, wrong-number, wrong-dependencies, wrong-content, all-right}
 use borrow.Author.Needs.{needs}

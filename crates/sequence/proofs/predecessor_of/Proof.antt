@@ -1,0 +1,32 @@
+use native.Mathlib.Omega.{arith}
+use mathlib.Core.Path.{_≡_, sym, _∙_, ap}
+use mathlib.Core.Bool.{Bool, cond}
+use mathlib.Core.List.{[], _∷_}
+use Prim.Native.Nat.{ℕ, _-_}
+use borrow.Author.Tests.{lt-ltb, le-ltb}
+use Rattle.model.specs.Message.{numberOf}
+use Rattle.sequence.specs.Sequence.{sequenceNumber}
+use borrow.Author.Needs.{needs}
+use Rattle.sequence.proofs.predecessor_of.Statement.{statement}
+use Rattle.sequence.proofs.predecessor_of.Tie as tie
+
+number-of-requires : tie.Need-number-of-requires
+number-of-requires c κs = search needs
+
+returns : tie.Need-returns
+returns c =
+    let s = sequenceNumber (c .before .before .args .s) in
+    sym (ap (λ (t : Bool). cond t ((s - 1) ∷ []) []) (le-ltb 1 (numberOf s) (omega arith)))
+
+sub-low : tie.Need-sub-low
+sub-low c = search needs
+
+returns-2 : tie.Need-returns-2
+returns-2 c =
+    let a = c .before .before .before .args in
+    let s = sequenceNumber (a .s) in
+    let less : sequenceNumber (record { high = a .s .high; low = a .s .low - 1 }) ≡ s - 1 = omega arith in
+    ap (λ (n : ℕ). n ∷ []) less ∙ sym (ap (λ (t : Bool). cond t ((s - 1) ∷ []) []) (lt-ltb 1 (numberOf s) (omega arith)))
+
+pub predecessor-of-spec : {M : Type 1} → statement M
+predecessor-of-spec = tie.close (tie.spec number-of-requires returns sub-low returns-2)

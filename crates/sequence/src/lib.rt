@@ -1,0 +1,88 @@
+// Sequences as two numbers: how they are read, compared and taken apart.
+use buffer::get_u32;
+use buffer::get_u64;
+ghost use mathlib.Core.Path.{_≡_};
+ghost use Prim.Native.Nat.{_+_, _≤_};
+ghost use lib.ListN.{length};
+ghost use lib.Dec.{eqb, ltb};
+ghost use Rattle.model.specs.Bytes.{field};
+ghost use Rattle.model.specs.Message.{numberOf, lineOf, predecessorOf};
+ghost use Rattle.sequence.specs.Sequence.{sequenceNumber, predecessorList};
+
+// How many numbers a line has, 0000 among them.
+pub const NUMBERS_OF_LINE: u32 = 65536;
+
+// The twelve bytes of a sequence: the first eight, and the last four.
+pub struct Sequence {
+    pub high: u64,
+    pub low: u32,
+}
+
+// A sequence's predecessor, where it has one.
+pub enum Predecessor {
+    Of(Sequence),
+    Absent,
+}
+
+// The sequence that stands at a place.
+pub fn read_sequence(s: &[u8], at: usize) -> Sequence
+    requires { ⌜ at + 12 ≤ length (now s) ⌝ }
+    ensures { λ r. ⌜ sequenceNumber r ≡ field (now (s .entry)) at 12 ⌝ }
+{
+    let high = get_u64(s, at);
+    let low = get_u32(s, at + 8);
+    Sequence { high, low }
+}
+
+// Whether one sequence is below another.
+pub fn less(a: Sequence, b: Sequence) -> bool
+    ensures { λ r. ⌜ r ≡ ltb (sequenceNumber a) (sequenceNumber b) ⌝ }
+{
+    if a.high < b.high {
+        return true;
+    }
+    if b.high < a.high {
+        return false;
+    }
+    a.low < b.low
+}
+
+// Whether two sequences are equal.
+pub fn equal(a: Sequence, b: Sequence) -> bool
+    ensures { λ r. ⌜ r ≡ eqb (sequenceNumber a) (sequenceNumber b) ⌝ }
+{
+    if a.high != b.high {
+        return false;
+    }
+    a.low == b.low
+}
+
+// The number of a sequence on its line.
+pub fn number_of(s: Sequence) -> u32
+    ensures { λ r. ⌜ r ≡ numberOf (sequenceNumber s) ⌝ }
+{
+    s.low % NUMBERS_OF_LINE
+}
+
+// Whether two sequences are on the same line.
+pub fn same_line(a: Sequence, b: Sequence) -> bool
+    ensures { λ r. ⌜ r ≡ eqb (lineOf (sequenceNumber a)) (lineOf (sequenceNumber b)) ⌝ }
+{
+    if a.high != b.high {
+        return false;
+    }
+    let line_a = a.low / NUMBERS_OF_LINE;
+    let line_b = b.low / NUMBERS_OF_LINE;
+    line_a == line_b
+}
+
+// The same line with number one less; number 0001 has none.
+pub fn predecessor_of(s: Sequence) -> Predecessor
+    ensures { λ r. ⌜ predecessorList r ≡ predecessorOf (sequenceNumber s) ⌝ }
+{
+    if number_of(s) <= 1 {
+        return Predecessor::Absent;
+    }
+    let low = s.low - 1;
+    Predecessor::Of(Sequence { high: s.high, low })
+}
