@@ -20,19 +20,21 @@ words-length (v ∷ values) =
     length-append (bytes 4 (word v)) (wordsOf values) ∙ omega (arith, length-bytes 4 (word v), words-length values)
 
 -- one value more
-words-snoc : (values : List ℤ) (v : ℤ) → wordsOf (values ++ (v ∷ [])) ≡ wordsOf values ++ bytes 4 (word v)
-words-snoc [] v = append-nil (bytes 4 (word v))
+words-snoc : (values : List ℤ) (v : ℤ) → wordsOf values ++ bytes 4 (word v) ≡ wordsOf (values ++ (v ∷ []))
+words-snoc [] v = sym (append-nil (bytes 4 (word v)))
 words-snoc (x ∷ values) v =
-    ap (λ (b : List ℕ). bytes 4 (word x) ++ b) (words-snoc values v) ∙ sym (append-assoc (bytes 4 (word x)) (wordsOf values) (bytes 4 (word v)))
+    append-assoc (bytes 4 (word x)) (wordsOf values) (bytes 4 (word v)) ∙ ap (λ (b : List ℕ). bytes 4 (word x) ++ b) (words-snoc values v)
+
+words-more : (values : List ℤ) (i : ℕ) → i < length values → wordsOf (take i values) ++ bytes 4 (word (getD values i (pos 0))) ≡ wordsOf (take (i + 1) values)
+words-more values i h =
+    words-snoc (take i values) (getD values i (pos 0)) ∙ ap wordsOf (sym (take-suc values i (pos 0) h)) ∙ ap (λ (n : ℕ). wordsOf (take n values)) (sym (add-one i))
 
 -- the first i values are written, and then the value at i: so are the first i + 1
 pub words-next : (b : List ℕ) (at : ℕ) (values : List ℤ) (i : ℕ) → i < length values → at + 4 * i ≤ length b
     → paste (paste b at (wordsOf (take i values)) (4 * i)) (at + 4 * i) (bytes 4 (word (getD values i (pos 0)))) 4
     ≡ paste b at (wordsOf (take (i + 1) values)) (4 * (i + 1))
 words-next b at values i h k =
-    let v = getD values i (pos 0) in
-    let written : length (wordsOf (take i values)) ≡ 4 * i = words-length (take i values) ∙ ap (λ (n : ℕ). 4 * n) (length-take-le i values (omega arith)) in
-    let more : wordsOf (take i values) ++ bytes 4 (word v) ≡ wordsOf (take (i + 1) values) =
-    sym (words-snoc (take i values) v) ∙ ap wordsOf (sym (take-suc values i (pos 0) h)) ∙ ap (λ (n : ℕ). wordsOf (take n values)) (sym (add-one i)) in
-    paste-paste b at (wordsOf (take i values)) (bytes 4 (word v)) (4 * i) 4 k written
-    ∙ ap₂ (paste b at) more (let e : 4 * i + 4 ≡ 4 * (i + 1) = omega arith in e)
+    let e : 4 * i + 4 ≡ 4 * (i + 1) = omega arith in
+    paste-paste b at (wordsOf (take i values)) (bytes 4 (word (getD values i (pos 0)))) (4 * i) 4 k
+    (words-length (take i values) ∙ ap (λ (n : ℕ). 4 * n) (length-take-le i values (omega arith)))
+    ∙ ap₂ (paste b at) (words-more values i h) e
