@@ -4,6 +4,7 @@
 #![deny(warnings)]
 #![deny(unsafe_code)]
 
+pub mod bench;
 pub mod boundary;
 pub mod call;
 pub mod differential;

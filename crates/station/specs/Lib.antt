@@ -1,1 +1,14 @@
+pub mod Answer
+pub mod EmptyCases
 pub mod DeliverCases
+pub mod AcceptLaws
+pub mod Ordering
+pub mod Reading
+pub mod ReadLaws
+pub mod RefuseLaws
+pub mod RefuseCases
+pub mod PoolLaws
+pub mod Accepting
+pub mod AcceptedLaws
+pub mod Delivering
+pub mod PlaceCases

@@ -1,0 +1,9 @@
+// The calls of a station: empty and deliver.
+pub mod accepting;
+pub mod answer;
+pub mod delivery;
+pub mod emptying;
+pub mod layout;
+pub mod ordering;
+pub mod reading;
+pub mod refusing;

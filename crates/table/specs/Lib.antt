@@ -1,2 +1,11 @@
 pub mod Table
 pub mod TableLaws
+pub mod Places
+pub mod PlaceLaws
+pub mod FindLaws
+pub mod InsertLaws
+pub mod PoolLaws
+pub mod Reading
+pub mod RefusalLaws
+pub mod ImageSetLaws
+pub mod ReadingLaws

@@ -1,5 +1,6 @@
 -- What a table stands for: the messages that start at its places in the pool. The pool is any run of bytes.
-use mathlib.Core.List.{List, map}
+use mathlib.Core.Path.{_≡_}
+use mathlib.Core.List.{List, _∷_, _++_, map}
 use Prim.Native.Nat.{ℕ, _+_}
 use lib.ListN.{take, drop}
 use Rattle.model.specs.Bytes.{field}
@@ -25,3 +26,11 @@ setIn pool starts = stateOf (deltasOf pool starts)
 -- At most 64 messages that pass 3 to 6, by ascending sequence.
 abbrev pub Holds : List ℕ → List ℕ → Type 0
 Holds pool starts = Valid (setIn pool starts)
+
+-- A start put in at a place.
+abbrev pub insertAt : ℕ → ℕ → List ℕ → List ℕ
+insertAt p at starts = take p starts ++ at ∷ drop p starts
+
+pub record Inserts (t : Table) (p at : ℕ) (r : Table) : Type 0 where
+  pub starts : startsOf r ≡ insertAt p at (startsOf t)
+  pub count : r .count ≡ t .count + 1

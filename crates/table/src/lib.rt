@@ -1,5 +1,48 @@
 // A set of deltas in a run of bytes, the pool: where each message starts, by ascending sequence.
+pub mod layout;
+pub mod places;
+pub mod reading;
+
+use crate::layout::CAPACITY;
+ghost use mathlib.Core.Path.{_≡_};
+ghost use mathlib.Core.List.{[]};
+ghost use Prim.Native.Nat.{_≤_, _<_};
+ghost use Rattle.model.specs.Layout.{capacity};
+ghost use Rattle.table.specs.Table.{startsOf, Inserts};
+
+// The places where messages start, the first `count` of them in use.
 pub struct Table {
-    pub starts: [usize; 64],
+    pub starts: [usize; CAPACITY],
     pub count: usize,
+}
+
+impl Table {
+    // No messages.
+    pub fn new() -> Table
+        ensures { λ r. ⌜ (startsOf r ≡ []) × (r .count ≡ 0) ⌝ }
+    {
+        Table {
+            starts: [0; CAPACITY],
+            count: 0,
+        }
+    }
+
+    // Puts a start in at a place; those from the place on move one on.
+    pub fn insert(self, p: usize, at: usize) -> Table
+        requires { ⌜ (self .count < capacity) × (p ≤ self .count) ⌝ }
+        ensures { λ r. ⌜ Inserts self p at r ⌝ }
+    {
+        let count = self.count;
+        let mut starts = self.starts;
+        let mut i = count;
+        while p < i {
+            starts[i] = starts[i - 1];
+            i -= 1;
+        }
+        starts[p] = at;
+        Table {
+            starts,
+            count: count + 1,
+        }
+    }
 }

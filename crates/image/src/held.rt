@@ -1,0 +1,47 @@
+// The places of the held messages: all that are not the log's.
+ghost use mathlib.Core.Path.{_≡_};
+ghost use Prim.Native.Nat.{_≤_};
+ghost use Rattle.model.specs.Layout.{capacity};
+ghost use Rattle.model.specs.Tests.{has};
+ghost use Rattle.image.specs.Places.{HeldBelow};
+
+// Places in ascending order: the first `count` of the array.
+pub struct Held {
+    pub places: [usize; 64],
+    pub count: usize,
+}
+
+// Whether a place is among places.
+fn is_among(places: &[usize], place: usize) -> bool
+    ensures { λ r. ⌜ r ≡ has place (now (places .entry)) ⌝ }
+{
+    let mut k = 0;
+    while k < places.len() {
+        if place == places[k] {
+            return true;
+        }
+        k += 1;
+    }
+    false
+}
+
+// The places below a count that are not among the given ones.
+pub fn held_places(count: usize, places: &[usize]) -> Held
+    requires { ⌜ count ≤ capacity ⌝ }
+    ensures { λ r. ⌜ HeldBelow count (now (places .entry)) r ⌝ }
+{
+    let mut held = [0usize; 64];
+    let mut n = 0;
+    let mut i = 0;
+    while i < count {
+        if !is_among(places, i) {
+            held[n] = i;
+            n += 1;
+        }
+        i += 1;
+    }
+    Held {
+        places: held,
+        count: n,
+    }
+}

@@ -1,0 +1,49 @@
+// The image of a set of deltas, written from the places of its log.
+pub mod header;
+pub mod held;
+pub mod layout;
+pub mod log;
+pub mod messages;
+
+use crate::header::put_header;
+use crate::held::held_places;
+use crate::layout::MESSAGES_START;
+use crate::layout::SETPOINTS_START;
+use crate::log::run_log;
+use crate::messages::copy_messages;
+use buffer::clear_from;
+use setpoints::values::put_values;
+ghost use mathlib.Core.Path.{_≡_};
+ghost use lib.ListN.{length};
+ghost use Rattle.model.specs.Layout.{imageSize};
+ghost use Rattle.model.specs.Image.{imageOf};
+ghost use Rattle.model.specs.Calls.{emptyState};
+ghost use Rattle.table.specs.Table.{setIn};
+ghost use Rattle.image.specs.Places.{Writable};
+
+// Writes the image of the set whose messages start at `starts` in the pool. `places` are the log's, in its order.
+pub fn write_image(out: &mut [u8], pool: &[u8], starts: &[usize], places: &[usize])
+    requires { ⌜ Writable (now out) (now pool) (now starts) (now places) ⌝ }
+    ensures { λ _. ⌜ now (out .exit) ≡ imageOf (setIn (now (pool .entry)) (now (starts .entry))) ⌝ }
+{
+    let values = run_log(pool, starts, places);
+    let held = held_places(starts.len(), places);
+    let others = held.places;
+    let count = held.count;
+    let behind = copy_messages(out, pool, starts, places, MESSAGES_START);
+    let used = copy_messages(out, pool, starts, &others[0..count], behind);
+    put_header(out, places.len() as u32, count as u32, used as u32);
+    put_values(out, values, SETPOINTS_START);
+    clear_from(out, used);
+}
+
+// Writes the image of the empty set.
+pub fn put_empty(out: &mut [u8])
+    requires { ⌜ length (now out) ≡ imageSize ⌝ }
+    ensures { λ _. ⌜ now (out .exit) ≡ imageOf emptyState ⌝ }
+{
+    let pool = [0u8; 1];
+    let starts = [0usize; 1];
+    let places = [0usize; 1];
+    write_image(out, &pool[0..0], &starts[0..0], &places[0..0]);
+}

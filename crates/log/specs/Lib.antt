@@ -1,0 +1,17 @@
+pub mod LogOrder
+pub mod CommonLaws
+pub mod LogOrderLaws
+pub mod Needs
+pub mod PaddedLaws
+pub mod IndexLaws
+pub mod RowLaws
+pub mod RowSteps
+pub mod EntryLaws
+pub mod Ready
+pub mod ReadyLaws
+pub mod Next
+pub mod NextLaws
+pub mod Ordered
+pub mod OrderLaws
+pub mod GrowingLaws
+pub mod StepsLaws

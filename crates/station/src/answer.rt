@@ -1,0 +1,20 @@
+// What the calls answer.
+
+// What deliver answers: the counts of its steps, or why it refused.
+pub enum Delivery {
+    Accepted { undos: usize, executions: usize },
+    WrongSize,
+    NoImage,
+    WrongLayout,
+    WrongNumber,
+    WrongDependencies,
+    WrongContent,
+    Conflict,
+    Full,
+}
+
+// What empty answers.
+pub enum Emptying {
+    Done,
+    WrongSize,
+}

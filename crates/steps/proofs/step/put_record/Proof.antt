@@ -1,0 +1,52 @@
+use mathlib.Core.Path.{ap, _∙_}
+use mathlib.Core.List.{List}
+use Prim.Native.Nat.{ℕ, _+_}
+use native.Mathlib.Omega.{arith}
+use lib.Seq.{paste}
+use Rattle.model.specs.Bytes.{bytes}
+use Rattle.steps.specs.StepLaws.{record-bytes}
+use borrow.Author.Needs.{needs}
+use Rattle.steps.proofs.step.put_record.Statement.{statement}
+use Rattle.steps.proofs.step.put_record.Tie as tie
+
+add-from : tie.Need-add-from
+add-from c = search needs
+
+put-u32-requires : tie.Need-put-u32-requires
+put-u32-requires c κs = search needs
+
+put-u64-requires : tie.Need-put-u64-requires
+put-u64-requires c κs = search needs
+
+add-put-u32 : tie.Need-add-put-u32
+add-put-u32 c = search needs
+
+put-u32-requires-2 : tie.Need-put-u32-requires-2
+put-u32-requires-2 c κs = search needs
+
+same-length : tie.Need-same-length
+same-length c = search needs
+
+returns : tie.Need-returns
+returns c =
+    let third = c .before .before in
+    let second = third .before .before .before .before in
+    let first = second .before .before .before .before in
+    let start = first .before .before .before in
+    let a = start .args in
+    third .put-u322 .ensures
+    ∙ ap (λ (b : List ℕ). paste b (a .at + 4 + 8) (bytes 4 (a .s .low)) 4)
+    (second .put-u64 .ensures ∙ ap (λ (b : List ℕ). paste b (a .at + 4) (bytes 8 (a .s .high)) 8) (first .put-u32 .ensures))
+    ∙ record-bytes (a .steps .now) (a .at) (a .kind) (a .s .high) (a .s .low) (omega arith) (omega (arith, start .good))
+
+pub put-record-spec : {M : Type 1} → statement M
+put-record-spec =
+    tie.close
+    (tie.spec
+    add-from
+    put-u32-requires
+    put-u64-requires
+    add-put-u32
+    put-u32-requires-2
+    same-length
+    returns)

@@ -1,0 +1,103 @@
+use mathlib.Core.Path.{_≡_, subst}
+use mathlib.Core.Logic.{⊎-elim}
+use mathlib.Core.List.{[], _∷_}
+use Prim.Native.Nat.{ℕ, _+_, _-_}
+use native.Mathlib.Omega.{arith}
+use lib.ListN.{take, drop}
+use types.Run.{OneOf}
+use denote.Enum.Declared.{tagOf}
+use Rattle.message.proofs.parse.Parsed.{the-type}
+use Rattle.message.specs.declared.parse.Parsed.{Parsed}
+use Rattle.message.specs.declared.parse.Parsed.the-variants as parsed
+use Rattle.model.specs.Bytes.{field}
+use Rattle.model.specs.Message.{Message}
+use Rattle.message.specs.Parsed.{parsedCode, Parses}
+use Rattle.table.specs.Table.{messageFrom}
+use Rattle.table.specs.RefusalLaws.{short-fails, past-end-fails, refused-fails, parsed-accepted}
+use borrow.Author.Needs.{needs}
+use Rattle.table.proofs.reading.read_message.Statement.{statement}
+use Rattle.table.proofs.reading.read_message.Tie as tie
+
+sub-left : tie.Need-sub-left
+sub-left c = search needs
+
+returns : tie.Need-returns
+returns c = short-fails (c .before .before .args .b .now) (c .before .before .args .at) (omega arith)
+
+add-get-u16 : tie.Need-add-get-u16
+add-get-u16 c = search needs
+
+get-u16-requires : tie.Need-get-u16-requires
+get-u16-requires c κs = search needs
+
+cast-size : tie.Need-cast-size
+cast-size c = search needs
+
+returns-2 : tie.Need-returns-2
+returns-2 c = past-end-fails (c .before .before .before .before .args .b .now) (c .before .before .before .before .args .at) (omega arith)
+
+add-end : tie.Need-add-end
+add-end c = search needs
+
+sub-parse : tie.Need-sub-parse
+sub-parse c = search needs
+
+part-parse-start : tie.Need-part-parse-start
+part-parse-start c = search needs
+
+part-parse-end : tie.Need-part-parse-end
+part-parse-end c = search needs
+
+parse-requires : tie.Need-parse-requires
+parse-requires c κs = search needs
+
+enum-known-parsed : tie.Need-enum-known-parsed
+enum-known-parsed c = search needs
+
+-- what was parsed is the message that starts at the place
+parsed-here : (c : tie.After-parse) → Parses (messageFrom (c .before .before .before .before .before .before .args .b .now) (c .before .before .before .before .before .before .args .at)) (c .parse .result)
+parsed-here c =
+    let a = c .before .before .before .before .before .before .args in
+    let n = c .before .before .before .get-u16 in
+    let e : a .at + n .result - a .at ≡ field (a .b .now) (a .at + 4) 2 = omega arith in
+    subst (λ (x : ℕ). Parses (take x (drop (a .at) (a .b .now))) (c .parse .result)) e (c .parse .ensures)
+
+-- a tag past the first is no message's
+no-message : (r : Parsed) → OneOf (1 ∷ 2 ∷ 3 ∷ 4 ∷ []) (tagOf the-type r) → parsedCode r ≡ 0 → ⊥
+no-message (parsed.Message h) k e = ⊎-elim (λ z. omega arith) (λ j. ⊎-elim (λ z. omega arith) (λ i. ⊎-elim (λ z. omega arith) (λ z. omega arith) i) j) k
+no-message parsed.WrongLayout k e = omega arith
+no-message parsed.WrongNumber k e = omega arith
+no-message parsed.WrongDependencies k e = omega arith
+no-message parsed.WrongContent k e = omega arith
+
+returns-3 : tie.Need-returns-3
+returns-3 c =
+    let a = c .before .before .before .before .before .before .before .args in
+    refused-fails (messageFrom (a .b .now) (a .at)) (c .before .parse .result) (parsed-here (c .before)) (no-message (c .before .parse .result) (c .match .keys2))
+
+returns-4 : tie.Need-returns-4
+returns-4 c =
+    let a = c .before .before .before .before .before .before .before .before .before .before .args in
+    let h = c .before .before .parsed .given .0 .0 in
+    let p : Parses (messageFrom (a .b .now) (a .at)) (parsed.Message h) = subst (λ (r : Parsed). Parses (messageFrom (a .b .now) (a .at)) r) (c .before .before .parsed .given .1) (parsed-here (c .before .before .before .before)) in
+    let m = parsed-accepted (messageFrom (a .b .now) (a .at)) h p in
+    (record { pass = m .pass; sequence = m .sequence }, c .before .before .before .before .before .before .before .get-u16 .ensures .0)
+
+pub read-message-spec : {M : Type 1} → statement M
+read-message-spec =
+    tie.close
+    (tie.spec
+    sub-left
+    returns
+    add-get-u16
+    get-u16-requires
+    cast-size
+    returns-2
+    add-end
+    sub-parse
+    part-parse-start
+    part-parse-end
+    parse-requires
+    enum-known-parsed
+    returns-3
+    returns-4)

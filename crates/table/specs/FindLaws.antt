@@ -1,0 +1,47 @@
+-- What `find` answers, in terms of the set: whether a sequence is present, and the message that it has.
+use mathlib.Core.Path.{_≡_, sym, _∙_, ap}
+use mathlib.Core.Logic.{⊎-elim}
+use mathlib.Core.Bool.{true, false}
+use mathlib.Core.List.{List, [], Memᴰ·cast, Memᴰ·map, Memᴰ·of-map}
+use Prim.Native.Nat.{ℕ, _<_}
+use native.Mathlib.Omega.{arith}
+use lib.ListN.{length, getD, length-map}
+use lib.Dec.{ltb, ltb→lt, nltb→le}
+use Rattle.model.specs.Tests.{_∈_, has}
+use Rattle.model.specs.Message.{Message, sequenceOf}
+use Rattle.model.specs.Order.{sequencesOf, find}
+use Rattle.order.specs.TestLaws.{decide, has→∈, ∈→has}
+use Rattle.laws.specs.SetLaws.{find-here}
+use Rattle.sequence.specs.Decisions.{T-true, T-false}
+use Rattle.table.specs.Table.{messageFrom, deltasOf, Holds}
+use Rattle.table.specs.Places.{sequenceIn, IsPresent, IsAbsent}
+use Rattle.table.specs.PlaceLaws.{at-member, IsAt, member-at}
+
+module _ (pool starts : List ℕ) (s i : ℕ) (present : IsPresent pool starts s i) where
+  pub present-member : getD (deltasOf pool starts) i [] ∈ deltasOf pool starts
+  present-member = at-member (deltasOf pool starts) i (omega (arith, length-map starts (messageFrom pool), present .inside))
+
+  pub present-has : has s (sequencesOf (deltasOf pool starts)) ≡ true
+  present-has = T-true (has s (sequencesOf (deltasOf pool starts))) (∈→has (Memᴰ·cast (sym (present .here)) (Memᴰ·map sequenceOf present-member)))
+
+  pub present-find : Holds pool starts → find (deltasOf pool starts) s ≡ getD (deltasOf pool starts) i []
+  present-find holds =
+      ap (find (deltasOf pool starts)) (sym (present .here))
+      ∙ find-here (deltasOf pool starts) (holds .ascends) (getD (deltasOf pool starts) i []) present-member
+
+module _ (pool starts : List ℕ) (s p : ℕ) (absent : IsAbsent pool starts s p) where
+  no-place : (k : ℕ) → k < length starts → sequenceIn pool starts k ≡ s → ⊥
+  no-place k q e = ⊎-elim
+      (λ t. omega (arith, absent .before k (ltb→lt k p t)))
+      (λ t. omega (arith, absent .after k (nltb→le k p t) q))
+      (decide (ltb k p))
+
+  pub absent-member : (m : Message) → m ∈ deltasOf pool starts → sequenceOf m ≡ s → ⊥
+  absent-member m k e =
+      let r : IsAt (deltasOf pool starts) m = member-at (deltasOf pool starts) m k in
+      no-place (r .place) (omega (arith, length-map starts (messageFrom pool), r .inside)) (ap sequenceOf (r .here) ∙ e)
+
+  pub absent-has : has s (sequencesOf (deltasOf pool starts)) ≡ false
+  absent-has = T-false (has s (sequencesOf (deltasOf pool starts))) (λ t.
+      let r = Memᴰ·of-map sequenceOf (deltasOf pool starts) (has→∈ s (sequencesOf (deltasOf pool starts)) t) in
+      absent-member (r .0) (r .1) (r .2))

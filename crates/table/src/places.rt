@@ -1,0 +1,38 @@
+// Where the message of a sequence stands in a table, or where it would.
+use message::layout::SEQUENCE_AT;
+use sequence::Sequence;
+use sequence::equal;
+use sequence::less;
+use sequence::read_sequence;
+ghost use Rattle.sequence.specs.Sequence.{sequenceNumber};
+ghost use Rattle.table.specs.Table.{Holds};
+ghost use Rattle.table.specs.Places.{Finds};
+
+// The place of a sequence's message, or the place between lower and higher ones where it would stand.
+pub enum Place {
+    Present(usize),
+    Absent(usize),
+}
+
+// Searches messages by ascending sequence, halving what is left.
+pub fn find(pool: &[u8], starts: &[usize], s: Sequence) -> Place
+    requires { ⌜ Holds (now pool) (now starts) ⌝ }
+    ensures { λ r. ⌜ Finds (now (pool .entry)) (now (starts .entry)) (sequenceNumber s) r ⌝ }
+{
+    let mut low = 0;
+    let mut high = starts.len();
+    while low < high {
+        let middle = low + (high - low) / 2;
+        let at = starts[middle];
+        let x = read_sequence(pool, at + SEQUENCE_AT);
+        if equal(x, s) {
+            return Place::Present(middle);
+        }
+        if less(x, s) {
+            low = middle + 1;
+        } else {
+            high = middle;
+        }
+    }
+    Place::Absent(low)
+}

@@ -1,0 +1,70 @@
+#!/bin/sh
+# Instructions of one delivery, of the library and of the second implementation.
+#
+#   sh callgrind.sh [options of cargo build, such as --features library]
+#
+# A case is run with two numbers of calls. What lies between the two counts is that many
+# calls and nothing else; the refilling of the buffers, counted alone, is taken off. The
+# counts do not depend on what else the machine does.
+set -eu
+
+cases='chain-latest-0 chain-latest-63 chain-earliest-63 waiting-first-63
+priority-earliest-63 longest-latest-63 ring200-held-63 longest-code8-64'
+few=5
+many=25
+
+if ! command -v valgrind >/dev/null 2>&1; then
+    echo 'callgrind.sh: valgrind is missing; nothing was counted' >&2
+    exit 2
+fi
+
+cd "$(dirname "$0")"
+cargo build --release --offline --bin bench "$@"
+bench=${CARGO_TARGET_DIR:-target}/release/bench
+
+# One instruction that copies a whole buffer is counted once for each byte. Where the C
+# library can do without it, copies are made in wide steps.
+GLIBC_TUNABLES=glibc.cpu.x86_rep_movsb_threshold=1000000
+GLIBC_TUNABLES=$GLIBC_TUNABLES:glibc.cpu.x86_rep_stosb_threshold=1000000
+export GLIBC_TUNABLES
+
+# total CASE SIDE CALLS: the instructions of a whole run.
+total() {
+    log=$(valgrind --tool=callgrind --callgrind-out-file=/dev/null \
+        "$bench" --case "$1" --of "$2" --calls "$3" 2>&1) || log="failed: $log"
+    count=$(printf '%s\n' "$log" | sed -n 's/^==[0-9]*== Collected : \([0-9]*\).*/\1/p')
+    case $log in
+    failed:*) count= ;;
+    esac
+    if [ -z "$count" ]; then
+        printf 'callgrind.sh: no count of %s\n%s\n' "$1" "$log" >&2
+        return 1
+    fi
+    echo "$count"
+}
+
+# each CASE SIDE: the instructions of one call and one refilling.
+each() {
+    low=$(total "$1" "$2" "$few") || return 1
+    high=$(total "$1" "$2" "$many") || return 1
+    echo $(((high - low) / (many - few)))
+}
+
+# The program says what stands on the library's side.
+first=$("$bench" --case chain-latest-0 --of library --calls 0 2>&1)
+first=${first##* }
+if [ "$first" != library ]; then
+    echo 'NO LIBRARY: built without the feature library. The column named'
+    echo '"itself" is the second implementation once more.'
+fi
+copy=$(each chain-latest-0 copy)
+echo "Instructions a call, without the $copy of refilling the buffers."
+printf '%-22s%14s%14s%14s\n' case "$first" second "$first/2nd"
+for name in $cases; do
+    one=$(each "$name" library)
+    two=$(each "$name" second)
+    one=$((one - copy))
+    two=$((two - copy))
+    ratio=$(awk "BEGIN { printf \"%.2f\", $one / $two }")
+    printf '%-22s%14d%14d%14s\n' "$name" "$one" "$two" "$ratio"
+done

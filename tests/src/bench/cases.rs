@@ -1,0 +1,297 @@
+//! The cases of the benchmark: an image, a message that arrives, and the answer.
+
+use std::fmt;
+
+use crate::boundary::{Calls, Reference};
+use crate::edit::Edit;
+use crate::reference::image::SIZE;
+use crate::reference::steps::BUFFER;
+use crate::wire::{command, line, sequence, set, Command, Draft, Sequence};
+
+/// How many deltas the images hold.
+pub const COUNTS: [usize; 4] = [0, 16, 40, 63];
+/// The ring has this many deltas, so that the 64th closes it.
+const RING: usize = 64;
+/// The line of the first delta of an image; a lower one stays free.
+const FIRST_LINE: u8 = 0x10;
+const LOWER_LINE: u8 = 0x01;
+
+/// What the deltas of an image are like.
+#[derive(Clone, Copy, Debug, PartialEq, Eq)]
+pub enum Shape {
+    /// One line, its numbers from 1.
+    Chain,
+    /// One line, its numbers from 2: all held.
+    Waiting,
+    /// A line for each delta, and no needs.
+    Lone,
+    /// Lone lines with blocks and priorities; the log is not in order of sequence.
+    Priority,
+    /// A line for each delta, which names the eight before it.
+    Needs,
+    /// The same with eight commands: 200 bytes from the ninth delta on.
+    Longest,
+    /// Each delta names the next of a ring: all held.
+    Ring,
+    /// Each delta names the next eight of a ring and has eight commands: all held, and
+    /// all messages of 200 bytes.
+    RingLongest,
+}
+
+/// What arrives.
+#[derive(Clone, Copy, Debug, PartialEq, Eq)]
+pub enum Arrival {
+    /// The delta of the latest key: no undo.
+    Latest,
+    /// A delta of a key before all others: everything is undone.
+    Earliest,
+    /// The first of a line that waits for it: everything is executed.
+    First,
+    /// One more delta that is held.
+    Held,
+    /// A delta that is present.
+    Repeat,
+    /// What is refused by a code.
+    Refused(u32),
+}
+
+/// A case before its image is built, which takes as many deliveries as it holds.
+#[derive(Clone, Copy, Debug, PartialEq, Eq)]
+pub struct Spec {
+    pub shape: Shape,
+    pub arrival: Arrival,
+    pub count: usize,
+}
+
+/// A case: what a delivery gets, and what it must answer.
+#[derive(Clone, Debug, PartialEq, Eq)]
+pub struct Case {
+    pub name: String,
+    pub image: Vec<u8>,
+    pub message: Vec<u8>,
+    pub steps: Vec<u8>,
+    pub answer: u32,
+}
+
+/// The pairs of shape and arrival that are measured at each count.
+pub const GROWING: [(Shape, Arrival); 14] = [
+    (Shape::Chain, Arrival::Latest),
+    (Shape::Chain, Arrival::Earliest),
+    (Shape::Waiting, Arrival::First),
+    (Shape::Lone, Arrival::Latest),
+    (Shape::Lone, Arrival::Earliest),
+    (Shape::Priority, Arrival::Latest),
+    (Shape::Priority, Arrival::Earliest),
+    (Shape::Needs, Arrival::Latest),
+    (Shape::Needs, Arrival::Earliest),
+    (Shape::Longest, Arrival::Latest),
+    (Shape::Longest, Arrival::Earliest),
+    (Shape::Waiting, Arrival::Held),
+    (Shape::Ring, Arrival::Held),
+    (Shape::RingLongest, Arrival::Held),
+];
+
+/// All cases.
+pub fn specs() -> Vec<Spec> {
+    let mut specs = Vec::new();
+    for (shape, arrival) in GROWING {
+        specs.extend(COUNTS.map(|count| Spec::new(shape, arrival, count)));
+    }
+    for shape in [Shape::Chain, Shape::Longest, Shape::RingLongest] {
+        specs.extend([1, 16, 40, 63, 64].map(|count| Spec::new(shape, Arrival::Repeat, count)));
+    }
+    for code in 1..=8 {
+        let count = if code == 8 { 64 } else { 63 };
+        specs.push(Spec::new(Shape::Longest, Arrival::Refused(code), count));
+    }
+    specs
+}
+
+/// The case of that name.
+pub fn named(name: &str) -> Option<Spec> {
+    specs().into_iter().find(|spec| spec.to_string() == name)
+}
+
+impl Spec {
+    pub fn new(shape: Shape, arrival: Arrival, count: usize) -> Spec {
+        Spec {
+            shape,
+            arrival,
+            count,
+        }
+    }
+
+    /// The case, its image as the second implementation writes it.
+    pub fn build(&self) -> Case {
+        let mut case = Case {
+            name: self.to_string(),
+            image: self.shape.image(self.count),
+            message: self.draft().bytes(),
+            steps: vec![0xA5; BUFFER],
+            answer: self.answer(),
+        };
+        match self.arrival {
+            Arrival::Refused(1) => case.steps.truncate(BUFFER - 1),
+            Arrival::Refused(2) => Edit::Setpoint(63, 1).apply(&mut case.image),
+            Arrival::Refused(3) => case.message.truncate(case.message.len() - 1),
+            _ => {}
+        }
+        case
+    }
+
+    /// The delta that arrives.
+    fn draft(&self) -> Draft {
+        let next = self.shape.member(self.count);
+        match self.arrival {
+            Arrival::Latest if self.shape == Shape::Priority => next.priority(9, 0),
+            Arrival::Latest | Arrival::Held => next,
+            Arrival::Earliest => self.shape.before_all(),
+            Arrival::First => Draft::new(line(FIRST_LINE), 1),
+            Arrival::Repeat => self.shape.member(self.count - 1),
+            Arrival::Refused(7) => spoiled(7, self.shape.member(self.count - 1)),
+            Arrival::Refused(code) => spoiled(code, next),
+        }
+    }
+
+    /// The packed answer that makes the case what its name says.
+    fn answer(&self) -> u32 {
+        let count = self.count as u32;
+        match self.arrival {
+            Arrival::Latest => 65_536,
+            Arrival::Earliest => 256 * count + 65_536 * (count + 1),
+            Arrival::First => 65_536 * (count + 1),
+            Arrival::Held | Arrival::Repeat => 0,
+            Arrival::Refused(code) => code,
+        }
+    }
+}
+
+impl Shape {
+    /// The delta at a place of the image.
+    fn member(self, place: usize) -> Draft {
+        let number = place as u16;
+        let draft = match self {
+            Shape::Chain => Draft::new(line(FIRST_LINE), number + 1),
+            Shape::Waiting => Draft::new(line(FIRST_LINE), number + 2),
+            _ => Draft::new(own_line(place), 1),
+        };
+        let draft = draft.naming(&self.names(place));
+        let draft = draft.commands(&self.commands(place));
+        match self {
+            Shape::Priority => draft.priority(1 + place as u32 % 8, 5 * place as u32 % 16),
+            _ => draft,
+        }
+    }
+
+    /// What the delta at a place names, ascending.
+    fn names(self, place: usize) -> Vec<Sequence> {
+        let mut places: Vec<usize> = match self {
+            Shape::Needs | Shape::Longest => (place.saturating_sub(8)..place).collect(),
+            Shape::Ring => vec![(place + 1) % RING],
+            Shape::RingLongest => (1..=8).map(|step| (place + step) % RING).collect(),
+            _ => Vec::new(),
+        };
+        places.sort_unstable();
+        let named = |place: &usize| sequence(own_line(*place), 1);
+        places.iter().map(named).collect()
+    }
+
+    /// One command or eight, of all three operations over all tags.
+    fn commands(self, place: usize) -> Vec<Command> {
+        let count = match self {
+            Shape::Longest | Shape::RingLongest => 8,
+            _ => 1,
+        };
+        let numbered = |at: usize| {
+            let value = 1_000 * at as i32 - 250_000;
+            command(1 + (at % 3) as u8, (at % 64) as u8, value)
+        };
+        (8 * place..).map(numbered).take(count).collect()
+    }
+
+    /// A delta of a key before all members, with no needs.
+    fn before_all(self) -> Draft {
+        let draft = Draft::new(line(LOWER_LINE), 1).commands(&self.commands(0));
+        match self {
+            Shape::Priority => draft.priority(1, 2_147_483_647),
+            _ => draft,
+        }
+    }
+
+    /// The image of the first so many members.
+    fn image(self, count: usize) -> Vec<u8> {
+        let mut image = vec![0; SIZE];
+        let mut steps = vec![0; BUFFER];
+        Reference.empty(&mut image);
+        for place in 0..count {
+            Reference.deliver(&mut image, &self.member(place).bytes(), &mut steps);
+        }
+        image
+    }
+}
+
+/// The line of a member, where each has its own.
+fn own_line(place: usize) -> [u8; 10] {
+    line(FIRST_LINE + place as u8)
+}
+
+/// One of the longest deltas, made to be refused by a code as late as can be. Codes 1
+/// to 3 are made on the buffers, and code 8 needs nothing but a full station.
+fn spoiled(code: u32, mut draft: Draft) -> Draft {
+    match code {
+        4 => draft.number = 0,
+        5 => draft.dependencies.swap(6, 7),
+        6 => draft.commands[7] = set(63, 1_000_001),
+        7 => draft.commands[7] = set(63, 7),
+        _ => {}
+    }
+    draft
+}
+
+impl fmt::Display for Spec {
+    fn fmt(&self, f: &mut fmt::Formatter) -> fmt::Result {
+        write!(f, "{}-{}-{}", self.shape, self.arrival, self.count)
+    }
+}
+
+impl fmt::Display for Shape {
+    fn fmt(&self, f: &mut fmt::Formatter) -> fmt::Result {
+        f.write_str(match self {
+            Shape::Chain => "chain",
+            Shape::Waiting => "waiting",
+            Shape::Lone => "lone",
+            Shape::Priority => "priority",
+            Shape::Needs => "needs",
+            Shape::Longest => "longest",
+            Shape::Ring => "ring",
+            Shape::RingLongest => "ring200",
+        })
+    }
+}
+
+impl fmt::Display for Arrival {
+    fn fmt(&self, f: &mut fmt::Formatter) -> fmt::Result {
+        match self {
+            Arrival::Latest => f.write_str("latest"),
+            Arrival::Earliest => f.write_str("earliest"),
+            Arrival::First => f.write_str("first"),
+            Arrival::Held => f.write_str("held"),
+            Arrival::Repeat => f.write_str("repeat"),
+            Arrival::Refused(code) => write!(f, "code{code}"),
+        }
+    }
+}
+
+#[cfg(test)]
+mod tests {
+    use super::{named, specs};
+    use crate::bench::measure::check;
+
+    #[test]
+    fn every_case_is_what_its_name_says_on_both_sides() {
+        for spec in specs() {
+            assert_eq!(named(&spec.to_string()), Some(spec), "a name is used twice");
+            assert_eq!(check(&spec.build()).err(), None);
+        }
+    }
+}

@@ -1,0 +1,99 @@
+//! The two sides that are measured, and the buffers they share.
+
+use crate::bench::cases::Case;
+use crate::boundary::{Calls, Reference};
+use std::hint::black_box;
+
+/// The name of the first side: without the library's deliver it is the second
+/// implementation once more.
+pub const FIRST: &str = if cfg!(feature = "library-deliver") {
+    "library"
+} else {
+    "itself"
+};
+
+#[cfg(feature = "link")]
+static LIBRARY: crate::boundary::Library = crate::boundary::Library;
+#[cfg(not(feature = "link"))]
+static LIBRARY: Reference = Reference;
+static SECOND: Reference = Reference;
+
+/// What is run in a measurement. `Copy` makes no call: it is what both sides have in
+/// common, the refilling of the buffers.
+#[derive(Clone, Copy, Debug, PartialEq, Eq)]
+pub enum Side {
+    Library,
+    Second,
+    Copy,
+}
+
+impl Side {
+    /// The side of that name on the command line.
+    pub fn named(name: &str) -> Option<Side> {
+        match name {
+            "library" => Some(Side::Library),
+            "second" => Some(Side::Second),
+            "copy" => Some(Side::Copy),
+            _ => None,
+        }
+    }
+
+    /// The implementation, called the same way on both sides so that none is inlined.
+    pub fn calls(self) -> Option<&'static dyn Calls> {
+        match self {
+            Side::Library => Some(library()),
+            Side::Second => Some(second()),
+            Side::Copy => None,
+        }
+    }
+}
+
+/// The library, or what stands in for it.
+pub fn library() -> &'static dyn Calls {
+    black_box(&LIBRARY)
+}
+
+/// The second implementation.
+pub fn second() -> &'static dyn Calls {
+    black_box(&SECOND)
+}
+
+/// The image and the step buffer of a call, at the same addresses for both sides.
+#[derive(Clone, Debug, PartialEq, Eq)]
+pub struct Buffers {
+    pub image: Vec<u8>,
+    pub steps: Vec<u8>,
+}
+
+impl Buffers {
+    /// The buffers as a call of the case finds them.
+    pub fn new(case: &Case) -> Buffers {
+        Buffers {
+            image: case.image.clone(),
+            steps: case.steps.clone(),
+        }
+    }
+
+    /// Copies image and step buffer of the case afresh.
+    pub fn refill(&mut self, case: &Case) {
+        black_box(&mut self.image).copy_from_slice(black_box(&case.image));
+        black_box(&mut self.steps).copy_from_slice(black_box(&case.steps));
+    }
+
+    /// One delivery of the case.
+    pub fn deliver(&mut self, calls: &dyn Calls, case: &Case) -> u32 {
+        black_box(calls.deliver(&mut self.image, &case.message, &mut self.steps))
+    }
+}
+
+/// Refills the buffers and delivers, so many times, and nothing else.
+pub fn repeat(case: &Case, side: Side, times: u64) {
+    let calls = side.calls();
+    let mut buffers = Buffers::new(case);
+    for _ in 0..times {
+        buffers.refill(case);
+        if let Some(calls) = calls {
+            buffers.deliver(calls, case);
+        }
+    }
+}
