@@ -12,3 +12,4 @@ pub mod Accepting
 pub mod AcceptedLaws
 pub mod Delivering
 pub mod PlaceCases
+pub mod CountLaws

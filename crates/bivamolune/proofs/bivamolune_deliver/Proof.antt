@@ -1,0 +1,31 @@
+use borrow.Author.Needs.{needs}
+use Rattle.bivamolune.proofs.bivamolune_deliver.Statement.{statement}
+use Rattle.bivamolune.proofs.bivamolune_deliver.Tie as tie
+use Rattle.bivamolune.proofs.bivamolune_deliver.Reads as reads
+use Rattle.bivamolune.proofs.bivamolune_deliver.Lts as lts
+use Rattle.bivamolune.proofs.pack.Reads as pack-reads
+use Rattle.station.proofs.delivery.deliver.Reads as deliver-reads
+
+-- src/lib.rt:52:9
+deliver-requires : tie.Need-deliver-requires
+deliver-requires c κs = search needs
+
+-- src/lib.rt:53:5
+pack-requires : tie.Need-pack-requires
+pack-requires c κs = ?
+
+-- src/lib.rt:48:1
+same-length : tie.Need-same-length
+same-length c = search needs
+
+-- src/lib.rt:48:1
+same-length-2 : tie.Need-same-length-2
+same-length-2 c = search needs
+
+-- src/lib.rt:48:1
+returns : tie.Need-returns
+returns c = ?
+
+pub bivamolune-deliver-spec : {M : Type 1} → statement M
+bivamolune-deliver-spec =
+    tie.close (tie.spec deliver-requires pack-requires same-length same-length-2 returns)

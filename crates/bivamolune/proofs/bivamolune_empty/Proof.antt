@@ -1,0 +1,26 @@
+use borrow.Author.Needs.{needs}
+use Rattle.bivamolune.proofs.bivamolune_empty.Statement.{statement}
+use Rattle.bivamolune.proofs.bivamolune_empty.Tie as tie
+use Rattle.bivamolune.proofs.bivamolune_empty.Reads as reads
+use Rattle.bivamolune.proofs.bivamolune_empty.Lts as lts
+use Rattle.bivamolune.proofs.code_of.Reads as code-of-reads
+use Rattle.station.proofs.emptying.empty.Reads as empty-reads
+
+-- src/lib.rt:43:9
+empty-requires : tie.Need-empty-requires
+empty-requires c κs = search needs
+
+-- src/lib.rt:44:5
+code-of-requires : tie.Need-code-of-requires
+code-of-requires c κs = search needs
+
+-- src/lib.rt:39:1
+same-length : tie.Need-same-length
+same-length c = search needs
+
+-- src/lib.rt:39:1
+returns : tie.Need-returns
+returns c = ?
+
+pub bivamolune-empty-spec : {M : Type 1} → statement M
+bivamolune-empty-spec = tie.close (tie.spec empty-requires code-of-requires same-length returns)
