@@ -1,3 +1,6 @@
+use mathlib.Core.Path.{sym, _∙_, ap, subst}
+use native.Mathlib.Omega.{arith}
+use Rattle.bivamolune.specs.Answers.{Small, packedBy}
 use borrow.Author.Needs.{needs}
 use Rattle.bivamolune.proofs.pack.Statement.{statement}
 use Rattle.bivamolune.proofs.pack.Tie as tie
@@ -11,7 +14,9 @@ enum-known-d c = search needs
 
 -- src/lib.rt:16:53
 pack-answer-requires : tie.Need-pack-answer-requires
-pack-answer-requires c κs = ?
+pack-answer-requires c κs =
+    let small = subst Small (c .before .d .given .1) (c .before .before .before .pre) in
+    record { byte = omega arith; most-undos = small .0; most-executions = small .1 }
 
 -- src/lib.rt:17:32
 enum-told : tie.Need-enum-told
@@ -47,7 +52,7 @@ enum-told-8 c = search needs
 
 -- src/lib.rt:11:1
 returns : tie.Need-returns
-returns c = ?
+returns c = c .pack-answer .ensures ∙ ap packedBy (sym (c .before .before .d .given .1))
 
 -- src/lib.rt:11:1
 returns-2 : tie.Need-returns-2
