@@ -3,8 +3,8 @@ use mathlib.Core.Path.{_≡_}
 use mathlib.Core.Bool.{cond}
 use mathlib.Core.Option.{Option, some, none}
 use mathlib.Core.List.{List, []}
-use Prim.Native.Nat.{ℕ, _<_}
-use lib.ListN.{length, getD}
+use Prim.Native.Nat.{ℕ, _≤_, _<_}
+use lib.ListN.{length, getD, drop}
 use Rattle.model.specs.Tests.{keep}
 use Rattle.model.specs.Message.{Message, sequenceOf, blockOf, needsOf}
 use Rattle.model.specs.Listing as L
@@ -53,6 +53,12 @@ pub record Tables (pool starts needs placed blocks : List ℕ) : Type 0 where
 pub record Picks (S : State) (done : List ℕ) (l : List Message) (r : Next) : Type 0 where
   pub lowest : deltaOf (S .deltas) r ≡ L.lowestOf sequenceOf needsOf (keyOf S) less (keep (L.ready sequenceOf needsOf done) l)
   pub settled : Settled S r
+
+-- What holds where the loop of `next` tests: the same, whatever deltas are placed, of those from an index on.
+pub record Looked (pool starts placed blocks : List ℕ) (i : ℕ) (r : Next) : Type 0 where
+  pub inside : i ≤ length starts
+  pub within : Within (length starts) r
+  pub picks : (l : List Message) → Progress (setIn pool starts) placed blocks l → Picks (setIn pool starts) (after sequenceOf needsOf [] l) (drop i (deltasOf pool starts)) r
 
 -- Whatever deltas are placed: of all the one of the lowest key of those that are ready.
 pub record NextRight (pool starts placed blocks : List ℕ) (r : Next) : Type 0 where

@@ -3,7 +3,7 @@ use mathlib.Core.Path.{_≡_, refl, sym, _∙_, ap, ap₂, subst}
 use mathlib.Core.Bool.{Bool, true, false, cond}
 use mathlib.Core.Option.{some}
 use mathlib.Core.List.{List, [], _∷_}
-use Prim.Native.Nat.{ℕ, suc, _≤_, _<_}
+use Prim.Native.Nat.{ℕ, suc, _-_, _≤_, _<_}
 use native.Mathlib.Omega.{arith}
 use lib.ListN.{length, getD, drop, drop-of-length-le}
 use lib.Seq.{drop-cons}
@@ -20,8 +20,8 @@ use Rattle.log.specs.declared.candidate.Next.the-variants.{At, Nothing}
 use Rattle.log.specs.Needs.{NeedsRight, RowFits}
 use Rattle.log.specs.Ready.{readyIn, effectiveIn, Progress}
 use Rattle.log.specs.ReadyLaws.{ready-is, block-is}
-use Rattle.log.specs.Next.{deltaOf, Within, Settled, candidateIn, lowerOf, Tables, Picks}
-use Rattle.table.specs.Table.{deltasOf}
+use Rattle.log.specs.Next.{deltaOf, Within, Settled, candidateIn, lowerOf, Tables, Picks, Looked, NextRight}
+use Rattle.table.specs.Table.{deltasOf, setIn}
 use Rattle.log.specs.RowLaws.{row-fits}
 use Rattle.log.specs.EntryLaws.{deltas-length, starts-few}
 
@@ -123,3 +123,39 @@ module _ (S : State) (valid : Valid S) (needs placed blocks : List ℕ) (rows : 
       more =
           ap (λ (t : Bool). cond t (getD (S .deltas) k [] ∷ rest) rest) is
           ∙ ap (keep (L.ready sequenceOf needsOf (after sequenceOf needsOf [] l))) (sym (drop-cons (S .deltas) k [] h))
+
+-- ---- where the loop of `next` tests: at first, after a turn, at the end
+module _ (pool starts needs placed blocks : List ℕ) (tables : Tables pool starts needs placed blocks) where
+  pub looked-none : Looked pool starts placed blocks (length starts) Nothing
+  looked-none = record {
+    inside = omega arith;
+    within = tt;
+    picks = λ l p. picks-none (setIn pool starts) (after sequenceOf needsOf [] l) (length starts) (omega (arith, deltas-length pool starts));
+  }
+
+  pub found-within : (k : ℕ) → k < length starts → (a : Next) → a ≡ candidateIn (deltasOf pool starts) needs placed blocks k → Within (length starts) a
+  found-within k h a e = subst (Within (length starts)) (sym e) (within-candidate (deltasOf pool starts) needs placed blocks (length starts) k h)
+
+  pub looked-more : (i : ℕ) → 0 < i → (best : Next) → Looked pool starts placed blocks i best → (a r : Next) → a ≡ candidateIn (deltasOf pool starts) needs placed blocks (i - 1)
+      → r ≡ lowerOf (deltasOf pool starts) a best → Looked pool starts placed blocks (i - 1) r
+  looked-more i up best g a r e q = record {
+    inside = omega (arith, g .inside);
+    within = subst (Within (length starts)) (sym q) (within-lower (deltasOf pool starts) (length starts) a best (found-within (i - 1) (omega (arith, g .inside)) a e) (g .within));
+    picks = λ l p. subst (Picks (setIn pool starts) (after sequenceOf needsOf [] l) (drop (i - 1) (deltasOf pool starts))) (sym found)
+        (picks-more (setIn pool starts) (tables .holds) needs placed blocks (tables .rows) l p (i - 1) (omega (arith, g .inside, deltas-length pool starts)) best
+        (subst (λ (n : ℕ). Picks (setIn pool starts) (after sequenceOf needsOf [] l) (drop n (deltasOf pool starts)) best) last (g .picks l p)));
+  }
+    where
+      last : i ≡ suc (i - 1)
+      last = omega arith
+
+      found : r ≡ lowerOf (deltasOf pool starts) (candidateIn (deltasOf pool starts) needs placed blocks (i - 1)) best
+      found = q ∙ ap (λ (x : Next). lowerOf (deltasOf pool starts) x best) e
+
+  pub looked-all : (i : ℕ) → i ≤ 0 → (best : Next) → Looked pool starts placed blocks i best → NextRight pool starts placed blocks best
+  looked-all i none best g =
+      let all : i ≡ 0 = omega arith in
+      record {
+        within = g .within;
+        picks = λ l p. subst (λ (n : ℕ). Picks (setIn pool starts) (after sequenceOf needsOf [] l) (drop n (deltasOf pool starts)) best) all (g .picks l p);
+      }
