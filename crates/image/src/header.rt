@@ -1,14 +1,14 @@
 // The first 16 bytes of an image.
-use crate::layout::HELD_COUNT_AT;
-use crate::layout::LOG_COUNT_AT;
-use crate::layout::MESSAGES_OFFSET_AT;
-use crate::layout::MESSAGES_START;
-use crate::layout::SETPOINTS_OFFSET_AT;
-use crate::layout::SETPOINTS_START;
-use crate::layout::USED_AT;
-use crate::layout::ZEROS_AT;
 use buffer::put_u16;
 use buffer::put_u32;
+use layout::HELD_COUNT_AT;
+use layout::LOG_COUNT_AT;
+use layout::MESSAGES_OFFSET_AT;
+use layout::MESSAGES_START;
+use layout::SETPOINTS_OFFSET_AT;
+use layout::SETPOINTS_START;
+use layout::USED_AT;
+use layout::ZEROS_AT;
 ghost use mathlib.Core.Path.{_≡_};
 ghost use Prim.Native.Nat.{_≤_};
 ghost use lib.ListN.{length};

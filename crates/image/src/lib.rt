@@ -1,17 +1,16 @@
 // The image of a set of deltas, written from the places of its log.
 pub mod header;
 pub mod held;
-pub mod layout;
 pub mod log;
 pub mod messages;
 
 use crate::header::put_header;
 use crate::held::held_places;
-use crate::layout::MESSAGES_START;
-use crate::layout::SETPOINTS_START;
 use crate::log::run_log;
 use crate::messages::copy_messages;
 use buffer::clear_from;
+use layout::MESSAGES_START;
+use layout::SETPOINTS_START;
 use setpoints::values::put_values;
 ghost use mathlib.Core.Path.{_≡_};
 ghost use lib.ListN.{length};

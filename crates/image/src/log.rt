@@ -1,8 +1,8 @@
 // The setpoints that a log leaves.
 use buffer::byte;
 use buffer::get_u16;
-use message::layout::DEPENDENCY_COUNT_AT;
-use message::layout::LENGTH_AT;
+use layout::DEPENDENCY_COUNT_AT;
+use layout::LENGTH_AT;
 use setpoints::run_delta;
 use setpoints::values::start_values;
 ghost use mathlib.Core.Path.{_≡_};

@@ -1,7 +1,7 @@
 // Messages of the pool, copied one behind the other.
 use buffer::copy_at;
 use buffer::get_u16;
-use message::layout::LENGTH_AT;
+use layout::LENGTH_AT;
 ghost use Prim.Native.Nat.{_+_, _≤_};
 ghost use lib.Dec.{T};
 ghost use lib.ListN.{length};

@@ -1,6 +1,6 @@
 // The message of an entry of the table.
 use buffer::get_u16;
-use message::layout::LENGTH_AT;
+use layout::LENGTH_AT;
 ghost use mathlib.Core.Path.{_≡_};
 ghost use mathlib.Core.List.{[]};
 ghost use Prim.Native.Nat.{_<_};

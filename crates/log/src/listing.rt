@@ -1,6 +1,6 @@
 // The log of a set, delta by delta.
 use crate::candidate::Next;
-use crate::layout::NO_NEED;
+use crate::limits::NO_NEED;
 use crate::log_order::LogOrder;
 use crate::needs::fill_needs;
 use crate::next::next;

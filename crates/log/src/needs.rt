@@ -1,12 +1,12 @@
 // What each delta of a table needs, by index: a row of nine for each.
 use crate::entry::message_at;
-use crate::layout::MISSING;
-use crate::layout::NO_NEED;
-use crate::layout::ROW;
+use crate::limits::MISSING;
+use crate::limits::NO_NEED;
+use crate::limits::ROW;
 use buffer::byte;
+use layout::DEPENDENCY_COUNT_AT;
+use layout::SEQUENCE_AT;
 use message::dependencies::dependency;
-use message::layout::DEPENDENCY_COUNT_AT;
-use message::layout::SEQUENCE_AT;
 use sequence::Predecessor;
 use sequence::Sequence;
 use sequence::predecessor_of;

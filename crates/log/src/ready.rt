@@ -1,5 +1,5 @@
 // What is ready, and its effective block, by the tables of needs, of what is placed, and of effective blocks.
-use crate::layout::ROW;
+use crate::limits::ROW;
 ghost use mathlib.Core.Path.{_≡_};
 ghost use Prim.Native.Nat.{_<_, max};
 ghost use lib.ListN.{length};

@@ -1,16 +1,16 @@
 // The checks of commands, of a message's own and of those handed over to be composed.
 use crate::checks::Check;
-use crate::layout::COMMAND_SIZE;
-use crate::layout::COMMAND_ZEROS_AT;
-use crate::layout::HIGHEST_VALUE;
-use crate::layout::LOWEST_VALUE;
-use crate::layout::MOST_COMMANDS;
-use crate::layout::TAG_AT;
-use crate::layout::TAG_COUNT;
-use crate::layout::VALUE_AT;
+use crate::limits::HIGHEST_VALUE;
+use crate::limits::LOWEST_VALUE;
+use crate::limits::TAG_COUNT;
 use buffer::byte;
 use buffer::get_u16;
 use buffer::get_u32;
+use layout::COMMAND_SIZE;
+use layout::COMMAND_ZEROS_AT;
+use layout::MOST_COMMANDS;
+use layout::TAG_AT;
+use layout::VALUE_AT;
 ghost use mathlib.Core.Path.{_≡_};
 ghost use Prim.Native.Nat.{_+_, _/_, _≤_};
 ghost use lib.ListN.{length, take, drop};

@@ -1,16 +1,16 @@
 // The check of code 6.
 use crate::checks::Check;
 use crate::commands::check_commands;
-use crate::layout::BLOCK_AT;
-use crate::layout::DEPENDENCY_COUNT_AT;
-use crate::layout::FIELD_LIMIT;
-use crate::layout::GROUP_AT;
-use crate::layout::HEADER_SIZE;
-use crate::layout::PRIORITY_AT;
-use crate::layout::PRIORITY_FLAG_AT;
-use crate::layout::SEQUENCE_SIZE;
+use crate::limits::FIELD_LIMIT;
 use buffer::byte;
 use buffer::get_u32;
+use layout::BLOCK_AT;
+use layout::DEPENDENCY_COUNT_AT;
+use layout::GROUP_AT;
+use layout::HEADER_SIZE;
+use layout::PRIORITY_AT;
+use layout::PRIORITY_FLAG_AT;
+use layout::SEQUENCE_SIZE;
 ghost use mathlib.Core.Path.{_≡_};
 ghost use Prim.Native.Nat.{_≤_};
 ghost use lib.ListN.{length};

@@ -1,10 +1,10 @@
 // The dependencies of a message, and the checks of codes 4 and 5.
 use crate::checks::Check;
-use crate::layout::DEPENDENCY_COUNT_AT;
-use crate::layout::HEADER_SIZE;
-use crate::layout::SEQUENCE_AT;
-use crate::layout::SEQUENCE_SIZE;
 use buffer::byte;
+use layout::DEPENDENCY_COUNT_AT;
+use layout::HEADER_SIZE;
+use layout::SEQUENCE_AT;
+use layout::SEQUENCE_SIZE;
 use sequence::Predecessor;
 use sequence::Sequence;
 use sequence::equal;

@@ -1,13 +1,13 @@
 // The header of a message, as a value.
-use crate::layout::BLOCK_AT;
-use crate::layout::COMMAND_COUNT_AT;
-use crate::layout::DEPENDENCY_COUNT_AT;
-use crate::layout::GROUP_AT;
-use crate::layout::PRIORITY_AT;
-use crate::layout::PRIORITY_FLAG_AT;
-use crate::layout::SEQUENCE_AT;
 use buffer::byte;
 use buffer::get_u32;
+use layout::BLOCK_AT;
+use layout::COMMAND_COUNT_AT;
+use layout::DEPENDENCY_COUNT_AT;
+use layout::GROUP_AT;
+use layout::PRIORITY_AT;
+use layout::PRIORITY_FLAG_AT;
+use layout::SEQUENCE_AT;
 use sequence::Sequence;
 use sequence::read_sequence;
 ghost use mathlib.Core.Path.{_≡_};

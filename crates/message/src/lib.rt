@@ -4,5 +4,5 @@ pub mod commands;
 pub mod content;
 pub mod dependencies;
 pub mod header;
-pub mod layout;
+pub mod limits;
 pub mod parse;

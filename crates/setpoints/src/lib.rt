@@ -1,6 +1,6 @@
 // The command runner: a delta's commands, run on 64 setpoints.
 pub mod integers;
-pub mod layout;
+pub mod limits;
 pub mod operations;
 pub mod values;
 
@@ -16,7 +16,7 @@ ghost use Rattle.setpoints.specs.Commands.{commandsIn, operateTag};
 fn operate_tag(values: [i32; 64], tag: usize, operation: u32, v: i32) -> [i32; 64]
     ensures { λ r. ⌜ r ≡ operateTag values tag operation v ⌝ }
 {
-    if layout::TAG_COUNT <= tag {
+    if limits::TAG_COUNT <= tag {
         return values;
     }
     let mut changed = values;

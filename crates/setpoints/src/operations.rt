@@ -1,5 +1,5 @@
 // The three operations of a command, on a tag's value x and the command's value v.
-use crate::layout;
+use crate::limits;
 ghost use mathlib.Core.Path.{_≡_};
 ghost use lib.IntN.{_+ℤ_};
 ghost use Rattle.model.specs.Setpoints.{stop, raise};
@@ -10,11 +10,11 @@ pub fn add_stopped(x: i32, v: i32) -> i32
     ensures { λ r. ⌜ r ≡ stop (x +ℤ v) ⌝ }
 {
     let sum = (x as i64) + (v as i64);
-    if sum < (layout::LOWEST_VALUE as i64) {
-        return layout::LOWEST_VALUE;
+    if sum < (limits::LOWEST_VALUE as i64) {
+        return limits::LOWEST_VALUE;
     }
-    if (layout::HIGHEST_VALUE as i64) < sum {
-        return layout::HIGHEST_VALUE;
+    if (limits::HIGHEST_VALUE as i64) < sum {
+        return limits::HIGHEST_VALUE;
     }
     sum as i32
 }

@@ -1,6 +1,6 @@
 // The 64 values as a whole.
 use crate::integers::to_word;
-use crate::layout;
+use crate::limits;
 ghost use mathlib.Core.Path.{_≡_};
 ghost use Prim.Native.Nat.{_+_, _≤_};
 ghost use lib.ListN.{length};
@@ -21,7 +21,7 @@ pub fn put_values(image: &mut [u8], values: [i32; 64], at: usize)
     ensures { λ _. ⌜ now (image .exit) ≡ paste (now (image .entry)) at (wordsOf values) 256 ⌝ }
 {
     let mut i = 0;
-    while i < layout::TAG_COUNT {
+    while i < limits::TAG_COUNT {
         let v = values[i];
         buffer::put_u32(image, at + layout::VALUE_SIZE * i, to_word(v));
         i += 1;

@@ -1,7 +1,7 @@
 // A new message joins the station.
 use crate::answer::Delivery;
-use crate::layout::IMAGE_SIZE;
-use crate::layout::POOL_SIZE;
+use crate::limits::IMAGE_SIZE;
+use crate::limits::POOL_SIZE;
 use crate::ordering::order_table;
 use crate::ordering::write_change;
 use crate::ordering::write_table;

@@ -1,13 +1,13 @@
 // Deliver: a message arrives at a station.
 use crate::accepting::accept;
 use crate::answer::Delivery;
-use crate::layout::CAPACITY;
 use crate::reading::Station;
 use crate::reading::read_station;
 use crate::refusing::check_image_size;
 use crate::refusing::check_step_room;
 use crate::refusing::judge_repeat;
 use crate::refusing::refuse;
+use layout::CAPACITY;
 use message::checks::Check;
 use message::parse::Parsed;
 use message::parse::parse;

@@ -1,5 +1,5 @@
 // An image read and judged: code 2.
-use crate::layout::IMAGE_SIZE;
+use crate::limits::IMAGE_SIZE;
 use crate::ordering::order_table;
 use crate::ordering::write_table;
 use buffer::same;

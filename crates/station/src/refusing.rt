@@ -1,11 +1,11 @@
 // The checks of deliver that need neither table nor log: sizes, the message's refusal, and a sequence that is there already.
 use crate::answer::Delivery;
-use crate::layout::IMAGE_SIZE;
-use crate::layout::STEP_ROOM;
+use crate::limits::IMAGE_SIZE;
+use crate::limits::STEP_ROOM;
 use buffer::get_u16;
 use buffer::same;
+use layout::LENGTH_AT;
 use message::checks::Check;
-use message::layout::LENGTH_AT;
 use message::parse::Parsed;
 ghost use mathlib.Core.Path.{_≡_};
 ghost use mathlib.Core.Bool.{not};

@@ -1,6 +1,6 @@
 // The answer of a delivery as one number, for callers in C.
-use crate::layout::EXECUTIONS_UNIT;
-use crate::layout::UNDOS_UNIT;
+use crate::limits::EXECUTIONS_UNIT;
+use crate::limits::UNDOS_UNIT;
 ghost use mathlib.Core.Path.{_≡_};
 ghost use Prim.Native.Nat.{_<_, _≤_};
 ghost use Rattle.steps.specs.Answer.{packed, AnswerFits};

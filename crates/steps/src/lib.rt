@@ -1,13 +1,13 @@
 // The steps of a delivery: written into the step buffer from the old log and the new one, as places of a table.
 pub mod answer;
-pub mod layout;
+pub mod limits;
 pub mod places;
 pub mod step;
 
-use crate::layout::STEP_SIZE;
 use crate::places::sequence_at;
 use crate::step::Step;
 use crate::step::put_step;
+use layout::STEP_SIZE;
 ghost use mathlib.Core.Path.{_≡_};
 ghost use mathlib.Core.List.{map, reverse};
 ghost use lib.ListN.{length, drop};

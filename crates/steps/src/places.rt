@@ -1,5 +1,5 @@
 // A log as places of a table, indexes into its starts: what is at a place, and the places after a start was inserted.
-use message::layout::SEQUENCE_AT;
+use layout::SEQUENCE_AT;
 use sequence::Sequence;
 use sequence::read_sequence;
 ghost use mathlib.Core.Path.{_≡_};

@@ -1,5 +1,5 @@
 // A step as a value, and its bytes.
-use crate::layout;
+use crate::limits;
 use sequence::Sequence;
 ghost use mathlib.Core.Path.{_≡_};
 ghost use mathlib.Core.List.{_++_};
@@ -26,7 +26,7 @@ fn put_record(steps: &mut [u8], at: usize, kind: u32, s: Sequence)
     let from = at + layout::STEP_SEQUENCE_AT;
     buffer::put_u32(steps, at, kind);
     buffer::put_u64(steps, from, s.high);
-    buffer::put_u32(steps, from + layout::HIGH_SIZE, s.low);
+    buffer::put_u32(steps, from + limits::HIGH_SIZE, s.low);
 }
 
 // Writes a step.
@@ -35,7 +35,7 @@ pub fn put_step(steps: &mut [u8], at: usize, step: Step)
     ensures { λ _. ⌜ now (steps .exit) ≡ paste (now (steps .entry)) at (stepBytes (namedStep step)) stepSize ⌝ }
 {
     match step {
-        Step::Undo(s) => put_record(steps, at, layout::UNDO, s),
-        Step::Execute(s) => put_record(steps, at, layout::EXECUTE, s),
+        Step::Undo(s) => put_record(steps, at, limits::UNDO, s),
+        Step::Execute(s) => put_record(steps, at, limits::EXECUTE, s),
     }
 }

@@ -1,9 +1,8 @@
 // A set of deltas in a run of bytes, the pool: where each message starts, by ascending sequence.
-pub mod layout;
 pub mod places;
 pub mod reading;
 
-use crate::layout::CAPACITY;
+use layout::CAPACITY;
 ghost use mathlib.Core.Path.{_≡_};
 ghost use mathlib.Core.List.{[]};
 ghost use Prim.Native.Nat.{_≤_, _<_};

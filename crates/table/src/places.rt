@@ -1,5 +1,5 @@
 // Where the message of a sequence stands in a table, or where it would.
-use message::layout::SEQUENCE_AT;
+use layout::SEQUENCE_AT;
 use sequence::Sequence;
 use sequence::equal;
 use sequence::less;

@@ -1,15 +1,15 @@
 // The table of an image's messages.
 use crate::Table;
-use crate::layout::CAPACITY;
-use crate::layout::HELD_COUNT_AT;
-use crate::layout::LOG_COUNT_AT;
-use crate::layout::MESSAGES_START;
 use crate::places::Place;
 use crate::places::find;
 use buffer::get_u16;
+use layout::CAPACITY;
+use layout::HEADER_SIZE;
+use layout::HELD_COUNT_AT;
+use layout::LENGTH_AT;
+use layout::LOG_COUNT_AT;
+use layout::MESSAGES_START;
 use message::checks::Check;
-use message::layout::HEADER_SIZE;
-use message::layout::LENGTH_AT;
 use message::parse::Parsed;
 use message::parse::parse;
 use sequence::Sequence;

@@ -1,9 +1,4 @@
-// Sizes and kinds of a step, in bytes unless said otherwise.
-pub const STEP_SIZE: usize = 16;
-
-// Where a step's sequence stands.
-pub const STEP_SEQUENCE_AT: usize = 4;
-
+// How a step and an answer are made up.
 // The size of a sequence's high part.
 pub const HIGH_SIZE: usize = 8;
 

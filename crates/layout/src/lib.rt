@@ -1,0 +1,79 @@
+// The offsets and sizes of document 01 in bytes, and its counts, by the names of `Layout` in the definitions. Every crate that
+// reads or writes a message, an image or a step takes them from here.
+
+// ---- a delta on the wire: the header
+pub const KIND_AT: usize = 0;
+
+pub const PRIORITY_FLAG_AT: usize = 1;
+
+pub const DEPENDENCY_COUNT_AT: usize = 2;
+
+pub const COMMAND_COUNT_AT: usize = 3;
+
+pub const LENGTH_AT: usize = 4;
+
+pub const DEPENDENCIES_OFFSET_AT: usize = 6;
+
+pub const COMMANDS_OFFSET_AT: usize = 8;
+
+// bytes 10-11, zero
+pub const FIRST_ZEROS_AT: usize = 10;
+
+pub const SEQUENCE_AT: usize = 12;
+
+pub const GROUP_AT: usize = 24;
+
+pub const BLOCK_AT: usize = 28;
+
+pub const PRIORITY_AT: usize = 32;
+
+// bytes 36-39, zero
+pub const LAST_ZEROS_AT: usize = 36;
+
+pub const HEADER_SIZE: usize = 40;
+
+pub const SEQUENCE_SIZE: usize = 12;
+
+pub const MOST_DEPENDENCIES: usize = 8;
+
+// ---- a command
+pub const COMMAND_SIZE: usize = 8;
+
+pub const MOST_COMMANDS: usize = 8;
+
+pub const OPERATION_AT: usize = 0;
+
+pub const TAG_AT: usize = 1;
+
+pub const COMMAND_ZEROS_AT: usize = 2;
+
+pub const VALUE_AT: usize = 4;
+
+pub const VALUE_SIZE: usize = 4;
+
+// ---- the station image
+pub const LOG_COUNT_AT: usize = 0;
+
+pub const HELD_COUNT_AT: usize = 2;
+
+// where the two offsets and the bytes used stand, and the zeros behind them
+pub const SETPOINTS_OFFSET_AT: usize = 4;
+
+pub const MESSAGES_OFFSET_AT: usize = 6;
+
+pub const USED_AT: usize = 8;
+
+pub const ZEROS_AT: usize = 10;
+
+pub const SETPOINTS_START: usize = 16;
+
+pub const MESSAGES_START: usize = 272;
+
+// the most deltas that an image holds
+pub const CAPACITY: usize = 64;
+
+// ---- a step
+pub const STEP_SIZE: usize = 16;
+
+// where a step's sequence stands
+pub const STEP_SEQUENCE_AT: usize = 4;
