@@ -6,7 +6,7 @@ use native.Mathlib.Omega.{arith}
 use lib.ListN.{length, take, drop}
 use lib.Seq.{paste, take-paste, drop-paste, drop-drop, take-append-add, take-all}
 use Rattle.model.specs.Bytes.{bytes}
-use Rattle.laws.specs.BytesLaws.{length-bytes}
+use Rattle.wire_laws.specs.BytesLaws.{length-bytes}
 use Rattle.buffer.specs.FieldLaws.{bytes-split}
 
 pub paste-paste : (d : List ℕ) (at : ℕ) (x y : List ℕ) (n k : ℕ) → at + n ≤ length d → length x ≡ n

@@ -5,7 +5,7 @@ ghost use Prim.Native.Nat.{_+_, _-_, _<_, _≤_};
 ghost use lib.ListN.{length, take, replicate};
 ghost use lib.Seq.{paste};
 ghost use Rattle.model.specs.Bytes.{field, bytes};
-ghost use Rattle.model.specs.Tests.{same as sameList};
+ghost use Rattle.model.specs.Lists.{same as sameList};
 
 // The byte at a place.
 pub fn byte(s: &[u8], at: usize) -> u32

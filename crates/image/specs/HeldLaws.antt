@@ -10,7 +10,7 @@ use native.Mathlib.Numerals.{add-one}
 use lib.Dec.{T, eqb, eqb→eq, eqb-refl}
 use lib.ListN.{length, take, getD, length-append, length-map}
 use lib.Seq.{take-suc, take-length}
-use Rattle.model.specs.Tests.{_∈_, has, keep}
+use Rattle.model.specs.Lists.{_∈_, has, keep}
 use Rattle.model.specs.Message.{Message, sequenceOf}
 use Rattle.model.specs.Order.{Ascending, sequencesOf, logOf, heldOf}
 use Rattle.order.specs.TestLaws.{keep-∈, keep-length}

@@ -8,13 +8,13 @@ use native.Mathlib.Numerals.{add-one}
 use lib.Dec.{T}
 use lib.ListN.{length, take, drop, getD, length-append, length-map, drop-of-length-le, List·getD-eq-default}
 use lib.Seq.{drop-cons}
-use Rattle.model.specs.Tests.{_∈_}
+use Rattle.model.specs.Lists.{_∈_}
 use Rattle.model.specs.Bytes.{field, join}
 use Rattle.model.specs.Layout.{lengthAt}
 use Rattle.model.specs.Message.{Message, passes}
 use Rattle.model.specs.Order.{logOf}
 use Rattle.laws.specs.LogLaws.{log-received, log-length}
-use Rattle.laws.specs.MessageLaws.{passes-sized, sized-range}
+use Rattle.wire_laws.specs.MessageLaws.{passes-sized, sized-range}
 use Rattle.table.specs.Table.{messageFrom, deltasOf, setIn, Holds}
 use Rattle.image.specs.Places.{messagesAt, Placed, Listed}
 

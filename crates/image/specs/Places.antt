@@ -4,7 +4,7 @@ use mathlib.Core.Bool.{not}
 use mathlib.Core.List.{List, [], _∷_, _++_, map}
 use Prim.Native.Nat.{ℕ, zero, suc, _<_}
 use lib.ListN.{length, take, getD}
-use Rattle.model.specs.Tests.{_∈_, has, keep}
+use Rattle.model.specs.Lists.{_∈_, has, keep}
 use Rattle.model.specs.Layout.{imageSize}
 use Rattle.model.specs.Message.{Message}
 use Rattle.model.specs.Order.{logOf}

@@ -8,7 +8,7 @@ use native.Mathlib.Omega.{arith}
 use lib.ListN.{length}
 use lib.Dec.{T, eqb}
 use lib.IntN.{pos}
-use Rattle.model.specs.Tests.{_∈_}
+use Rattle.model.specs.Lists.{_∈_}
 use Rattle.model.specs.Bytes.{number}
 use Rattle.model.specs.Message.{Message}
 use Rattle.model.specs.Image.{stateIn}

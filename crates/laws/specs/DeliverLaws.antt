@@ -8,7 +8,7 @@ use native.Mathlib.Omega.{arith}
 use native.Mathlib.Nat.{suc-ne-zero}
 use lib.ListN.{length}
 use lib.Dec.{T, eqb, leb, eqb-refl, nleb→lt, T-not, not-T}
-use Rattle.model.specs.Tests.{_∈_, has, same}
+use Rattle.model.specs.Lists.{_∈_, has, same}
 use Rattle.model.specs.Layout.{imageSize, capacity}
 use Rattle.model.specs.Message.{Message, sequenceOf, layoutRight, numbersRight, dependenciesRight, contentRight, passes}
 use Rattle.model.specs.Order.{State, add, insert, find, sequencesOf, logOf}

@@ -7,7 +7,7 @@ use native.Mathlib.Omega.{arith}
 use native.Mathlib.Nat.{le-of-suc-le-suc, not-suc-le-zero, add-zero, add-suc, suc-add}
 use lib.ListN.{length, length-append}
 use lib.Dec.{T}
-use Rattle.model.specs.Tests.{_∈_, greatest}
+use Rattle.model.specs.Lists.{_∈_, greatest}
 use Rattle.model.specs.Layout.{capacity}
 use Rattle.model.specs.Message.{Message, sequenceOf, blockOf, needsOf}
 use Rattle.model.specs.Listing as L

@@ -10,7 +10,7 @@ use lib.ListN.{length, length-append, length-map, length-set, length-replicate, 
 use lib.Seq.{drop-at, take-at}
 use lib.Dec.{T, leb, leb→le, le→leb}
 use lib.IntN.{ℤ, pos}
-use Rattle.model.specs.Tests.{_∈_, every, same}
+use Rattle.model.specs.Lists.{_∈_, every, same}
 use Rattle.model.specs.Bytes.{bytes, field, join, word}
 use Rattle.model.specs.Layout.{lengthAt, imageSize, messagesStart, capacity, tagCount}
 use Rattle.model.specs.Message.{Message, commandsOf, passes}
@@ -19,9 +19,9 @@ use Rattle.model.specs.Setpoints.{startValues, runCommand, runCommands, runDelt
 use Rattle.model.specs.Image.{messagesOf, usedOf, imageOf, Valid, IsImage, cut, logCount, heldCount, logIn, messagesIn, setOf, stateIn, isImage}
 use Rattle.order.specs.TestLaws.{and-l, and-r, and-i, every-∈, ∈-every, same-refl, same→eq}
 use Rattle.laws.specs.SetLaws.{setOf-ascending, setOf-same}
-use Rattle.laws.specs.BytesLaws.{length-bytes, number-bytes, length-join, field-append, join-append}
+use Rattle.wire_laws.specs.BytesLaws.{length-bytes, number-bytes, length-join, field-append, join-append}
 use Rattle.laws.specs.LogLaws.{log-received, log-held, log-length, held-length, places}
-use Rattle.laws.specs.MessageLaws.{Sized, passes-sized, sized-range}
+use Rattle.wire_laws.specs.MessageLaws.{Sized, passes-sized, sized-range}
 
 -- ---- 64 values
 length-commands : (l : List (List ℕ)) (t : List ℤ) → length (runCommands l t) ≡ length t

@@ -1,14 +1,6 @@
 pub mod SetLaws
-pub mod BytesLaws
 pub mod LogLaws
 pub mod EffectiveLaws
-pub mod MessageLaws
 pub mod ImageLaws
-pub mod StepBytesLaws
 pub mod CodeLaws
 pub mod DeliverLaws
-pub mod RunLaws
-pub mod ComposedMessage
-pub mod ComposeFacts
-pub mod ComposeLaws
-pub mod Theorems

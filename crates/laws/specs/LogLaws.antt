@@ -8,7 +8,7 @@ use Prim.Native.Nat.{ℕ, zero, suc, _+_, _≤_, _<_, max}
 use native.Mathlib.Omega.{arith}
 use lib.ListN.{length, length-append, getD}
 use lib.Dec.{T, T-not, not-T}
-use Rattle.model.specs.Tests.{_∈_, has, keep}
+use Rattle.model.specs.Lists.{_∈_, has, keep}
 use Rattle.model.specs.Message.{Message, sequenceOf, needsOf}
 use Rattle.model.specs.Listing as L
 use Rattle.model.specs.Order.{State, stateOf, Ascending, sequencesOf, keyOf, less, Executable, IsLog, logOf, heldOf}

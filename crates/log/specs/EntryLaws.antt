@@ -12,7 +12,7 @@ use Rattle.model.specs.Message.{Message, blockOf, passes}
 use Rattle.model.specs.Order.{Ascending, keyWith}
 use Rattle.order.specs.TestLaws.{decide}
 use Rattle.laws.specs.SetLaws.{not-eqb}
-use Rattle.laws.specs.MessageLaws.{Sized, passes-sized, sized-range}
+use Rattle.wire_laws.specs.MessageLaws.{Sized, passes-sized, sized-range}
 use Rattle.message.specs.declared.header.Header.{Header}
 use Rattle.message.specs.Header.{headerOf}
 use Rattle.message.specs.HeaderLaws.{header-describes}

@@ -5,7 +5,7 @@ use mathlib.Core.Option.{Option, some, none}
 use mathlib.Core.List.{List, []}
 use Prim.Native.Nat.{ℕ, _≤_, _<_}
 use lib.ListN.{length, getD, drop}
-use Rattle.model.specs.Tests.{keep}
+use Rattle.model.specs.Lists.{keep}
 use Rattle.model.specs.Message.{Message, sequenceOf, blockOf, needsOf}
 use Rattle.model.specs.Listing as L
 use Rattle.model.specs.Order.{State, effectiveBlock, keyWith, keyOf, less}

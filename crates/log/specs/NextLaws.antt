@@ -8,7 +8,7 @@ use native.Mathlib.Omega.{arith}
 use lib.ListN.{length, getD, drop, drop-of-length-le}
 use lib.Seq.{drop-cons}
 use lib.Dec.{T}
-use Rattle.model.specs.Tests.{keep}
+use Rattle.model.specs.Lists.{keep}
 use Rattle.model.specs.Message.{Message, sequenceOf, blockOf, needsOf}
 use Rattle.model.specs.Listing as L
 use Rattle.model.specs.Order.{State, effectiveBlock, keyWith, keyOf, less}

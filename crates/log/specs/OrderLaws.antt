@@ -10,7 +10,7 @@ use lib.ListN.{length, getD, set, replicate, length-append, getD-replicate}
 use lib.Seq.{append-snoc, getD-set-same, getD-set-other}
 use lib.Dec.{T, eqb, eqb→eq}
 use borrow.Author.Tests.{eq-eqb, ne-eqb}
-use Rattle.model.specs.Tests.{_∈_, has}
+use Rattle.model.specs.Lists.{_∈_, has}
 use Rattle.model.specs.Message.{Message, sequenceOf, needsOf}
 use Rattle.model.specs.Listing as L
 use Rattle.model.specs.Order.{State, effectiveBlock, keyOf, less, logOf}

@@ -3,7 +3,7 @@ use mathlib.Core.Path.{_≡_}
 use mathlib.Core.List.{List, [], _++_, map}
 use Prim.Native.Nat.{ℕ, _-_, _≤_, _<_}
 use lib.ListN.{length, getD}
-use Rattle.model.specs.Tests.{_∈_}
+use Rattle.model.specs.Lists.{_∈_}
 use Rattle.model.specs.Message.{Message, sequenceOf, needsOf}
 use Rattle.model.specs.Listing as L
 use Rattle.model.specs.Order.{State, keyOf, less, logOf}

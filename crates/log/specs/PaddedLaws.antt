@@ -8,7 +8,7 @@ use native.Mathlib.Numerals.{add-one}
 use native.Mathlib.Nat.{le-of-suc-le-suc}
 use lib.ListN.{length, getD, drop, drop-of-length-le}
 use lib.Seq.{drop-cons}
-use Rattle.model.specs.Tests.{has, hasAll, every, greatest}
+use Rattle.model.specs.Lists.{has, hasAll, every, greatest}
 use Rattle.log.specs.Needs.{noNeed, padded}
 
 -- ---- lists end to end, and padding

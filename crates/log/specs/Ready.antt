@@ -5,7 +5,7 @@ use mathlib.Core.List.{List, []}
 use Prim.Native.Nat.{ℕ, _<_, max}
 use lib.ListN.{length, getD}
 use lib.Dec.{eqb}
-use Rattle.model.specs.Tests.{_∈_, has, every, greatest}
+use Rattle.model.specs.Lists.{_∈_, has, every, greatest}
 use Rattle.model.specs.Message.{Message, sequenceOf, needsOf}
 use Rattle.model.specs.Listing as L
 use Rattle.model.specs.Order.{State, effectiveBlock}

@@ -6,7 +6,7 @@ use mathlib.Core.List.{List, [], List·Memᴰ·append-cases, List·Memᴰ·eq-of
 use Prim.Native.Nat.{ℕ, _<_, max}
 use lib.ListN.{length, getD}
 use lib.Dec.{T}
-use Rattle.model.specs.Tests.{_∈_, has, every, greatest}
+use Rattle.model.specs.Lists.{_∈_, has, every, greatest}
 use Rattle.model.specs.Message.{Message, sequenceOf, blockOf, needsOf, passes}
 use Rattle.model.specs.Listing as L
 use Rattle.model.specs.Order.{State, find, effectiveBlock, Executable}

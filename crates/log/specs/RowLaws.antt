@@ -7,9 +7,9 @@ use native.Mathlib.Omega.{arith}
 use lib.ListN.{length, getD, drop, length-drop, length-map, length-append, List·getD-append, List·getD-eq-default}
 use lib.Seq.{ext-getD, getD-take, getD-drop, getD-append-add, length-take-le}
 use lib.Dec.{T, ltb}
-use Rattle.model.specs.Tests.{_∈_, has, hasAll, every, greatest}
+use Rattle.model.specs.Lists.{_∈_, has, hasAll, every, greatest}
 use Rattle.model.specs.Message.{Message, sequenceOf, predecessorOf, dependenciesOf, dependencyCount, needsOf, passes, numberOf}
-use Rattle.laws.specs.MessageLaws.{passes-sized}
+use Rattle.wire_laws.specs.MessageLaws.{passes-sized}
 use Rattle.message.specs.ListLaws.{length-dependencies}
 use Rattle.log.specs.Needs.{noNeed, indexOf, padded, rowOf, rowIn, NeedsRight, RowFits}
 use Rattle.log.specs.PaddedLaws.{every-append, hasAll-append, greatest-append, every-padded, greatest-padded, length-padded, padded-at, getD-mapped}

@@ -5,7 +5,7 @@ use mathlib.Core.List.{List}
 use Prim.Native.Nat.{ℕ, _+_, _*_, _≤_, _<_, max}
 use native.Mathlib.Omega.{arith}
 use lib.ListN.{length, getD, drop}
-use Rattle.model.specs.Tests.{every, greatest}
+use Rattle.model.specs.Lists.{every, greatest}
 use Rattle.message.specs.ListLaws.{every-step, every-end}
 use Rattle.log.specs.Needs.{rowIn}
 use Rattle.log.specs.Ready.{isPlaced, readyIn}

@@ -4,7 +4,7 @@ use mathlib.Core.List.{List, [], _∷_, map}
 use Prim.Native.Nat.{ℕ, _-_, _<_}
 use native.Mathlib.Omega.{arith}
 use lib.ListN.{length, length-map}
-use Rattle.model.specs.Tests.{_∈_}
+use Rattle.model.specs.Lists.{_∈_}
 use Rattle.model.specs.Message.{Message}
 use Rattle.model.specs.Order.{sequencesOf}
 use Rattle.model.specs.Steps.{common, undosOf, executionsOf}

@@ -5,7 +5,7 @@ use Prim.Native.Nat.{ℕ, _/_}
 use native.Mathlib.Omega.{arith}
 use lib.Dec.{leb}
 use lib.ListN.{length, drop, length-drop}
-use Rattle.model.specs.Tests.{every}
+use Rattle.model.specs.Lists.{every}
 use Rattle.model.specs.Bytes.{parts}
 use Rattle.model.specs.Message.{Message, groupOf, blockOf, priorityOf, hasPriority, blockRight, dependencyCount, commandCount, commandsStart, totalLength, commandsOf, commandRight, contentRight}
 use Rattle.message.specs.Check.{priorityRight}

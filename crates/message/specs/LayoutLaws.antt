@@ -8,7 +8,7 @@ use lib.Dec.{T, eqb, leb, eqb→eq, leb→le, le→leb}
 use Rattle.model.specs.Bytes.{isBytes, field}
 use Rattle.model.specs.Message.{Message, dependencyCount, commandCount, totalLength, commandsStart, layoutRight}
 use Rattle.order.specs.TestLaws.{and-l, and-r, and-i}
-use Rattle.laws.specs.MessageLaws.{layout-sized, sized-range}
+use Rattle.wire_laws.specs.MessageLaws.{layout-sized, sized-range}
 use Rattle.message.specs.Check.{countsRight, offsetsRight}
 use Rattle.sequence.specs.Decisions.{eq→eqb, T-true, T-false}
 

@@ -10,7 +10,7 @@ use native.Mathlib.Nat.{mul-zero, mul-suc, le-of-suc-le-suc}
 use lib.Dec.{T, eqb, ltb, ltb→lt, nltb→le}
 use lib.ListN.{length, take, drop, getD, drop-of-length-le, List·getD-map, length-map}
 use lib.Seq.{drop-cons, drop-drop, take-take}
-use Rattle.model.specs.Tests.{every, has, ascending}
+use Rattle.model.specs.Lists.{every, has, ascending}
 use Rattle.model.specs.Bytes.{number, field, parts}
 use Rattle.order.specs.TestLaws.{decide}
 use Rattle.model.specs.Message.{Message, dependencyCount, dependenciesOf}

@@ -6,7 +6,7 @@ use native.Mathlib.Omega.{arith}
 use lib.Dec.{T}
 use Rattle.model.specs.Message.{Message, layoutRight, numbersRight, dependenciesRight, contentRight, passes}
 use Rattle.model.specs.Codes.{lowestCode, messageConditions}
-use Rattle.laws.specs.MessageLaws.{Sized, layout-sized, passes-all}
+use Rattle.wire_laws.specs.MessageLaws.{Sized, layout-sized, passes-all}
 use Rattle.message.specs.declared.header.Header.{Header}
 use Rattle.message.specs.declared.parse.Parsed.{Parsed}
 use Rattle.message.specs.declared.parse.Parsed.the-variants as parsed

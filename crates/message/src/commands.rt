@@ -14,7 +14,7 @@ use layout::VALUE_AT;
 ghost use mathlib.Core.Path.{_≡_};
 ghost use Prim.Native.Nat.{_+_, _/_, _≤_};
 ghost use lib.ListN.{length, take, drop};
-ghost use Rattle.model.specs.Tests.{every};
+ghost use Rattle.model.specs.Lists.{every};
 ghost use Rattle.model.specs.Bytes.{parts};
 ghost use Rattle.model.specs.Message.{commandRight};
 ghost use Rattle.model.specs.Codes.{commandsSized};

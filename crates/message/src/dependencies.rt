@@ -15,7 +15,7 @@ use sequence::read_sequence;
 ghost use mathlib.Core.Path.{_≡_};
 ghost use Prim.Native.Nat.{_≤_, _<_};
 ghost use lib.ListN.{length, getD};
-ghost use Rattle.model.specs.Tests.{has, ascending};
+ghost use Rattle.model.specs.Lists.{has, ascending};
 ghost use Rattle.model.specs.Message.{dependencyCount, commandsStart, dependenciesOf, numbersRight, dependenciesRight};
 ghost use Rattle.sequence.specs.Sequence.{sequenceNumber};
 ghost use Rattle.message.specs.Check.{right};

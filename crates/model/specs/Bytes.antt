@@ -5,7 +5,7 @@ use Prim.Native.Nat.{ℕ, zero, suc, _+_, _*_, _-_, _/_, _%_, _^_}
 use lib.ListN.{take, drop}
 use lib.Dec.{ltb}
 use lib.IntN.{ℤ, pos, negsuc, subℕ}
-use Rattle.model.specs.Tests.{every}
+use Rattle.model.specs.Lists.{every}
 
 -- Whether each number is a byte. Of the bytes that a caller lends it always holds.
 abbrev pub isBytes : List ℕ → Bool

@@ -4,7 +4,7 @@ use mathlib.Core.List.{List, [], _∷_, _++_, map}
 use Prim.Native.Nat.{ℕ, suc, _+_, _*_, _/_}
 use lib.ListN.{length}
 use lib.Dec.{eqb, ltb}
-use Rattle.model.specs.Tests.{has, some?, keep, greatest}
+use Rattle.model.specs.Lists.{has, some?, keep, greatest}
 use Rattle.model.specs.Bytes.{bytes, join}
 use Rattle.model.specs.Layout.{headerSize, sequenceSize, numbersOfLine, commandSize}
 use Rattle.model.specs.Message.{Message, commandsStart, totalLength, sequenceOf, groupOf, lineOf, numberOf, predecessorOf, needsOf}

@@ -6,7 +6,7 @@ use Prim.Native.Nat.{ℕ, zero, suc, _+_, _-_, _≤_}
 use lib.ListN.{length, take, drop, replicate}
 use lib.Dec.{T, leb}
 use lib.IntN.{ℤ}
-use Rattle.model.specs.Tests.{_∈_, every, same}
+use Rattle.model.specs.Lists.{_∈_, every, same}
 use Rattle.model.specs.Bytes.{bytes, field, join, word}
 use Rattle.model.specs.Layout.{lengthAt, imageSize, logCountAt, heldCountAt, setpointsStart, messagesStart, capacity}
 use Rattle.model.specs.Message.{Message, passes}

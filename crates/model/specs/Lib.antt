@@ -1,4 +1,4 @@
-pub mod Tests
+pub mod Lists
 pub mod Bytes
 pub mod Layout
 pub mod Message

@@ -8,7 +8,7 @@ use mathlib.Core.List.{List, [], _∷_, _++_}
 use Prim.Native.Nat.{ℕ, zero, suc}
 use lib.ListN.{length}
 use lib.Dec.{T}
-use Rattle.model.specs.Tests.{_∈_, has, hasAll, keep}
+use Rattle.model.specs.Lists.{_∈_, has, hasAll, keep}
 
 module _ {A : Type 0} (name : A → ℕ) (needs : A → List ℕ) where
   -- May follow the names `done`: it is not among them, and all that it needs is.

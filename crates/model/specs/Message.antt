@@ -6,7 +6,7 @@ use lib.ListN.{length, take, drop}
 use lib.Dec.{eqb, ltb, leb}
 use lib.IntN.{ℤ}
 use lib.Signed.{leZ}
-use Rattle.model.specs.Tests.{has, every, ascending}
+use Rattle.model.specs.Lists.{has, every, ascending}
 use Rattle.model.specs.Bytes.{isBytes, number, field, parts, integer}
 use Rattle.model.specs.Layout.{kindAt, priorityFlagAt, dependencyCountAt, commandCountAt, lengthAt, dependenciesOffsetAt, commandsOffsetAt, firstZerosAt, sequenceAt, groupAt, blockAt, priorityAt, lastZerosAt, headerSize, sequenceSize, numbersOfLine, mostDependencies, commandSize, mostCommands, fieldLimit, operationAt, tagAt, commandZerosAt, valueAt, tagCount, lowestValue, highestValue}
 

@@ -3,7 +3,7 @@ use mathlib.Core.Bool.{Bool, true, false, cond, not, _&&_, _||_}
 use mathlib.Core.List.{List, [], _∷_, _++_, map}
 use Prim.Native.Nat.{ℕ, zero, suc, _-_, _<_, max}
 use lib.Dec.{eqb, ltb}
-use Rattle.model.specs.Tests.{_∈_, has, keep, greatest}
+use Rattle.model.specs.Lists.{_∈_, has, keep, greatest}
 use Rattle.model.specs.Layout.{fieldLimit, capacity}
 use Rattle.model.specs.Message.{Message, sequenceOf, hasPriority, groupOf, blockOf, priorityOf, needsOf}
 use Rattle.model.specs.Listing as L

@@ -9,7 +9,7 @@ use mathlib.Core.List.{List, [], _∷_, _++_, map}
 use Prim.Native.Nat.{ℕ, _+_, _≤_}
 use lib.ListN.{length}
 use lib.Dec.{T, eqb}
-use Rattle.model.specs.Tests.{_∈_}
+use Rattle.model.specs.Lists.{_∈_}
 use Rattle.model.specs.Message.{Message}
 use Rattle.model.specs.Order.{State, sequencesOf, logOf}
 use Rattle.model.specs.Image.{imageOf, logIn}

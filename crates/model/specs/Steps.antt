@@ -6,7 +6,7 @@ use mathlib.Core.List.{List, [], _∷_, _++_, map, reverse}
 use Prim.Native.Nat.{ℕ, zero, suc, _-_}
 use lib.ListN.{length, take, drop}
 use lib.Dec.{eqb, ltb}
-use Rattle.model.specs.Tests.{same}
+use Rattle.model.specs.Lists.{same}
 use Rattle.model.specs.Bytes.{bytes, field, join}
 use Rattle.model.specs.Layout.{sequenceSize, stepSize, stepSequenceAt}
 

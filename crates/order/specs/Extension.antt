@@ -9,7 +9,7 @@ use native.Mathlib.Omega.{arith}
 use native.Mathlib.Nat.{zero-add, suc-add}
 use lib.ListN.{length, length-append}
 use lib.Dec.{T, T-not, not-T}
-use Rattle.model.specs.Tests.{_∈_, has, hasAll, keep}
+use Rattle.model.specs.Lists.{_∈_, has, hasAll, keep}
 use Rattle.model.specs.Listing.{ready, Listing, Complete, lowestOf, place, grow, firstOf}
 use Rattle.order.specs.TestLaws.{has→∈, ∈→has, hasAll→∈, ∈→hasAll, and-i, decide}
 use Rattle.order.specs.KeyOrder.{Total}

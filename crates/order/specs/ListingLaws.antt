@@ -10,7 +10,7 @@ use native.Mathlib.Omega.{arith}
 use native.Mathlib.Nat.{le-trans, le-of-suc-le-suc}
 use lib.ListN.{length}
 use lib.Dec.{T, eqb, eqb-refl, T-not, not-T}
-use Rattle.model.specs.Tests.{_∈_, has, hasAll, keep}
+use Rattle.model.specs.Lists.{_∈_, has, hasAll, keep}
 use Rattle.model.specs.Listing as L
 use Rattle.order.specs.TestLaws.{and-l, and-r, and-i, or-l, decide, has→∈, ∈→has, hasAll→∈, ∈→hasAll, keep-∈, ∈-keep, keep-length, keep-loses, Same, same-sym}
 use Rattle.order.specs.KeyOrder.{Total}

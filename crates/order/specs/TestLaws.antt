@@ -8,7 +8,7 @@ use native.Mathlib.Omega.{arith}
 use native.Mathlib.Nat.{le-refl}
 use lib.ListN.{length}
 use lib.Dec.{T, eqb, ltb, eqb→eq, eqb-refl, ltb→lt, lt→ltb, T-not, not-T}
-use Rattle.model.specs.Tests.{_∈_, has, hasAll, every, some?, keep, greatest, same, ascending}
+use Rattle.model.specs.Lists.{_∈_, has, hasAll, every, some?, keep, greatest, same, ascending}
 
 -- ---- the laws of tests
 pub and-l : (a b : Bool) → T (a && b) → T a

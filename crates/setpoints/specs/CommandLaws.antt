@@ -11,8 +11,8 @@ use Rattle.model.specs.Bytes.{number, field, parts, integer}
 use Rattle.model.specs.Layout.{commandSize, operationAt, tagAt, valueAt}
 use Rattle.model.specs.Message.{Message, dependencyCount, commandCount, commandsStart, commandsOf, layoutRight, passes}
 use Rattle.model.specs.Setpoints.{runCommand, runCommands, runDelta}
-use Rattle.laws.specs.BytesLaws.{field-part}
-use Rattle.laws.specs.MessageLaws.{layout-sized, passes-layout}
+use Rattle.wire_laws.specs.BytesLaws.{field-part}
+use Rattle.wire_laws.specs.MessageLaws.{layout-sized, passes-layout}
 use Rattle.setpoints.specs.Commands.{commandsIn, operateTag}
 
 -- ---- the command at a place, by the three fields read there

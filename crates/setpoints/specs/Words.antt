@@ -8,7 +8,7 @@ use lib.IntN.{ℤ, pos}
 use lib.ListN.{length, take, getD, length-append}
 use lib.Seq.{paste, take-suc, length-take-le}
 use Rattle.model.specs.Bytes.{bytes, join, word}
-use Rattle.laws.specs.BytesLaws.{length-bytes}
+use Rattle.wire_laws.specs.BytesLaws.{length-bytes}
 use Rattle.buffer.specs.PasteLaws.{paste-paste}
 
 abbrev pub wordsOf : List ℤ → List ℕ

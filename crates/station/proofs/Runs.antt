@@ -6,7 +6,7 @@ use mathlib.Core.List.{List}
 use Prim.Native.Nat.{ℕ}
 use denote.Ref.{now, RefT}
 use contract.Lifetimes.{Lfts}
-use Rattle.model.specs.Tests.{_∈_}
+use Rattle.model.specs.Lists.{_∈_}
 use Rattle.model.specs.Message.{Message}
 use Rattle.model.specs.Order.{State, Executable, IsLog, logOf}
 use Rattle.model.specs.Image.{imageOf, logIn}
@@ -15,7 +15,7 @@ use Rattle.model.specs.Calls.{Delivered, deliver}
 use Rattle.model.specs.Run.{Call, delivery, Event, imageAfter, Run, stateAfter, Agreement, Begins, Answers}
 use Rattle.laws.specs.LogLaws.{log-is, log-executable}
 use Rattle.laws.specs.ImageLaws.{log-back}
-use Rattle.laws.specs.RunLaws.{agreement-of, state-valid}
+use Rattle.run_laws.specs.RunLaws.{agreement-of, state-valid}
 use Rattle.station.specs.declared.answer.Delivery.{Delivery}
 use Rattle.station.specs.declared.answer.Emptying.{Emptying}
 use Rattle.station.specs.declared.answer.Emptying.the-variants as emptying

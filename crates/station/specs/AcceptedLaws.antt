@@ -11,7 +11,7 @@ use Rattle.model.specs.Order.{State, add, logOf}
 use Rattle.model.specs.Image.{stateIn}
 use Rattle.model.specs.Calls.{Delivered, acceptedAnswer}
 use Rattle.laws.specs.LogLaws.{log-length}
-use Rattle.laws.specs.MessageLaws.{passes-sized, sized-range}
+use Rattle.wire_laws.specs.MessageLaws.{passes-sized, sized-range}
 use Rattle.table.specs.declared.Table.{Table}
 use Rattle.table.specs.Table.{startsOf, messageFrom, deltasOf, setIn, Holds, insertAt}
 use Rattle.steps.specs.Names.{Within, shifted}

@@ -19,7 +19,7 @@ use Rattle.order.specs.TestLaws.{decide, is-false}
 use Rattle.laws.specs.LogLaws.{log-length}
 use Rattle.laws.specs.ImageLaws.{image-declared, image-state}
 use Rattle.laws.specs.DeliverLaws.{receive-valid}
-use Rattle.laws.specs.RunLaws.{CallFacts, call-facts}
+use Rattle.run_laws.specs.RunLaws.{CallFacts, call-facts}
 use Rattle.station.specs.DeliverCases.{code-size, code-no-image, refused-is}
 
 pub record Counted (d : Delivered) : Type 0 where

@@ -8,7 +8,7 @@ use native.Mathlib.Omega.{arith}
 use native.Mathlib.Nat.{suc-ne-zero}
 use lib.ListN.{length, drop}
 use lib.Dec.{T}
-use Rattle.model.specs.Tests.{_∈_, has, same}
+use Rattle.model.specs.Lists.{_∈_, has, same}
 use Rattle.model.specs.Layout.{imageSize, stepRoom, capacity}
 use Rattle.model.specs.Message.{Message, sequenceOf, passes, layoutRight, numbersRight, dependenciesRight, contentRight}
 use Rattle.model.specs.Order.{State, stateOf, add, sequencesOf, logOf}
@@ -19,7 +19,7 @@ use Rattle.model.specs.Calls.{Delivered, written, acceptedAnswer, deliverAnswer
 use Rattle.order.specs.TestLaws.{is-true, is-false, has→∈}
 use Rattle.laws.specs.ImageLaws.{image-declared, image-state}
 use Rattle.laws.specs.SetLaws.{insert-present}
-use Rattle.laws.specs.RunLaws.{undos-self, steps-self}
+use Rattle.run_laws.specs.RunLaws.{undos-self, steps-self}
 
 -- the code behind 3 to 6
 behind : ℕ → ℕ → ℕ

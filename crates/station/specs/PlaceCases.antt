@@ -8,7 +8,7 @@ use lib.ListN.{length, getD, length-map}
 use lib.Seq.{length-take-le}
 use lib.Dec.{T, eqb, ltb, leb, le→leb, eqb-refl}
 use borrow.Author.Tests.{eq-eqb, le-ltb, le-leb, lt-leb}
-use Rattle.model.specs.Tests.{has, same}
+use Rattle.model.specs.Lists.{has, same}
 use Rattle.model.specs.Layout.{imageSize, stepRoom, capacity}
 use Rattle.model.specs.Message.{Message, sequenceOf, layoutRight, numbersRight, dependenciesRight, contentRight, passes}
 use Rattle.model.specs.Order.{State, add, find}

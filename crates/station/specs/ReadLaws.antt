@@ -5,7 +5,7 @@ use mathlib.Core.List.{List}
 use Prim.Native.Nat.{ℕ}
 use lib.ListN.{length}
 use lib.Dec.{T, leb, le→leb}
-use Rattle.model.specs.Tests.{every, same}
+use Rattle.model.specs.Lists.{every, same}
 use Rattle.model.specs.Layout.{capacity}
 use Rattle.model.specs.Message.{passes}
 use Rattle.model.specs.Order.{State}

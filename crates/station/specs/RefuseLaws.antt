@@ -6,7 +6,7 @@ use Prim.Native.Nat.{ℕ, _+_, _-_}
 use native.Mathlib.Omega.{arith}
 use lib.ListN.{take, drop}
 use Rattle.model.specs.Bytes.{field}
-use Rattle.model.specs.Tests.{same}
+use Rattle.model.specs.Lists.{same}
 use Rattle.table.specs.Table.{messageFrom}
 use Rattle.station.specs.Answer.{repeatOf}
 

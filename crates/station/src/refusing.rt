@@ -11,7 +11,7 @@ ghost use mathlib.Core.Path.{_≡_};
 ghost use mathlib.Core.Bool.{not};
 ghost use lib.Dec.{eqb};
 ghost use Rattle.model.specs.Layout.{imageSize};
-ghost use Rattle.model.specs.Tests.{same as sameList};
+ghost use Rattle.model.specs.Lists.{same as sameList};
 ghost use Rattle.model.specs.Codes.{smallSteps};
 ghost use Rattle.message.specs.Check.{right};
 ghost use Rattle.table.specs.Table.{messageFrom};

@@ -9,7 +9,7 @@ use lib.Dec.{T, leb, leb→le, nleb→lt}
 use native.Mathlib.Numerals.{add-one}
 use lib.ListN.{length, take, drop, getD, set, length-map}
 use lib.Seq.{take-suc, take-suc-set}
-use Rattle.model.specs.Tests.{_∈_}
+use Rattle.model.specs.Lists.{_∈_}
 use Rattle.model.specs.Bytes.{field}
 use Rattle.model.specs.Message.{Message, sequenceOf}
 use Rattle.table.specs.Table.{messageFrom, deltasOf, Holds}

@@ -10,8 +10,8 @@ use Rattle.model.specs.Bytes.{bytes, join}
 use Rattle.model.specs.Layout.{stepSize}
 use Rattle.model.specs.Steps.{Step, undo, execute, common, stepsOf, stepBytes, stepsBytes}
 use Rattle.model.specs.Calls.{written}
-use Rattle.laws.specs.BytesLaws.{join-append}
-use Rattle.laws.specs.StepBytesLaws.{length-steps-bytes}
+use Rattle.wire_laws.specs.BytesLaws.{join-append}
+use Rattle.wire_laws.specs.StepBytesLaws.{length-steps-bytes}
 use Rattle.buffer.specs.FieldLaws.{bytes-split, bytes-low}
 use Rattle.buffer.specs.PasteLaws.{paste-paste}
 use Rattle.steps.specs.Room.{stepsAt}

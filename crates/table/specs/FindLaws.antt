@@ -7,7 +7,7 @@ use Prim.Native.Nat.{ℕ, _<_}
 use native.Mathlib.Omega.{arith}
 use lib.ListN.{length, getD, length-map}
 use lib.Dec.{ltb, ltb→lt, nltb→le}
-use Rattle.model.specs.Tests.{_∈_, has}
+use Rattle.model.specs.Lists.{_∈_, has}
 use Rattle.model.specs.Message.{Message, sequenceOf}
 use Rattle.model.specs.Order.{sequencesOf, find}
 use Rattle.order.specs.TestLaws.{decide, has→∈, ∈→has}

@@ -6,14 +6,14 @@ use native.Mathlib.Omega.{arith}
 use lib.ListN.{length, take, drop}
 use lib.Seq.{take-take, take-append-seam, take-length}
 use lib.Dec.{T}
-use Rattle.model.specs.Tests.{_∈_}
+use Rattle.model.specs.Lists.{_∈_}
 use Rattle.model.specs.Bytes.{number, field}
 use Rattle.model.specs.Layout.{lengthAt}
 use Rattle.model.specs.Message.{Message, passes}
 use Rattle.model.specs.Order.{stateOf}
 use Rattle.model.specs.Image.{Valid}
-use Rattle.laws.specs.BytesLaws.{field-part}
-use Rattle.laws.specs.MessageLaws.{Sized, passes-sized, sized-range}
+use Rattle.wire_laws.specs.BytesLaws.{field-part}
+use Rattle.wire_laws.specs.MessageLaws.{Sized, passes-sized, sized-range}
 use Rattle.table.specs.Table.{messageFrom, deltasOf, Holds}
 use Rattle.table.specs.TableLaws.{Lies, passes-lies}
 

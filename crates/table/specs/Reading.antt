@@ -4,7 +4,7 @@ use mathlib.Core.Bool.{Bool, true, false}
 use mathlib.Core.List.{List}
 use Prim.Native.Nat.{ℕ, _+_, _≤_}
 use lib.Dec.{T}
-use Rattle.model.specs.Tests.{has}
+use Rattle.model.specs.Lists.{has}
 use Rattle.model.specs.Bytes.{field}
 use Rattle.model.specs.Layout.{lengthAt, capacity}
 use Rattle.model.specs.Message.{sequenceOf, passes}

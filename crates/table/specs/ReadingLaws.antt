@@ -9,7 +9,7 @@ use native.Mathlib.Numerals.{add-one}
 use lib.ListN.{length, take, drop, getD, take-append-drop}
 use lib.Seq.{take-all, take-suc, drop-cons, drop-drop}
 use lib.Dec.{T}
-use Rattle.model.specs.Tests.{_∈_, has}
+use Rattle.model.specs.Lists.{_∈_, has}
 use Rattle.model.specs.Bytes.{number, field}
 use Rattle.model.specs.Layout.{lengthAt, messagesStart, capacity}
 use Rattle.model.specs.Message.{Message, sequenceOf, passes}

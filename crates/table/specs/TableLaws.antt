@@ -8,8 +8,8 @@ use lib.Dec.{T}
 use Rattle.model.specs.Bytes.{field}
 use Rattle.model.specs.Layout.{lengthAt}
 use Rattle.model.specs.Message.{Message, passes}
-use Rattle.laws.specs.BytesLaws.{field-part}
-use Rattle.laws.specs.MessageLaws.{Sized, passes-sized, sized-range}
+use Rattle.wire_laws.specs.BytesLaws.{field-part}
+use Rattle.wire_laws.specs.MessageLaws.{Sized, passes-sized, sized-range}
 use Rattle.table.specs.Table.{messageFrom}
 
 pub record Lies (pool : List ℕ) (at : ℕ) : Type 0 where

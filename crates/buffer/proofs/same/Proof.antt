@@ -10,7 +10,7 @@ use native.Mathlib.Omega.{arith}
 use native.Mathlib.Numerals.{add-one}
 use borrow.Author.Needs.{needs}
 use borrow.Author.Tests.{eq-eqb, ne-eqb}
-use Rattle.model.specs.Tests.{same}
+use Rattle.model.specs.Lists.{same}
 use Rattle.buffer.proofs.same.Statement.{statement}
 use Rattle.buffer.proofs.same.Tie as tie
 

@@ -3,7 +3,7 @@ use mathlib.Core.Path.{_≡_, refl, sym, _∙_, ap}
 use lib.ListN.{drop}
 use native.Mathlib.Omega.{arith}
 use borrow.Author.Needs.{needs}
-use Rattle.model.specs.Tests.{greatest}
+use Rattle.model.specs.Lists.{greatest}
 use Rattle.log.specs.Needs.{rowIn}
 use Rattle.log.specs.Ready.{blockIn, effectiveIn}
 use Rattle.log.specs.RowSteps.{effective-step, effective-end}

@@ -4,7 +4,7 @@ use mathlib.Core.Bool.{Bool, _&&_}
 use lib.ListN.{drop}
 use native.Mathlib.Omega.{arith}
 use borrow.Author.Tests.{eq-eqb, ne-eqb}
-use Rattle.model.specs.Tests.{every}
+use Rattle.model.specs.Lists.{every}
 use Rattle.log.specs.Needs.{rowIn}
 use Rattle.log.specs.Ready.{isPlaced, readyIn}
 use Rattle.log.specs.RowSteps.{ready-placed, ready-start, row-step, row-end}

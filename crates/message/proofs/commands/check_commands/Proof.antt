@@ -5,7 +5,7 @@ use mathlib.Core.List.{List, []}
 use lib.ListN.{length, take, drop}
 use native.Mathlib.Omega.{arith}
 use borrow.Author.Needs.{needs}
-use Rattle.model.specs.Tests.{every}
+use Rattle.model.specs.Lists.{every}
 use Rattle.model.specs.Bytes.{parts}
 use Rattle.model.specs.Message.{commandRight}
 use Rattle.message.specs.Check.{right}

@@ -6,7 +6,7 @@ use mathlib.Core.Bool.{Bool}
 use mathlib.Core.List.{List}
 use lib.ListN.{length, take, drop, length-drop}
 use lib.Seq.{take-all}
-use Rattle.model.specs.Tests.{every}
+use Rattle.model.specs.Lists.{every}
 use Rattle.model.specs.Bytes.{parts}
 use Rattle.model.specs.Message.{dependencyCount, commandsStart, groupOf, commandRight}
 use Rattle.message.specs.Check.{right}

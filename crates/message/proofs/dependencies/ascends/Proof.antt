@@ -5,7 +5,7 @@ use lib.ListN.{drop}
 use lib.Dec.{ltb}
 use native.Mathlib.Omega.{arith}
 use borrow.Author.Needs.{needs}
-use Rattle.model.specs.Tests.{ascending}
+use Rattle.model.specs.Lists.{ascending}
 use Rattle.model.specs.Message.{dependenciesOf}
 use borrow.Author.Tests.{not-true, not-false}
 use Rattle.message.specs.ListLaws.{ascending-step, ascending-end, length-dependencies}

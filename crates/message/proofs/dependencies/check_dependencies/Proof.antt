@@ -3,7 +3,7 @@ use mathlib.Core.Bool.{Bool, true, not, _&&_}
 use mathlib.Core.List.{List}
 use Prim.Native.Nat.{ℕ}
 use borrow.Author.Tests.{not-true, not-false}
-use Rattle.model.specs.Tests.{has, every, ascending}
+use Rattle.model.specs.Lists.{has, every, ascending}
 use Rattle.model.specs.Message.{Message, sequenceOf, predecessorOf, dependenciesOf, dependenciesRight}
 use Rattle.sequence.specs.Sequence.{predecessorList}
 use borrow.Author.Needs.{needs}

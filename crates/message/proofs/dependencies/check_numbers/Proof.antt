@@ -4,7 +4,7 @@ use mathlib.Core.Bool.{Bool, true, false, not, _&&_}
 use lib.ListN.{drop, getD}
 use native.Mathlib.Omega.{arith}
 use borrow.Author.Needs.{needs}
-use Rattle.model.specs.Tests.{every}
+use Rattle.model.specs.Lists.{every}
 use Rattle.model.specs.Message.{numbered, numberOf, sequenceOf, dependenciesOf, numbersRight}
 use borrow.Author.Tests.{eq-eqb, ne-eqb}
 use Rattle.message.specs.ListLaws.{every-step, every-end, length-dependencies}

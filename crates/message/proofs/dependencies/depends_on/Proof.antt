@@ -5,7 +5,7 @@ use lib.ListN.{drop}
 use lib.Dec.{eqb}
 use native.Mathlib.Omega.{arith}
 use borrow.Author.Needs.{needs}
-use Rattle.model.specs.Tests.{has}
+use Rattle.model.specs.Lists.{has}
 use Rattle.model.specs.Message.{dependenciesOf}
 use Rattle.sequence.specs.Sequence.{sequenceNumber}
 use Rattle.message.specs.ListLaws.{has-step, has-end, length-dependencies}

@@ -3,7 +3,7 @@ use Prim.Native.Nat.{ℕ, _≤_, _<_}
 use native.Mathlib.Omega.{arith}
 use lib.ListN.{length, getD}
 use lib.Seq.{length-take-le, getD-take}
-use Rattle.model.specs.Tests.{same}
+use Rattle.model.specs.Lists.{same}
 use Rattle.model.specs.Message.{sequenceOf}
 use Rattle.table.specs.declared.places.Place.{Place}
 use Rattle.table.specs.Table.{startsOf, messageFrom}

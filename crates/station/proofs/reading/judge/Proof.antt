@@ -2,7 +2,7 @@ use mathlib.Core.Path.{_≡_, sym, _∙_, ap, subst}
 use mathlib.Core.List.{List}
 use Prim.Native.Nat.{ℕ}
 use lib.Dec.{T}
-use Rattle.model.specs.Tests.{same}
+use Rattle.model.specs.Lists.{same}
 use Rattle.station.specs.ReadLaws.{judged}
 use borrow.Author.Needs.{needs}
 use Rattle.station.proofs.reading.judge.Statement.{statement}

@@ -9,7 +9,7 @@ use native.Mathlib.Omega.{arith}
 use native.Mathlib.Nat.{not-suc-le-zero}
 use lib.ListN.{length}
 use lib.Dec.{T, eqb, ltb, leb, eqb→eq, eqb-refl, ltb→lt, lt→ltb, nltb→le, leb→le, nleb→lt, T-not, not-T}
-use Rattle.model.specs.Tests.{_∈_, has, every, some?, keep, greatest, ascending}
+use Rattle.model.specs.Lists.{_∈_, has, every, some?, keep, greatest, ascending}
 use Rattle.model.specs.Layout.{numbersOfLine}
 use Rattle.model.specs.Message.{Message, sequenceOf, lineOf, numberOf, predecessorOf, needsOf, numbered, numbersRight, dependenciesOf}
 use Rattle.model.specs.Order.{State, Ascending, sequencesOf, logOf, heldOf}
@@ -17,8 +17,8 @@ use Rattle.model.specs.Image.{Valid}
 use Rattle.model.specs.Compose.{newNumber, newSequence, unneeded, newDependencies}
 use Rattle.model.specs.Codes.{heldOn}
 use Rattle.order.specs.TestLaws.{and-l, and-r, and-i, decide, has→∈, ∈→has, keep-∈, ∈-keep, ∈-every, every-∈, ∈-some, greatest-≥}
 use Rattle.laws.specs.LogLaws.{log-received, log-held}
-use Rattle.laws.specs.MessageLaws.{passes-numbers}
+use Rattle.wire_laws.specs.MessageLaws.{passes-numbers}
 
 -- ---- lists
 ascending-cons : (a : ℕ) (l : List ℕ) → ((x : ℕ) → x ∈ l → a < x) → T (ascending l) → T (ascending (a ∷ l))

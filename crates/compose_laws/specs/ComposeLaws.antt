@@ -11,7 +11,7 @@ use native.Mathlib.Nat.{suc-ne-zero}
 use lib.ListN.{length, length-append, take, drop}
 use lib.Seq.{take-at, drop-length, drop-append-seam}
 use lib.Dec.{T, eqb, ltb, leb, eqb→eq, eqb-refl, ltb→lt, lt→ltb, leb→le, nleb→lt, nltb→le, le→leb, T-not, not-T, lit<}
-use Rattle.model.specs.Tests.{_∈_, has, every, some?, keep, greatest, ascending}
+use Rattle.model.specs.Lists.{_∈_, has, every, some?, keep, greatest, ascending}
 use Rattle.model.specs.Bytes.{isBytes, number, field, parts}
 use Rattle.model.specs.Layout.{imageSize, stepRoom, messageRoom, lineSize, sequenceSize, numbersOfLine, commandSize, mostDependencies, fieldLimit, capacity}
 use Rattle.model.specs.Message.{Message, sequenceOf, hasPriority, groupOf, blockOf, priorityOf, lineOf, numberOf, predecessorOf, dependenciesOf, needsOf, numbered, numbersRight, commandRight, blockRight, passes}
@@ -28,15 +28,15 @@ use Rattle.order.specs.KeyOrder.{less-total}
 use Rattle.order.specs.ListingLaws.{after, after-has, after-from}
 use Rattle.order.specs.Extension.{extends}
 use Rattle.order.specs.StepLaws.{common-longer, steps-longer}
 use Rattle.laws.specs.SetLaws.{ascending-names, find-here, insert-from, insert-keeps, insert-has, insert-ascending, not-eqb}
 use Rattle.laws.specs.LogLaws.{keys-differ, log-complete, log-received, log-held, log-closed}
-use Rattle.laws.specs.MessageLaws.{sequence-range}
-use Rattle.laws.specs.BytesLaws.{number-range}
+use Rattle.wire_laws.specs.MessageLaws.{sequence-range}
+use Rattle.wire_laws.specs.BytesLaws.{number-range}
 use Rattle.laws.specs.ImageLaws.{image-declared, image-state}
 use Rattle.laws.specs.DeliverLaws.{code-zero, receive-accepted}
-use Rattle.laws.specs.RunLaws.{CallFacts, call-facts}
-use Rattle.laws.specs.ComposedMessage.{Parts, made-passes, made-sequence, made-dependencies}
-use Rattle.laws.specs.ComposeFacts.{own-numbered, own-new, predecessor-logged, dependency-logged, dependencies-ascend, dependencies-numbered, dependencies-other, dependencies-not-predecessor, unneeded-named}
+use Rattle.run_laws.specs.RunLaws.{CallFacts, call-facts}
+use Rattle.compose_laws.specs.ComposedMessage.{Parts, made-passes, made-sequence, made-dependencies}
+use Rattle.compose_laws.specs.ComposeFacts.{own-numbered, own-new, predecessor-logged, dependency-logged, dependencies-ascend, dependencies-numbered, dependencies-other, dependencies-not-predecessor, unneeded-named}
 
 -- ---- a delta that needs every logged delta that none needs, and nothing that is not logged: the log goes on with it
 find-skip : (m : Message) (l : List Message) (s : ℕ) → (sequenceOf m ≡ s → ⊥) → find (m ∷ l) s ≡ find l s

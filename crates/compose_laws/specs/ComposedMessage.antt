@@ -9,15 +9,15 @@ use native.Mathlib.Nat.{div-add-mod'}
 use lib.ListN.{length, length-append, length-map, take, drop}
 use lib.Seq.{drop-drop, drop-at, take-length}
 use lib.Dec.{T, eqb, ltb, leb, eqb→eq, eqb-refl, leb→le, le→leb, lt→ltb, ltb→lt, lit<}
-use Rattle.model.specs.Tests.{_∈_, has, every, ascending}
+use Rattle.model.specs.Lists.{_∈_, has, every, ascending}
 use Rattle.model.specs.Bytes.{isBytes, number, bytes, field, parts, join}
 use Rattle.model.specs.Layout.{kindAt, priorityFlagAt, lengthAt, dependenciesOffsetAt, commandsOffsetAt, firstZerosAt, lastZerosAt, headerSize, sequenceSize, commandSize, mostDependencies, mostCommands, fieldLimit}
 use Rattle.model.specs.Message.{Message, hasPriority, dependencyCount, commandCount, commandsStart, totalLength, sequenceOf, groupOf, blockOf, priorityOf, dependenciesOf, commandsOf, predecessorOf, numbered, layoutRight, numbersRight, dependenciesRight, commandRight, blockRight, contentRight, passes}
 use Rattle.model.specs.Compose.{messageOf}
 use Rattle.model.specs.Codes.{commandsSized}
 use Rattle.order.specs.TestLaws.{and-l, and-r, and-i}
-use Rattle.laws.specs.BytesLaws.{length-bytes, number-bytes, bytes-isBytes, isBytes-append, parts-join, length-join}
-use Rattle.laws.specs.MessageLaws.{passes-all}
+use Rattle.wire_laws.specs.BytesLaws.{length-bytes, number-bytes, bytes-isBytes, isBytes-append, parts-join, length-join}
+use Rattle.wire_laws.specs.MessageLaws.{passes-all}
 
 eq→eqb : (a b : ℕ) → a ≡ b → T (eqb a b)
 eq→eqb a b e = subst (λ (x : ℕ). T (eqb a x)) e (eqb-refl a)

@@ -15,7 +15,7 @@ use lib.Signed.{mag}
 use mir.Syntax.{w32}
 use mir.Val.{toZ, ofZ, sel, SFits}
 use mir.Facts.{toZ-ofZ}
-use Rattle.model.specs.Tests.{_∈_, every}
+use Rattle.model.specs.Lists.{_∈_, every}
 use Rattle.model.specs.Bytes.{isBytes, numberFrom, number, bytes, field, parts, join, integer, word}
 use Rattle.order.specs.TestLaws.{and-l, and-r, and-i, decide}
 

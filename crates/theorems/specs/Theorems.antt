@@ -7,7 +7,7 @@ use Prim.Native.Nat.{ℕ, _+_, _≤_, _<_, max}
 use native.Mathlib.Omega.{arith}
 use lib.ListN.{length}
 use lib.Dec.{T}
-use Rattle.model.specs.Tests.{_∈_, greatest}
+use Rattle.model.specs.Lists.{_∈_, greatest}
 use Rattle.model.specs.Layout.{imageSize}
 use Rattle.model.specs.Message.{Message, blockOf, needsOf}
 use Rattle.model.specs.Order.{State, find, sequencesOf, effectiveBlock, keyOf, less, Executable, IsLog, logOf, heldOf}
@@ -20,13 +20,13 @@ use Rattle.model.specs.Run.{delivery, Agreement, Begins, Answers}
 use Rattle.order.specs.KeyOrder.{Total}
 use Rattle.order.specs.TestLaws.{Same}
 use Rattle.order.specs.StepLaws.{steps-play, steps-counted, steps-fewest}
 use Rattle.laws.specs.LogLaws.{key-order, keys-differ, log-is, log-only, log-of-set, log-executable, held-is}
 use Rattle.laws.specs.EffectiveLaws.{effective-is}
 use Rattle.laws.specs.ImageLaws.{image-size, state-back, log-back, image-declared, image-state}
 use Rattle.laws.specs.CodeLaws.{Lowest, lowest-is}
 use Rattle.laws.specs.DeliverLaws.{receive-valid}
-use Rattle.laws.specs.RunLaws.{CallFacts, call-facts, agreement}
-use Rattle.laws.specs.ComposeLaws.{Promised, composedBy, compose-promise}
+use Rattle.run_laws.specs.RunLaws.{CallFacts, call-facts, agreement}
+use Rattle.compose_laws.specs.ComposeLaws.{Promised, composedBy, compose-promise}
 
 -- 1. The computed log is the declared one and the only one. A received delta is in it exactly if it is executable; held are the others.
 pub record LogLaw (S : State) : Type 0 where

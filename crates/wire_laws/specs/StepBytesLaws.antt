@@ -9,11 +9,11 @@ use native.Mathlib.Omega.{arith}
 use lib.ListN.{length, length-append, length-map, length-reverse, take, drop, length-drop}
 use lib.Seq.{take-at, drop-at}
 use lib.Dec.{T, ltb, not-T, ltb→lt}
-use Rattle.model.specs.Tests.{_∈_}
+use Rattle.model.specs.Lists.{_∈_}
 use Rattle.model.specs.Bytes.{number, bytes, join}
 use Rattle.model.specs.Layout.{sequenceSize, stepSize}
 use Rattle.model.specs.Steps.{Step, undo, execute, common, stepsOf, undosOf, executionsOf, stepBytes, stepsBytes, readStep, both, readSteps}
-use Rattle.laws.specs.BytesLaws.{length-bytes, number-bytes, length-join}
+use Rattle.wire_laws.specs.BytesLaws.{length-bytes, number-bytes, length-join}
 
 abbrev pub nameOf : Step → ℕ
 nameOf (undo s) = s

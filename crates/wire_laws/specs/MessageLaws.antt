@@ -10,7 +10,7 @@ use Rattle.model.specs.Bytes.{isBytes, field}
 use Rattle.model.specs.Layout.{lengthAt, sequenceAt, sequenceSize}
 use Rattle.model.specs.Message.{Message, dependencyCount, commandCount, totalLength, sequenceOf, layoutRight, numbersRight, dependenciesRight, contentRight, passes}
 use Rattle.order.specs.TestLaws.{and-l, and-r, and-i}
-use Rattle.laws.specs.BytesLaws.{field-range}
+use Rattle.wire_laws.specs.BytesLaws.{field-range}
 
 pub passes-layout : (m : Message) → T (passes m) → T (layoutRight m)
 unfolding passes

@@ -10,7 +10,7 @@ use native.Mathlib.Nat.{suc-ne-zero, le-of-eq, sub-self}
 use lib.ListN.{length, length-map, length-reverse, length-drop, drop, length-append}
 use lib.Seq.{drop-length}
 use lib.Dec.{T, eqb, eqb→eq, eqb-refl}
-use Rattle.model.specs.Tests.{_∈_}
+use Rattle.model.specs.Lists.{_∈_}
 use Rattle.model.specs.Layout.{sequenceSize, capacity}
 use Rattle.model.specs.Message.{Message, sequenceOf}
 use Rattle.model.specs.Order.{State, add, sequencesOf, logOf}
@@ -22,12 +22,12 @@ use Rattle.model.specs.PlainStation.{accepts, receive}
 use Rattle.model.specs.Run.{Call, delivery, Event, imageAfter, Run, accepts?, stateNext, stateAfter, logAfter, codeFor, messageOfCall, acceptedIn, StepsTaken, Played, Agreement, Begins, Answers}
 use Rattle.order.specs.StepLaws.{steps-play, steps-fewest, steps-counted, common-self, common-le, plays-unique}
 use Rattle.order.specs.TestLaws.{Same}
 use Rattle.laws.specs.SetLaws.{insert-from, insert-keeps, insert-has, ascending-unique}
 use Rattle.laws.specs.LogLaws.{log-received}
-use Rattle.laws.specs.MessageLaws.{sequence-range}
+use Rattle.wire_laws.specs.MessageLaws.{sequence-range}
 use Rattle.laws.specs.ImageLaws.{log-back}
-use Rattle.laws.specs.StepBytesLaws.{nameOf, read-steps}
+use Rattle.wire_laws.specs.StepBytesLaws.{nameOf, read-steps}
 use Rattle.laws.specs.DeliverLaws.{stateCode, deliver-code-is, deliver-is, code-zero, receive-refused, receive-accepted, accepts-same, receive-valid}
 
 -- ---- one call on the image of a valid state, after which the plain station's state is `next`
 pub record CallFacts (S next : State) (c : Call) (a : Delivered) : Type 0 where

@@ -1,0 +1,3 @@
+pub mod ComposedMessage
+pub mod ComposeFacts
+pub mod ComposeLaws
