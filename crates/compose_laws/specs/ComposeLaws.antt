@@ -15,7 +15,7 @@ use Rattle.model.specs.Lists.{_∈_, has, every, some?, keep, greatest, ascendi
 use Rattle.model.specs.Bytes.{isBytes, number, field, parts}
 use Rattle.model.specs.Layout.{imageSize, stepRoom, messageRoom, lineSize, sequenceSize, numbersOfLine, commandSize, mostDependencies, fieldLimit, capacity}
 use Rattle.model.specs.Message.{Message, sequenceOf, hasPriority, groupOf, blockOf, priorityOf, lineOf, numberOf, predecessorOf, dependenciesOf, needsOf, numbered, numbersRight, commandRight, blockRight, passes}
-use Rattle.model.specs.Order.{State, stateOf, add, insert, Ascending, sequencesOf, find, blockAlong, effectiveBlock, keyOf, keyWith, less, logOf, heldOf}
+use Rattle.model.specs.Order.{State, add, insert, Ascending, sequencesOf, needs, placedBy, keyOf, less, logOf}
 use Rattle.model.specs.Image.{imageOf, Valid, stateIn, isImage}
 use Rattle.model.specs.Steps.{Step, undo, execute, common, stepsOf, undosOf, executionsOf, readSteps}
 use Rattle.model.specs.Compose.{messageOf, newNumber, newSequence, unneeded, newDependencies, newGroup, newBlock, composed}
@@ -25,11 +25,12 @@ use Rattle.model.specs.PlainStation.{accepts, receive}
 use Rattle.model.specs.Run.{delivery}
 use Rattle.order.specs.TestLaws.{and-l, and-r, and-i, or-l, or-r, or-e, decide, has→∈, ∈→has, keep-∈, ∈-keep, every-∈, ∈-every, some-∈, ∈-some, greatest-≥, greatest-cong}
 use Rattle.order.specs.KeyOrder.{less-total}
-use Rattle.order.specs.ListingLaws.{after, after-has, after-from}
+use Rattle.order.specs.ListingLaws.{after-has}
 use Rattle.order.specs.Extension.{extends}
 use Rattle.order.specs.StepLaws.{common-longer, steps-longer}
-use Rattle.laws.specs.SetLaws.{ascending-names, find-here, insert-from, insert-keeps, insert-has, insert-ascending, not-eqb}
-use Rattle.laws.specs.LogLaws.{keys-differ, log-complete, log-received, log-held, log-closed}
+use Rattle.laws.specs.SetLaws.{ascending-names, insert-from, insert-keeps, insert-has, insert-ascending, not-eqb}
+use Rattle.laws.specs.LogLaws.{Logged, keys-differ, log-received}
+use Rattle.laws.specs.EffectiveLaws.{keys-agree}
 use Rattle.wire_laws.specs.MessageLaws.{sequence-range}
 use Rattle.wire_laws.specs.BytesLaws.{number-range}
 use Rattle.laws.specs.ImageLaws.{image-declared, image-state}
@@ -39,61 +40,24 @@ use Rattle.compose_laws.specs.ComposedMessage.{Parts, made-passes, made-
 use Rattle.compose_laws.specs.ComposeFacts.{own-numbered, own-new, predecessor-logged, dependency-logged, dependencies-ascend, dependencies-numbered, dependencies-other, dependencies-not-predecessor, unneeded-named}
 
 -- ---- a delta that needs every logged delta that none needs, and nothing that is not logged: the log goes on with it
-find-skip : (m : Message) (l : List Message) (s : ℕ) → (sequenceOf m ≡ s → ⊥) → find (m ∷ l) s ≡ find l s
-find-skip m l s n = go (eqb (sequenceOf m) s) (eqb→eq (sequenceOf m) s)
-  where
-    go : (c : Bool) → (T c → sequenceOf m ≡ s) → cond c m (find l s) ≡ find l s
-    go true f = absurd (n (f tt))
-    go false f = refl
-
-find-insert : (m : Message) (l : List Message) (s : ℕ) → (sequenceOf m ≡ s → ⊥) → find (insert m l) s ≡ find l s
-find-insert m [] s n = find-skip m [] s n
-find-insert m (x ∷ l) s n = go (ltb (sequenceOf m) (sequenceOf x)) (eqb (sequenceOf m) (sequenceOf x)) (find-insert m l s n)
-  where
-    go : (b c : Bool) → find (insert m l) s ≡ find l s → find (cond b (m ∷ x ∷ l) (cond c (x ∷ l) (x ∷ insert m l))) s ≡ find (x ∷ l) s
-    go true c ih = find-skip m (x ∷ l) s n
-    go false true ih = refl
-    go false false ih = ap (cond (eqb (sequenceOf x) s) x) ih
-
 module _ (S : State) (ascends : Ascending (S .deltas)) (m : Message) (fresh : (a : Message) → a ∈ S .deltas → sequenceOf m ≡ sequenceOf a → ⊥) where
-  abbrev Logged : ℕ → Type 0
-  Logged s = (a : Message) × (a ∈ logOf S) × (sequenceOf a ≡ s)
-
-  block-agrees : (n s : ℕ) → Logged s → blockAlong n (insert m (S .deltas)) s ≡ blockAlong n (S .deltas) s
-  block-agrees zero s k = refl
-  block-agrees (suc n) s k =
-      ap (λ (x : Message). max (blockOf x) (greatest (blockAlong n (insert m (S .deltas))) (needsOf x))) (find-insert m (S .deltas) s other)
-      ∙ ap (max (blockOf (find (S .deltas) s))) (greatest-cong (blockAlong n (insert m (S .deltas))) (blockAlong n (S .deltas)) (needsOf (find (S .deltas) s)) (λ t j. block-agrees n t (within t j)))
-    where
-      it : find (S .deltas) s ≡ k .0
-      it = subst (λ (t : ℕ). find (S .deltas) t ≡ k .0) (k .2) (find-here (S .deltas) ascends (k .0) (log-received S ascends (k .0) (k .1)))
-
-      other : sequenceOf m ≡ s → ⊥
-      other e = fresh (k .0) (log-received S ascends (k .0) (k .1)) (e ∙ sym (k .2))
-
-      within : (t : ℕ) → t ∈ needsOf (find (S .deltas) s) → Logged t
-      within t j = log-closed S ascends (k .0) (k .1) t (subst (λ (y : Message). t ∈ needsOf y) it j)
-
-  keys-agree : (a : Message) → a ∈ logOf S → keyOf (add m S) a ≡ keyOf S a
-  keys-agree a k = ap (λ (e : ℕ). keyWith e a) (block-agrees capacity (sequenceOf a) (a, k, refl))
-
-  covers : ((s : ℕ) → T (unneeded (logOf S) s) → s ∈ needsOf m)
-      → (a : Message) → a ∈ logOf S → (sequenceOf a ∈ needsOf m) ⊎ ((b : Message) × (b ∈ logOf S) × (sequenceOf a ∈ needsOf b))
+  covers : ((s : ℕ) → T (unneeded S s) → s ∈ needs S m)
+      → (a : Message) → a ∈ logOf S → (sequenceOf a ∈ needs S m) ⊎ ((b : Message) × (b ∈ logOf S) × (sequenceOf a ∈ needs S b))
   covers all a k = ⊎-elim (λ t. inr (needed t))
-      (λ t. inl (all (sequenceOf a) (and-i (has (sequenceOf a) (sequencesOf (logOf S))) (not (some? (λ x. has (sequenceOf a) (needsOf x)) (logOf S))) (∈→has (Memᴰ·map sequenceOf k)) t)))
-      (decide (some? (λ x. has (sequenceOf a) (needsOf x)) (logOf S)))
+      (λ t. inl (all (sequenceOf a) (and-i (has (sequenceOf a) (sequencesOf (logOf S))) (not (some? (λ x. has (sequenceOf a) (needs S x)) (logOf S))) (∈→has (Memᴰ·map sequenceOf k)) t)))
+      (decide (some? (λ x. has (sequenceOf a) (needs S x)) (logOf S)))
     where
-      needed : T (some? (λ x. has (sequenceOf a) (needsOf x)) (logOf S)) → (b : Message) × (b ∈ logOf S) × (sequenceOf a ∈ needsOf b)
-      needed t = let r = some-∈ (λ x. has (sequenceOf a) (needsOf x)) (logOf S) t in (r .0, r .1, has→∈ (sequenceOf a) (needsOf (r .0)) (r .2))
+      needed : T (some? (λ x. has (sequenceOf a) (needs S x)) (logOf S)) → (b : Message) × (b ∈ logOf S) × (sequenceOf a ∈ needs S b)
+      needed t = let r = some-∈ (λ x. has (sequenceOf a) (needs S x)) (logOf S) t in (r .0, r .1, has→∈ (sequenceOf a) (needs S (r .0)) (r .2))
 
-  pub log-extends : ((s : ℕ) → s ∈ needsOf m → Logged s) → ((s : ℕ) → T (unneeded (logOf S) s) → s ∈ needsOf m)
+  pub log-extends : ((s : ℕ) → s ∈ needs S m → Logged S s) → ((s : ℕ) → T (unneeded S s) → s ∈ needs S m)
       → (rest : List Message) × (logOf (add m S) ≡ logOf S ++ m ∷ rest)
-  unfolding logOf
+  unfolding logOf needs
   log-extends needed all =
-      extends sequenceOf needsOf less less-total (keyOf S) (keyOf (add m S)) (S .deltas) (insert m (S .deltas)) m (ascending-names (S .deltas) ascends) (keys-differ S ascends)
+      extends sequenceOf (needs S) less less-total (keyOf S) (keyOf (add m S)) (S .deltas) (insert m (S .deltas)) m (ascending-names (S .deltas) ascends) (keys-differ S ascends)
       (keys-differ (add m S) (insert-ascending m (S .deltas) ascends))
       (insert-has m (S .deltas) (λ x k e. absurd (fresh x k e))) (λ a k. insert-keeps m (S .deltas) a k) (λ a k. insert-from m (S .deltas) a k)
-      keys-agree (λ s k. let r = needed s k in subst (λ (t : ℕ). t ∈ after sequenceOf needsOf [] (logOf S)) (r .2) (after-has sequenceOf needsOf (logOf S) [] (r .1)))
+      (keys-agree S ascends m fresh) (λ s k. let r = needed s k in subst (λ (t : ℕ). t ∈ placedBy (logOf S)) (r .2) (after-has sequenceOf (logOf S) [] (r .1)))
       (λ a k e. fresh a (log-received S ascends a k) (sym e)) (covers all)
 
 -- ---- what code 0 says of compose's arguments
@@ -218,7 +182,8 @@ module _ (b line commands : List ℕ) (flag priority room : ℕ) (g : Granted b 
   unfolding composed
   composed-dependencies = made-dependencies (eqb flag 1) own (newGroup (logOf S) own) (newBlock S (eqb flag 1)) priority (newDependencies S own) commands parts-right
 
-  composed-needs : needsOf message ≡ predecessorOf own ++ newDependencies S own
+  composed-needs : needs S message ≡ predecessorOf own ++ newDependencies S own
+  unfolding needs
   composed-needs = ap₂ (λ (s : ℕ) (d : List ℕ). predecessorOf s ++ d) composed-sequence composed-dependencies
 
   composed-new : (a : Message) → a ∈ S .deltas → sequenceOf message ≡ sequenceOf a → ⊥
@@ -228,12 +193,12 @@ module _ (b line commands : List ℕ) (flag priority room : ℕ) (g : Granted b 
   pub composed-extends : (rest : List Message) × (logOf (add message S) ≡ logOf S ++ message ∷ rest)
   composed-extends = log-extends S (valid .ascends) message composed-new needed all
     where
-      needed : (s : ℕ) → s ∈ needsOf message → (a : Message) × (a ∈ logOf S) × (sequenceOf a ≡ s)
+      needed : (s : ℕ) → s ∈ needs S message → Logged S s
       needed s k =
           ⊎-elim (predecessor-logged S valid (number line) (g .free) (g .number-small) s) (dependency-logged S valid (number line) (g .free) (g .number-small) s)
           (List·Memᴰ·append-cases (predecessorOf own) (subst (λ (l : List ℕ). s ∈ l) composed-needs k))
 
-      all : (s : ℕ) → T (unneeded (logOf S) s) → s ∈ needsOf message
+      all : (s : ℕ) → T (unneeded S s) → s ∈ needs S message
       all s t = subst (λ (l : List ℕ). s ∈ l) (sym composed-needs)
           (⊎-elim (λ k. Memᴰ·append-left (newDependencies S own) k) (λ k. Memᴰ·append-right (predecessorOf own) k) (unneeded-named S valid (number line) (g .free) (g .number-small) s t))
 

@@ -10,7 +10,7 @@ use lib.IntN.{ℤ, pos, negsuc}
 use Rattle.model.specs.Bytes.{bytes, word, field}
 use Rattle.model.specs.Layout.{imageSize, stepRoom, messageRoom}
 use Rattle.model.specs.Message.{Message, sequenceOf, layoutRight, numbersRight, dependenciesRight, contentRight, commandRight, passes}
-use Rattle.model.specs.Order.{sequencesOf, logOf, heldOf}
+use Rattle.model.specs.Order.{sequencesOf, needs, executablesOf, logOf, heldOf}
 use Rattle.model.specs.Setpoints.{stop, raise, operate, runCommand, runDelta, setpointsOf}
 use Rattle.model.specs.Image.{messagesOf, usedOf, imageOf, logIn, stateIn, isImage}
 use Rattle.model.specs.Steps.{Step, undo, execute, readSteps}
@@ -175,5 +175,5 @@ examples =
 
 -- Every example has the outcome that stands beside it.
 examples-hold : map (λ e. outcomeOf (e .0)) examples ≡ map (λ e. e .1) examples
-unfolding examples empty deliver deliverCode compose composeCode setpoint composed newDependencies isImage imageOf usedOf messagesOf setpointsOf logOf heldOf runDelta runCommand operate raise stop passes layoutRight numbersRight dependenciesRight contentRight commandRight
+unfolding examples empty deliver deliverCode compose composeCode setpoint composed newDependencies isImage imageOf usedOf messagesOf setpointsOf logOf heldOf executablesOf needs runDelta runCommand operate raise stop passes layoutRight numbersRight dependenciesRight contentRight commandRight
 examples-hold = refl

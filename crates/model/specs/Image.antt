@@ -10,7 +10,7 @@ use Rattle.model.specs.Lists.{_∈_, every, same}
 use Rattle.model.specs.Bytes.{bytes, field, join, word}
 use Rattle.model.specs.Layout.{lengthAt, imageSize, logCountAt, heldCountAt, setpointsStart, messagesStart, capacity}
 use Rattle.model.specs.Message.{Message, passes}
-use Rattle.model.specs.Order.{State, stateOf, Ascending, insert, logOf, heldOf}
+use Rattle.model.specs.Order.{State, stateOf, RightSet, insert, logOf, heldOf}
 use Rattle.model.specs.Setpoints.{setpointsOf}
 
 -- "Then the log's messages in order, the held ones by ascending sequence"
@@ -28,10 +28,8 @@ unfoldable pub imageOf : State → List ℕ
 imageOf S = usedOf S ++ replicate (imageSize - length (usedOf S)) 0
 
 -- ---- declared: "image of a set of at most 64 deltas that pass 3 to 6, no sequence twice"
-pub record Valid (S : State) : Type 0 where
-  pub ascends : Ascending (S .deltas)
-  pub fits : length (S .deltas) ≤ capacity
-  pub pass : (m : Message) → m ∈ S .deltas → T (passes m)
+abbrev pub Valid : State → Type 0
+Valid S = RightSet (S .deltas)
 
 pub record IsImage (b : List ℕ) : Type 0 where
   pub state : State

@@ -44,6 +44,13 @@ pub is-false : (b : Bool) → T (not b) → b ≡ false
 is-false true t = absurd t
 is-false false t = refl
 
+-- tests that are passed together are one
+pub same-test : (a b : Bool) → (T a → T b) → (T b → T a) → a ≡ b
+same-test true true f g = refl
+same-test true false f g = absurd (f tt)
+same-test false true f g = absurd (g tt)
+same-test false false f g = refl
+
 -- a test is passed or its negation is
 pub decide : (b : Bool) → T b ⊎ T (not b)
 decide true = inl tt
@@ -130,6 +137,12 @@ greatest-≥ f (x ∷ l) a m = ⊎-elim (λ e. omega (arith, ap f e)) (λ k. ome
 pub greatest-cong : {A : Type 0} (f g : A → ℕ) (l : List A) → ((a : A) → a ∈ l → f a ≡ g a) → greatest f l ≡ greatest g l
 greatest-cong f g [] h = refl
 greatest-cong f g (a ∷ l) h = ap₂ max (h a (List·Memᴰ·head refl)) (greatest-cong f g l (λ b k. h b (List·Memᴰ·tail k)))
+
+-- two tests that agree on a list keep the same of it
+pub keep-cong : {A : Type 0} (p q : A → Bool) (l : List A) → ((a : A) → a ∈ l → p a ≡ q a) → keep p l ≡ keep q l
+keep-cong p q [] h = refl
+keep-cong {A} p q (a ∷ l) h =
+    ap₂ (λ (b : Bool) (k : List A). cond b (a ∷ k) k) (h a (List·Memᴰ·head refl)) (keep-cong p q l (λ b k. h b (List·Memᴰ·tail k)))
 
 -- how many items a test keeps
 pub keep-length : {A : Type 0} (p : A → Bool) (l : List A) → length (keep p l) ≤ length l

@@ -12,7 +12,7 @@ use Rattle.model.specs.Order.{State, Executable, IsLog, logOf}
 use Rattle.model.specs.Image.{imageOf, logIn}
 use Rattle.model.specs.Calls as model
 use Rattle.model.specs.Calls.{Delivered, deliver}
-use Rattle.model.specs.Run.{Call, delivery, Event, imageAfter, Run, stateAfter, Agreement, Begins, Answers}
+use Rattle.model.specs.Run.{Given, Call, delivery, Event, imageAfter, Run, stateAfter, Agreement, Begins, Answers}
 use Rattle.laws.specs.LogLaws.{log-is, log-executable}
 use Rattle.laws.specs.ImageLaws.{log-back}
 use Rattle.run_laws.specs.RunLaws.{agreement-of, state-valid}
@@ -23,13 +23,14 @@ use Rattle.station.specs.Answer.{deliveredBy, emptiedBy}
 use Rattle.station.proofs.emptying.empty.Reads as empty-reads
 use Rattle.station.proofs.delivery.deliver.Reads as deliver-reads
 
--- A call of `empty` that answered 0 and left the image b.
-pub record Emptied (b : List ℕ) : Type 0 where
+-- A call of `empty` that was given this, answered 0 and left the image b.
+pub record Emptied (given : Given) (b : List ℕ) : Type 0 where
   pub lifetimes : Lfts 1
   pub entry : RefT (List ℕ)
   pub exit : RefT (List ℕ)
   pub result : Emptying
   pub post : empty-reads.Post lifetimes (entry, tt) result (exit, tt)
+  pub lent : given .buffer ≡ now entry
   pub accepted : emptiedBy result (now exit) .code ≡ 0
   pub image : b ≡ now exit
 
@@ -52,11 +53,10 @@ abbrev pub Called : List ℕ → Call → Delivered → Type 0
 Called b (delivery m steps) a = DeliveredTo b m steps a
 
 -- ---- they are the definitions' calls
-begins : (b : List ℕ) → Emptied b → Begins b
-begins b e = (
-  now (e .entry),
-  ap (λ (x : model.Emptied). x .code) (sym (e .post)) ∙ e .accepted,
-  e .image ∙ left (e .result) (now (e .exit)) ∙ ap (λ (x : model.Emptied). x .image) (e .post),
+begins : (given : Given) (b : List ℕ) → Emptied given b → Begins given b
+begins given b e = (
+  ap (λ (x : List ℕ). model.empty x .code) (e .lent) ∙ ap (λ (x : model.Emptied). x .code) (sym (e .post)) ∙ e .accepted,
+  e .image ∙ left (e .result) (now (e .exit)) ∙ ap (λ (x : model.Emptied). x .image) (e .post) ∙ ap (λ (x : List ℕ). model.empty x .image) (sym (e .lent)),
 )
   where
     left : (r : Emptying) (i : List ℕ) → i ≡ emptiedBy r i .image
@@ -76,14 +76,15 @@ pub record InOrder (image : List ℕ) (S : State) : Type 0 where
   pub first : IsLog S (logIn image)
   pub executed : (m : Message) → m ∈ S .deltas → (m ∈ logIn image) ↔ Executable S m
 
-pub order-after : (b : List ℕ) → Emptied b → (events : List Event) → Run Called b events → InOrder (imageAfter b events) (stateAfter events)
-order-after b begun events run = record {
-  first = subst (IsLog S) (sym same) (log-is S (state-valid events .ascends));
-  executed = λ m k. subst (λ (l : List Message). (m ∈ l) ↔ Executable S m) (sym same) (log-executable S (state-valid events .ascends) m k);
+pub order-after : (given : Given) (b : List ℕ) → Emptied given b → (events : List Event) → Run Called b events
+    → InOrder (imageAfter b events) (stateAfter given events)
+order-after given b begun events run = record {
+  first = subst (IsLog S) (sym same) (log-is S (state-valid given events .ascends));
+  executed = λ m k. subst (λ (l : List Message). (m ∈ l) ↔ Executable S m) (sym same) (log-executable S (state-valid given events .ascends) m k);
 }
   where
     S : State
-    S = stateAfter events
+    S = stateAfter given events
 
     same : logIn (imageAfter b events) ≡ logOf S
-    same = ap logIn (agreement .image b begun events run) ∙ log-back S (state-valid events)
+    same = ap logIn (agreement .image given b begun events run) ∙ log-back S (state-valid given events)

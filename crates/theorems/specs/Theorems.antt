@@ -9,8 +9,8 @@ use lib.ListN.{length}
 use lib.Dec.{T}
 use Rattle.model.specs.Lists.{_∈_, greatest}
 use Rattle.model.specs.Layout.{imageSize}
-use Rattle.model.specs.Message.{Message, blockOf, needsOf}
-use Rattle.model.specs.Order.{State, find, sequencesOf, effectiveBlock, keyOf, less, Executable, IsLog, logOf, heldOf}
+use Rattle.model.specs.Message.{Message, blockOf}
+use Rattle.model.specs.Order.{State, find, needs, effectiveBlock, keyOf, less, Executable, IsLog, logOf, heldOf}
 use Rattle.model.specs.Image.{imageOf, Valid, IsImage, stateIn, logIn, isImage}
 use Rattle.model.specs.Steps.{Step, undosOf, executionsOf, stepsOf, Plays}
 use Rattle.model.specs.Codes.{Conditions, lowestCode, deliverConditions, composeConditions, emptyConditions, logMessageConditions, setpointConditions}
@@ -52,7 +52,7 @@ pub record KeyLaw (S : State) : Type 0 where
   pub order : Total less
   pub differ : (a b : Message) → a ∈ S .deltas → b ∈ S .deltas → keyOf S a ≡ keyOf S b → a ≡ b
   pub effective : (m : Message) → m ∈ S .deltas → Executable S m
-      → effectiveBlock S m ≡ max (blockOf m) (greatest (λ s. effectiveBlock S (find (S .deltas) s)) (needsOf m))
+      → effectiveBlock S m ≡ max (blockOf m) (greatest (λ s. effectiveBlock S (find (S .deltas) s)) (needs S m))
 
 pub key-law : (S : State) → Valid S → KeyLaw S
 key-law S v = record { order = key-order; differ = keys-differ S (v .ascends); effective = effective-is S (v .ascends) (v .fits) }
