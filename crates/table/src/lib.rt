@@ -1,4 +1,5 @@
 // A set of deltas in a run of bytes, the pool: where each message starts, by ascending sequence.
+pub mod entry;
 pub mod places;
 pub mod reading;
 
