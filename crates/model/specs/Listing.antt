@@ -65,6 +65,19 @@ module _ {A : Type 0} (name : A → ℕ) (needs : A → List ℕ) where
     pub sound : (a : A) → a ∈ l → (a ∈ S) × Executable S a
     pub complete : (a : A) → a ∈ S → Executable S a → a ∈ l
 
+  -- ---- reach
+  -- The names that an item reaches: those that it needs, and those that a received item which it needs reaches.
+  pub data Reaches (S : List A) : A → ℕ → Type 0 where
+    needed : {a : A} {s : ℕ} → s ∈ needs a → Reaches S a s
+    through : {a b : A} {s : ℕ} → b ∈ S → name b ∈ needs a → Reaches S b s → Reaches S a s
+
+  -- "all it needs, step by step back, has been received and contains no ring": all that it reaches is received,
+  -- and neither it nor an item that it reaches reaches itself
+  pub record Grounded (S : List A) (a : A) : Type 0 where
+    pub received : (s : ℕ) → Reaches S a s → (b : A) × (b ∈ S) × (name b ≡ s)
+    pub no-ring : Reaches S a (name a) → ⊥
+    pub no-ring-behind : (b : A) → b ∈ S → Reaches S a (name b) → Reaches S b (name b) → ⊥
+
   -- ---- computed: of all that are ready a chosen one is placed, again and again, until none is ready
   abbrev pub grow : (List A → Option A) → List A → ℕ → List ℕ → List A
   grow choose S zero done = []

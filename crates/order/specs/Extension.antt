@@ -13,7 +13,7 @@ use Rattle.model.specs.Lists.{_∈_, has, hasAll, keep}
 use Rattle.model.specs.Listing.{after, ready, Listing, Complete, lowestOf, place, grow, firstOf}
 use Rattle.order.specs.TestLaws.{has→∈, ∈→has, hasAll→∈, ∈→hasAll, and-i, decide}
 use Rattle.order.specs.KeyOrder.{Total}
-use Rattle.order.specs.ListingLaws.{Stuck, Next, Next?, next-is, grow-ind, first-complete, ready-fresh, ready-needs, listing-snoc, listing-length, complete-stuck, after-has, after-from, not-self}
+use Rattle.order.specs.ListingLaws.{stuck-placed, Next, Next?, next-is, grow-ind, first-complete, ready-fresh, ready-needs, listing-snoc, listing-length, complete-stuck, after-has, after-from, not-self}
 
 module _ {A : Type 0} (name : A → ℕ) (needs : A → List ℕ) where
   -- each of l is needed by m, or by one that stands before, or by one of l
@@ -76,10 +76,7 @@ module _ {A : Type 0} (name : A → ℕ) (needs : A → List ℕ) where
     ready-in d sub b k t = ⊎-elim (λ q. absurd (List·Memᴰ·not-nil q)) (λ r. Memᴰ·cast (names b (r .0) k (full .sound (r .0) (r .1) .0) (sym (r .2))) (r .1)) (after-from name L [] there)
       where
         there : name b ∈ after name [] L
-        there = ⊎-elim (λ q. has→∈ (name b) (after name [] L) q)
-            (λ q. absurd (complete-stuck name needs S L full b k (and-i (not (has (name b) (after name [] L))) (hasAll (needs b) (after name [] L)) q
-            (∈→hasAll (needs b) (after name [] L) (λ s j. sub s (hasAll→∈ (needs b) d (ready-needs name needs d b t) s j))))))
-            (decide (has (name b) (after name [] L)))
+        there = stuck-placed name needs S (after name [] L) (complete-stuck name needs S L full) b k (λ s j. sub s (hasAll→∈ (needs b) d (ready-needs name needs d b t) s j))
 
     module _ (agree : (a : A) → a ∈ L → key′ a ≡ key a)
         (needed : (s : ℕ) → s ∈ needs m → s ∈ after name [] L)

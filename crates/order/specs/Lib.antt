@@ -3,3 +3,6 @@ pub mod KeyOrder
 pub mod StepLaws
 pub mod ListingLaws
 pub mod Extension
+pub mod Places
+pub mod InPlace
+pub mod Reach

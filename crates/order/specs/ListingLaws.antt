@@ -177,16 +177,18 @@ module _ {A : Type 0} (name : A → ℕ) (needs : A → List ℕ) where
   abbrev pub Stuck : List A → List ℕ → Type 0
   Stuck S done = (a : A) → a ∈ S → T (L.ready name needs done a) → ⊥
 
+  -- then an item whose needs are there is there
+  pub stuck-placed : (S : List A) (done : List ℕ) → Stuck S done → (a : A) → a ∈ S → ((s : ℕ) → s ∈ needs a → s ∈ done) → name a ∈ done
+  stuck-placed S done st a k f = ⊎-elim (λ t. has→∈ (name a) done t)
+      (λ t. absurd (st a k (and-i (not (has (name a) done)) (hasAll (needs a) done) t (∈→hasAll (needs a) done f)))) (decide (has (name a) done))
+
   pub stuck-holds : (S : List A) (e : List ℕ) → Stuck S e → (k : List A) (d : List ℕ) → ((s : ℕ) → s ∈ d → s ∈ e) → L.Listing name needs d k → ((b : A) → b ∈ k → b ∈ S) → (b : A) → b ∈ k → name b ∈ e
   stuck-holds S e st [] d sub h all b m = absurd (List·Memᴰ·not-nil m)
   stuck-holds S e st (a ∷ k) d sub h all b m =
       ⊎-elim (λ q. Memᴰ·cast (ap name q) first) (λ m′. stuck-holds S e st k (name a ∷ d) sub′ (h .1) (λ x q. all x (List·Memᴰ·tail q)) b m′) (List·Memᴰ·cases-cons m)
     where
       first : name a ∈ e
-      first = ⊎-elim (λ t. has→∈ (name a) e t)
-          (λ t. absurd (st a (all a (List·Memᴰ·head refl)) (and-i (not (has (name a) e)) (hasAll (needs a) e) t
-          (∈→hasAll (needs a) e (λ s q. sub s (hasAll→∈ (needs a) d (ready-needs d a (h .0)) s q))))))
-          (decide (has (name a) e))
+      first = stuck-placed S e st a (all a (List·Memᴰ·head refl)) (λ s q. sub s (hasAll→∈ (needs a) d (ready-needs d a (h .0)) s q))
 
       sub′ : (s : ℕ) → s ∈ (name a ∷ d) → s ∈ e
       sub′ s q = ⊎-elim (λ w. Memᴰ·cast w first) (λ q′. sub s q′) (List·Memᴰ·cases-cons q)
