@@ -10,11 +10,12 @@ use lib.ListN.{length, take, getD}
 use lib.Dec.{T, T-not, not-T}
 use Rattle.model.specs.Lists.{_∈_, has}
 use Rattle.model.specs.Listing.{after, ready, Listing, lowestOf, grow, firstOf}
+use Rattle.order.specs.ListLaws.{getD-∈, ∈-getD}
 use Rattle.order.specs.TestLaws.{decide, ∈→has, hasAll→∈}
 use Rattle.order.specs.KeyOrder.{Total}
 use Rattle.order.specs.ListingLaws.{Stuck, stuck-placed, Next, grow-ind, ready-fresh, ready-needs, after-keeps, after-from, listing-length}
 use Rattle.order.specs.Extension.{grow-next}
-use Rattle.order.specs.Places.{getD-∈, ∈-getD, listing-at, Apart, Finds, readyFrom, ready-from}
+use Rattle.order.specs.Places.{listing-at, Apart, Finds, readyFrom, ready-from}
 
 module _ {A : Type 0} (name : A → ℕ) (needs : A → List ℕ) (d : A) {K : Type 0} (key : A → K) (less : K → K → Bool) where
   -- the same of a listing that goes on after the names `done`

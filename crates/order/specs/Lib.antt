@@ -1,3 +1,4 @@
+pub mod ListLaws
 pub mod TestLaws
 pub mod KeyOrder
 pub mod StepLaws

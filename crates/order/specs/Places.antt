@@ -12,22 +12,9 @@ use lib.Seq.{getD-take}
 use lib.Dec.{T, T-not, not-T}
 use Rattle.model.specs.Lists.{_∈_, has, hasAll, greatest}
 use Rattle.model.specs.Listing.{after, ready, Listing}
+use Rattle.order.specs.ListLaws.{getD-∈, ∈-getD, greatest-≤}
 use Rattle.order.specs.TestLaws.{and-i, has→∈, ∈→has, hasAll→∈, ∈→hasAll, greatest-≥}
 use Rattle.order.specs.ListingLaws.{ready-fresh, ready-needs, after-has, after-from}
-
--- ---- lists
-pub getD-∈ : {A : Type 0} (l : List A) (k : ℕ) (d : A) → k < length l → getD l k d ∈ l
-getD-∈ [] k d h = let z : ⊥ = omega arith in absurd z
-getD-∈ (x ∷ l) zero d h = List·Memᴰ·head refl
-getD-∈ (x ∷ l) (suc k) d h = List·Memᴰ·tail (getD-∈ l k d (le-of-suc-le-suc h))
-
-pub ∈-getD : {A : Type 0} {a : A} {l : List A} (d : A) → a ∈ l → (k : ℕ) × (k < length l) × (getD l k d ≡ a)
-∈-getD d (List·Memᴰ·head e) = (0, suc-le-suc zero-le, sym e)
-∈-getD d (List·Memᴰ·tail m) = let r = ∈-getD d m in (suc (r .0), suc-le-suc (r .1), r .2)
-
-pub greatest-≤ : {A : Type 0} (f : A → ℕ) (l : List A) (n : ℕ) → ((a : A) → a ∈ l → f a ≤ n) → greatest f l ≤ n
-greatest-≤ f [] n h = zero-le
-greatest-≤ f (a ∷ l) n h = omega (arith, h a (List·Memᴰ·head refl), greatest-≤ f l n (λ b k. h b (List·Memᴰ·tail k)))
 
 -- ---- listings; d is read past the end
 -- no name stands at two places
