@@ -8,9 +8,11 @@ use lib.ListN.{length, getD, length-map}
 use lib.Dec.{T, ltb, ltb→lt, nltb→le}
 use Rattle.model.specs.Lists.{_∈_}
 use Rattle.model.specs.Bytes.{field}
+use Rattle.model.specs.Layout.{headerSize}
 use Rattle.model.specs.Message.{Message, sequenceOf, passes}
 use Rattle.model.specs.Order.{Ascending}
 use Rattle.order.specs.TestLaws.{decide}
+use Rattle.wire_laws.specs.MessageLaws.{passes-sized, sized-range}
 use Rattle.table.specs.Table.{messageFrom, deltasOf, Holds}
 use Rattle.table.specs.TableLaws.{Lies, passes-lies}
 use Rattle.table.specs.Places.{sequenceIn}
@@ -38,6 +40,13 @@ ascending-at [] h i j p q = let z : ⊥ = omega arith in absurd z
 ascending-at (m ∷ l) h i zero p q = let z : ⊥ = omega arith in absurd z
 ascending-at (m ∷ l) h zero (suc j) p q = h .0 (getD l j []) (at-member l j (omega arith))
 ascending-at (m ∷ l) h (suc i) (suc j) p q = ascending-at l (h .1) i j (omega arith) (omega arith)
+
+-- a sequence stands at one place
+pub one-place : (l : List Message) → Ascending l → (i j : ℕ) → i < length l → j < length l → sequenceOf (getD l i []) ≡ sequenceOf (getD l j []) → i ≡ j
+one-place l a i j p q e =
+    let before : ¬ (i < j) = λ k. let z : ⊥ = omega (arith, ascending-at l a i j k q) in z in
+    let behind : ¬ (j < i) = λ k. let z : ⊥ = omega (arith, ascending-at l a j i k p) in z in
+    omega arith
 
 -- ---- of a table
 pub delta-at : (pool starts : List ℕ) (k : ℕ) → k < length starts → getD (deltasOf pool starts) k [] ≡ messageFrom pool (getD starts k 0)
@@ -74,3 +83,11 @@ module _ (pool starts : List ℕ) (holds : Holds pool starts) (s k : ℕ) (insid
       (λ t. let more : k < i = ltb→lt k i t in omega (arith, places-ascend k i more q))
       (λ t. let last : i ≤ k = nltb→le k i t in let e : i ≡ k = omega arith in omega (arith, ap (sequenceIn pool starts) e))
       (decide (ltb k i))
+
+-- ---- the entries of a table pass 3 to 6, and have a header
+module _ (pool starts : List ℕ) (holds : Holds pool starts) (i : ℕ) (inside : i < length starts) where
+  pub entry-passes : T (passes (getD (deltasOf pool starts) i []))
+  entry-passes = holds .pass (getD (deltasOf pool starts) i []) (at-member (deltasOf pool starts) i (omega (arith, length-map starts (messageFrom pool))))
+
+  pub entry-long : headerSize ≤ length (getD (deltasOf pool starts) i [])
+  entry-long = let m = getD (deltasOf pool starts) i [] in omega (arith, sized-range m (passes-sized m entry-passes))
