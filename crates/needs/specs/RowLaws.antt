@@ -1,13 +1,12 @@
 -- Rows by index: one more row is written, and what callers read of rows that are right.
-use mathlib.Core.Path.{_≡_, refl, sym, _∙_, ap, ap₂, subst}
+use mathlib.Core.Path.{_≡_, refl, sym, _∙_, ap, subst}
 use mathlib.Core.Logic.{⊎-elim}
-use mathlib.Core.Bool.{not}
 use mathlib.Core.List.{List, [], _∷_, _++_, map, append-assoc}
 use Prim.Native.Nat.{ℕ, zero, suc, _+_, _*_, _≤_, _<_}
 use native.Mathlib.Omega.{arith}
 use lib.ListN.{length, getD, set, take, drop, length-drop, length-map, take-append-drop}
 use lib.Seq.{paste, length-take-le, take-all, take-append-le, drop-append-le, take-at, drop-at, getD-take, getD-drop, getD-set-same, getD-set-other}
-use lib.Dec.{T, eqb, eqb→eq}
+use lib.Dec.{eqb, eqb→eq}
 use Rattle.model.specs.Layout.{capacity}
 use Rattle.model.specs.Message.{Message, sequenceOf, needsOf}
 use Rattle.model.specs.Order.{State, RightSet, sequencesOf, needs}

@@ -6,7 +6,6 @@ use lib.ListN.{length, getD, set, length-map, List·getD-map}
 use lib.Seq.{paste, paste-zero, paste-suc, length-paste}
 use native.Mathlib.Omega.{arith}
 use native.Mathlib.Numerals.{add-one}
-use borrow.Author.Needs.{needs}
 use Rattle.model.specs.Message.{needsOf}
 use Rattle.needs.specs.Names.{namesIn, indexOf}
 use Rattle.needs.specs.Rows.{rowSize}
@@ -24,9 +23,12 @@ abbrev μ-loop : tie.MeasureT-loop
 abbrev start : tie.After-count-needs Inv-loop μ-loop → tie.Start Inv-loop μ-loop
 start c = c .before .before .before .before .before
 
--- the call of a turn
+-- the count that a turn works with, and the turn of an index
 abbrev called : tie.In-loop Inv-loop μ-loop → tie.After-count-needs Inv-loop μ-loop
 called t = t .before .before
+
+abbrev turn : tie.After-index-of Inv-loop μ-loop → tie.In-loop Inv-loop μ-loop
+turn c = c .before .before
 
 abbrev indices : tie.Start Inv-loop μ-loop → List ℕ
 indices s = map (indexOf (namesIn (s .args .high .now) (s .args .low .now))) (needsOf (s .args .m .now))
@@ -59,22 +61,22 @@ index-of-requires : tie.Need-index-of-requires Inv-loop μ-loop
 index-of-requires c κs = start (called (c .before)) .pre .2
 
 add-rows : tie.Need-add-rows Inv-loop μ-loop
-add-rows c = omega (arith, room (c .before .before))
+add-rows c = omega (arith, room (turn c))
 
 slice-write-rows : tie.Need-slice-write-rows Inv-loop μ-loop
 slice-write-rows c =
-    let t = c .before .before in
+    let t = turn c in
     omega (arith, room t, length-is (called t) (t .before .loop .rows) (t .before .loop .k) (omega arith) (t .before .loop .inv .1))
 
 add-k : tie.Need-add-k Inv-loop μ-loop
-add-k c = omega (arith, short (called (c .before .before)))
+add-k c = omega (arith, short (called (turn c)))
 
 loop-less : tie.Need-loop-less Inv-loop μ-loop
 loop-less c = omega arith
 
 loop-again : tie.Need-loop-again Inv-loop μ-loop
 loop-again c =
-    let t = c .before .before in
+    let t = turn c in
     let s = start (called t) in
     let k = t .before .loop .k in
     let f = indexOf (namesIn (s .args .high .now) (s .args .low .now)) in
@@ -86,17 +88,15 @@ loop-again c =
     )
 
 same-length : tie.Need-same-length Inv-loop μ-loop
-same-length c = length-is (c .before .before) (c .before .loop .rows) (c .before .loop .k) (c .before .loop .inv .0) (c .before .loop .inv .1)
+same-length c = let l = c .before .loop in length-is (c .before .before) (l .rows) (l .k) (l .inv .0) (l .inv .1)
 
 returns : tie.Need-returns Inv-loop μ-loop
 returns c =
-    let s = start (c .before .before) in
-    let all : c .before .loop .k ≡ c .before .before .count-needs .result = omega arith in
-    record {
-      row = c .before .loop .inv .1 ∙ ap (paste (s .args .rows .now) (s .args .at) (indices s)) all;
-      length-is = c .before .before .count-needs .ensures;
-      short = short (c .before .before);
-    }
+    let n = c .before .before in
+    let s = start n in
+    let l = c .before .loop in
+    let all : l .k ≡ n .count-needs .result = omega arith in
+    record { row = l .inv .1 ∙ ap (paste (s .args .rows .now) (s .args .at) (indices s)) all; length-is = n .count-needs .ensures; short = short n }
 
 pub fill-row-spec : {M : Type 1} → statement M
 fill-row-spec =

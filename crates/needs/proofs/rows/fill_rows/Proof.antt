@@ -7,7 +7,6 @@ use lib.Seq.{paste, length-paste, length-take-le}
 use lib.Dec.{T}
 use denote.Ref.{now}
 use native.Mathlib.Omega.{arith}
-use borrow.Author.Needs.{needs}
 use Rattle.model.specs.Layout.{capacity}
 use Rattle.model.specs.Message.{Message, needsOf, passes}
 use Rattle.model.specs.Order.{sequencesOf}

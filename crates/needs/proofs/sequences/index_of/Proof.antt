@@ -22,18 +22,21 @@ abbrev μ-loop : tie.MeasureT-loop
 μ-loop high low s first₀ last₀ first last = last - first
 
 -- the start of a turn's call, and what the turn looks at
-abbrev start : tie.In-loop Inv-loop μ-loop → tie.Start Inv-loop μ-loop
-start t = t .before .before .before .before
+abbrev start : tie.At-loop Inv-loop μ-loop → tie.Start Inv-loop μ-loop
+start a = a .before .before .before
 
-abbrev middle : tie.In-loop Inv-loop μ-loop → ℕ
-middle t = t .before .loop .first + (t .before .loop .last - t .before .loop .first) / 2
+abbrev middle : tie.At-loop Inv-loop μ-loop → ℕ
+middle a = a .loop .first + (a .loop .last - a .loop .first) / 2
 
 abbrev names : tie.Start Inv-loop μ-loop → List ℕ
 names s = namesIn (s .args .high .now) (s .args .low .now)
 
--- the turn in which two sequences were compared
+-- the turn in which two sequences were compared, and that comparison
 abbrev turn : tie.After-equal Inv-loop μ-loop → tie.In-loop Inv-loop μ-loop
 turn c = c .before .before .before
+
+abbrev compared : tie.After-less Inv-loop μ-loop → tie.After-equal Inv-loop μ-loop
+compared c = c .before .before
 
 size : (s : tie.Start Inv-loop μ-loop) → length (names s) ≡ length (s .args .high .now)
 size s = length-names (s .args .high .now) (s .args .low .now) (s .pre .paired)
@@ -42,11 +45,13 @@ size s = length-names (s .args .high .now) (s .args .low .now) (s .pre .paired)
 abbrev sought : tie.Start Inv-loop μ-loop → ℕ
 sought s = sequenceNumber (s .args .s)
 
-abbrev read : tie.In-loop Inv-loop μ-loop → ℕ
-read t = nameOf (getD (start t .args .high .now) (middle t) 0) (getD (start t .args .low .now) (middle t) 0)
+abbrev read : tie.At-loop Inv-loop μ-loop → ℕ
+read a = nameOf (getD (start a .args .high .now) (middle a) 0) (getD (start a .args .low .now) (middle a) 0)
 
-name : (t : tie.In-loop Inv-loop μ-loop) → getD (names (start t)) (middle t) 0 ≡ read t
-name t = name-at (start t .args .high .now) (start t .args .low .now) (middle t) (start t .pre .paired) (omega arith)
+name : (t : tie.In-loop Inv-loop μ-loop) → getD (names (start (t .before))) (middle (t .before)) 0 ≡ read (t .before)
+name t =
+    let a = t .before in
+    name-at (start a .args .high .now) (start a .args .low .now) (middle a) (start a .pre .paired) (omega arith)
 
 loop-holds : tie.Need-loop-holds Inv-loop μ-loop
 loop-holds c = (omega arith, omega arith, λ k q. let z : ⊥ = omega arith in absurd z, λ k p q. let z : ⊥ = omega (arith, size (c .before .before)) in absurd z)
@@ -64,23 +69,24 @@ shared-slice-read-t12 : tie.Need-shared-slice-read-t12 Inv-loop μ-loop
 shared-slice-read-t12 c = omega arith
 
 mul-t10 : tie.Need-mul-t10 Inv-loop μ-loop
-mul-t10 c = omega (arith, start (c .before) .pre .few)
+mul-t10 c = omega (arith, start (c .before .before) .pre .few)
 
 shared-slice-read-t14 : tie.Need-shared-slice-read-t14 Inv-loop μ-loop
-shared-slice-read-t14 c = omega (arith, start (c .before .before) .pre .paired)
+shared-slice-read-t14 c = omega (arith, start (c .before .before .before) .pre .paired)
 
 equal-requires : tie.Need-equal-requires Inv-loop μ-loop
 equal-requires c κs = search needs
 
 cast-result : tie.Need-cast-result Inv-loop μ-loop
-cast-result c = omega (arith, start (turn (c .before)) .pre .few)
+cast-result c = omega (arith, start (turn (c .before) .before) .pre .few)
 
 returns : tie.Need-returns Inv-loop μ-loop
 returns c =
     let t = turn (c .before) in
-    let s = start t in
-    let found : read t ≡ sought s = eqb-true (read t) (sought s) (sym (c .before .equal .ensures) ∙ c .if1 .taken) in
-    index-here (names s) (s .pre .ascends) (sought s) (middle t) (omega (arith, size s)) (name t ∙ found)
+    let a = t .before in
+    let s = start a in
+    let found : read a ≡ sought s = eqb-true (read a) (sought s) (sym (c .before .equal .ensures) ∙ c .if1 .taken) in
+    index-here (names s) (s .pre .ascends) (sought s) (middle a) (omega (arith, size s)) (name t ∙ found)
 
 less-requires : tie.Need-less-requires Inv-loop μ-loop
 less-requires c κs = search needs
@@ -93,13 +99,14 @@ loop-less c = omega arith
 
 loop-again : tie.Need-loop-again Inv-loop μ-loop
 loop-again c =
-    let t = turn (c .before .before .before) in
-    let s = start t in
-    let lower : read t < sought s = ltb-true (read t) (sought s) (sym (c .before .less .ensures) ∙ c .if2 .taken) in (
+    let t = turn (compared (c .before)) in
+    let a = t .before in
+    let s = start a in
+    let lower : read a < sought s = ltb-true (read a) (sought s) (sym (c .before .less .ensures) ∙ c .if2 .taken) in (
       omega arith,
       omega arith,
-      lower-before (names s) (s .pre .ascends) (sought s) (middle t) (omega (arith, size s)) (omega (arith, name t)),
-      t .before .loop .inv .3,
+      lower-before (names s) (s .pre .ascends) (sought s) (middle a) (omega (arith, size s)) (omega (arith, name t)),
+      a .loop .inv .3,
     )
 
 loop-less-2 : tie.Need-loop-less-2 Inv-loop μ-loop
@@ -107,19 +114,20 @@ loop-less-2 c = omega arith
 
 loop-again-2 : tie.Need-loop-again-2 Inv-loop μ-loop
 loop-again-2 c =
-    let t = turn (c .before .before .before) in
-    let s = start t in
-    let other : read t ≡ sought s → ⊥ = eqb-false (read t) (sought s) (sym (c .before .before .before .equal .ensures) ∙ c .before .before .if1 .left) in
-    let least : sought s ≤ read t = ltb-false (read t) (sought s) (sym (c .before .less .ensures) ∙ c .if2 .left) in (
+    let t = turn (compared (c .before)) in
+    let a = t .before in
+    let s = start a in
+    let other : read a ≡ sought s → ⊥ = eqb-false (read a) (sought s) (sym (compared (c .before) .equal .ensures) ∙ c .before .before .if1 .left) in
+    let least : sought s ≤ read a = ltb-false (read a) (sought s) (sym (c .before .less .ensures) ∙ c .if2 .left) in (
       omega arith,
       omega arith,
-      t .before .loop .inv .2,
-      higher-after (names s) (s .pre .ascends) (sought s) (middle t) (omega (arith, size s)) (omega (arith, name t)),
+      a .loop .inv .2,
+      higher-after (names s) (s .pre .ascends) (sought s) (middle a) (omega (arith, size s)) (omega (arith, name t)),
     )
 
 returns-2 : tie.Need-returns-2 Inv-loop μ-loop
 returns-2 c =
-    let s = c .before .before .before .before in
+    let s = start (c .before) in
     let l = c .before .loop in
     index-none (names s) (sought s) (l .first) (l .inv .2) (λ k p q. l .inv .3 k (omega arith) q)
 

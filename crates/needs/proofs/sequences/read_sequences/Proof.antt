@@ -1,9 +1,8 @@
 -- The parts that are read so far are those of the first messages' sequences.
 use Prim.Native.Nat.{ℕ, _-_, _≤_, _<_}
-use mathlib.Core.Path.{_≡_, refl, sym, _∙_}
+use mathlib.Core.Path.{_≡_, refl, _∙_}
 use lib.ListN.{length, getD, length-set, length-map}
 use native.Mathlib.Omega.{arith}
-use borrow.Author.Needs.{needs}
 use Rattle.model.specs.Layout.{capacity}
 use Rattle.table.specs.Table.{messageFrom, deltasOf}
 use Rattle.table.specs.Places.{sequenceIn}
@@ -21,21 +20,21 @@ abbrev μ-loop : tie.MeasureT-loop
 μ-loop pool starts high₀ low₀ i₀ high low i = length starts - i
 
 -- the start of a turn's call
-abbrev start : tie.In-loop Inv-loop μ-loop → tie.Start Inv-loop μ-loop
-start t = t .before .before .before .before
+abbrev start : tie.At-loop Inv-loop μ-loop → tie.Start Inv-loop μ-loop
+start a = a .before .before .before
 
 size : (s : tie.Start Inv-loop μ-loop) → length (deltasOf (s .args .pool .now) (s .args .starts .now)) ≡ length (s .args .starts .now)
 size s = length-map (s .args .starts .now) (messageFrom (s .args .pool .now))
 
 -- a turn's index is one of the arrays
 inside : (t : tie.In-loop Inv-loop μ-loop) → t .before .loop .i < capacity
-inside t = omega (arith, size (start t), start t .pre .fits)
+inside t = omega (arith, size (start (t .before)), start (t .before) .pre .fits)
 
 loop-holds : tie.Need-loop-holds Inv-loop μ-loop
 loop-holds c = (omega arith, refl, refl, λ k h. let z : ⊥ = omega arith in absurd z)
 
 sequence-at-requires : tie.Need-sequence-at-requires Inv-loop μ-loop
-sequence-at-requires c κs = (start c .pre, omega arith)
+sequence-at-requires c κs = (start (c .before) .pre, omega arith)
 
 mul-high : tie.Need-mul-high Inv-loop μ-loop
 mul-high c = omega (arith, inside (c .before))
@@ -57,8 +56,9 @@ loop-less c = omega arith
 
 loop-again : tie.Need-loop-again Inv-loop μ-loop
 loop-again c =
-    let s = start (c .before) in
-    let l = c .before .before .loop in
+    let a = c .before .before in
+    let s = start a in
+    let l = a .loop in
     let r = c .sequence-at .result in (
       omega arith,
       length-set (l .high) (l .i) (r .high) ∙ l .inv .1,
@@ -68,7 +68,7 @@ loop-again c =
 
 returns : tie.Need-returns Inv-loop μ-loop
 returns c =
-    let s = c .before .before .before .before in
+    let s = start (c .before) in
     let l = c .before .loop in
     record {
       high-size = l .inv .1;

@@ -8,11 +8,14 @@ use Rattle.needs.specs.WantedLaws.{length-needs, dependencies-lie}
 use Rattle.needs.proofs.wanted.count_needs.Statement.{statement}
 use Rattle.needs.proofs.wanted.count_needs.Tie as tie
 
--- the start, where the predecessor is known
-abbrev start : tie.After-predecessor-of → tie.Start
-start c = c .before .before .before .before
+-- the start, and the call that counted the dependencies
+abbrev start : tie.After-byte → tie.Start
+start c = c .before .before
 
-before-is : (c : tie.After-predecessor-of) → predecessorList (c .predecessor-of .result) ≡ predecessorOf (sequenceOf (start c .args .m .now))
+abbrev counted : tie.After-predecessor-of → tie.After-byte
+counted c = c .before .before
+
+before-is : (c : tie.After-predecessor-of) → predecessorList (c .predecessor-of .result) ≡ predecessorOf (sequenceOf (start (counted c) .args .m .now))
 before-is c = c .predecessor-of .ensures ∙ ap predecessorOf (c .before .read-sequence .ensures)
 
 byte-requires : tie.Need-byte-requires
@@ -22,7 +25,7 @@ cast-dependencies : tie.Need-cast-dependencies
 cast-dependencies c = search needs
 
 read-sequence-requires : tie.Need-read-sequence-requires
-read-sequence-requires c κs = omega (arith, dependencies-lie (c .before .before .args .m .now) (c .before .before .pre))
+read-sequence-requires c κs = omega (arith, dependencies-lie (start c .args .m .now) (start c .pre))
 
 predecessor-of-requires : tie.Need-predecessor-of-requires
 predecessor-of-requires c κs = search needs
@@ -35,16 +38,18 @@ enum-told-2 c = search needs
 
 returns : tie.Need-returns
 returns c =
-    let none = ap predecessorList (sym (c .enum-told2 .given .1)) ∙ before-is (c .before .before) in
-    omega (arith, length-needs (start (c .before .before) .args .m .now) none, c .before .before .before .before .byte .ensures)
+    let p = c .before .before in
+    let none = ap predecessorList (sym (c .enum-told2 .given .1)) ∙ before-is p in
+    omega (arith, length-needs (start (counted p) .args .m .now) none, counted p .byte .ensures)
 
 add-result : tie.Need-add-result
 add-result c = search needs
 
 returns-2 : tie.Need-returns-2
 returns-2 c =
-    let one = ap predecessorList (sym (c .enum-told .given .1)) ∙ before-is (c .before .before) in
-    omega (arith, length-needs (start (c .before .before) .args .m .now) one, c .before .before .before .before .byte .ensures)
+    let p = c .before .before in
+    let one = ap predecessorList (sym (c .enum-told .given .1)) ∙ before-is p in
+    omega (arith, length-needs (start (counted p) .args .m .now) one, counted p .byte .ensures)
 
 pub count-needs-spec : {M : Type 1} → statement M
 count-needs-spec =
