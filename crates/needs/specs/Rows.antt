@@ -23,6 +23,11 @@ pub record RowFilled (before : List ℕ) (at : ℕ) (m : Message) (names after :
   pub length-is : count ≡ length (needsOf m)
   pub short : count ≤ rowSize
 
+-- The row of a delta is short enough for its room, and is this one.
+pub record RowIs (rows counts : List ℕ) (i : ℕ) (indices : List ℕ) : Type 0 where
+  pub short : getD counts i 0 ≤ rowSize
+  pub row : rowIn rows counts i ≡ indices
+
 pub record RowsRight (S : State) (rows counts : List ℕ) : Type 0 where
   pub size : length rows ≡ rowSize * capacity
   pub counted : length counts ≡ capacity

@@ -6,13 +6,12 @@ use crate::wanted::need_of;
 use layout::CAPACITY;
 use layout::MOST_DEPENDENCIES;
 use table::entry::message_at;
-ghost use mathlib.Core.Path.{_≡_};
 ghost use Prim.Native.Nat.{_+_, _≤_};
 ghost use lib.Dec.{T};
 ghost use lib.ListN.{length};
 ghost use Rattle.model.specs.Message.{passes};
 ghost use Rattle.table.specs.Table.{setIn, Holds};
-ghost use Rattle.needs.specs.Names.{namesIn, Ascends};
+ghost use Rattle.needs.specs.Names.{namesIn, Searchable};
 ghost use Rattle.needs.specs.Rows.{rowSize, RowFilled, RowsRight};
 
 // The room of a row: the predecessor and the most dependencies.
@@ -28,7 +27,7 @@ pub struct Rows {
 
 // Writes the row of a message from a place on, and answers how long it is.
 fn fill_row(rows: &mut [u8], at: usize, m: &[u8], high: &[u64], low: &[u32]) -> usize
-    requires { ⌜ (at + rowSize ≤ length (now rows)) × T (passes (now m)) × (length (now high) ≡ length (now low)) × Ascends (namesIn (now high) (now low)) ⌝ }
+    requires { ⌜ (at + rowSize ≤ length (now rows)) × T (passes (now m)) × Searchable (now high) (now low) ⌝ }
     ensures { λ r. ⌜ RowFilled (now (rows .entry)) at (now (m .entry)) (namesIn (now (high .entry)) (now (low .entry))) (now (rows .exit)) r ⌝ }
 {
     let count = count_needs(m);

@@ -5,10 +5,9 @@ use sequence::equal;
 use sequence::less;
 use table::entry::sequence_at;
 ghost use mathlib.Core.Path.{_≡_};
-ghost use lib.ListN.{length};
 ghost use Rattle.sequence.specs.Sequence.{sequenceNumber};
 ghost use Rattle.table.specs.Table.{deltasOf, Holds};
-ghost use Rattle.needs.specs.Names.{namesIn, Ascends, indexOf, SequencesRight};
+ghost use Rattle.needs.specs.Names.{namesIn, Searchable, indexOf, SequencesRight};
 
 // Stands for a sequence that is not there.
 pub const MISSING: u8 = CAPACITY as u8;
@@ -38,7 +37,7 @@ pub fn read_sequences(pool: &[u8], starts: &[u16]) -> Sequences
 
 // The index of a sequence among ascending ones, or that it is missing: halves what is left.
 pub fn index_of(high: &[u64], low: &[u32], s: Sequence) -> u8
-    requires { ⌜ (length (now high) ≡ length (now low)) × Ascends (namesIn (now high) (now low)) ⌝ }
+    requires { ⌜ Searchable (now high) (now low) ⌝ }
     ensures { λ r. ⌜ r ≡ indexOf (namesIn (now (high .entry)) (now (low .entry))) (sequenceNumber s) ⌝ }
 {
     let mut first = 0;
