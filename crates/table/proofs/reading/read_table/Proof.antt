@@ -58,6 +58,11 @@ read c =
     let l = c .before .before .before .before .before .loop in
     subst (λ (r : Cut). Cuts b (l .at) r) (c .before .cut .given .1) (c .before .before .before .read-message .ensures)
 
+cast-take-in : tie.Need-cast-take-in Inv-loop μ-loop
+cast-take-in c =
+    let l = c .before .before .before .before .before .loop in
+    omega (arith, l .inv .4 .inside, c .before .before .before .before .before .before .before .before .before .before .pre)
+
 take-in-requires : tie.Need-take-in-requires Inv-loop μ-loop
 take-in-requires c κs =
     let l = c .before .before .before .before .before .loop in
@@ -120,6 +125,7 @@ read-table-spec =
     enum-known-cut
     enum-told
     returns-2
+    cast-take-in
     take-in-requires
     enum-told-2
     enum-told-3
