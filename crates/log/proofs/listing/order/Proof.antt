@@ -84,7 +84,7 @@ inside : (k : tie.After-known-told Inv-loop μ-loop) → k .before .found .given
 inside k = omega (arith, here k .within, few k)
 
 cast-place : tie.Need-cast-place Inv-loop μ-loop
-cast-place c = omega (arith, inside c)
+cast-place c = omega (arith, here c .within, few c)
 
 place-requires : tie.Need-place-requires Inv-loop μ-loop
 place-requires c κs =
