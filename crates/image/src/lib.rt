@@ -21,7 +21,7 @@ ghost use Rattle.table.specs.Table.{setIn};
 ghost use Rattle.image.specs.Places.{Writable};
 
 // Writes the image of the set whose messages start at `starts` in the pool. `places` are the log's, in its order.
-pub fn write_image(out: &mut [u8], pool: &[u8], starts: &[usize], places: &[usize])
+pub fn write_image(out: &mut [u8], pool: &[u8], starts: &[u16], places: &[u8])
     requires { ⌜ Writable (now out) (now pool) (now starts) (now places) ⌝ }
     ensures { λ _. ⌜ now (out .exit) ≡ imageOf (setIn (now (pool .entry)) (now (starts .entry))) ⌝ }
 {
@@ -42,7 +42,7 @@ pub fn put_empty(out: &mut [u8])
     ensures { λ _. ⌜ now (out .exit) ≡ imageOf emptyState ⌝ }
 {
     let pool = [0u8; 1];
-    let starts = [0usize; 1];
-    let places = [0usize; 1];
+    let starts = [0u16; 1];
+    let places = [0u8; 1];
     write_image(out, &pool[0..0], &starts[0..0], &places[0..0]);
 }

@@ -24,15 +24,15 @@ fn run_message(values: [i32; 64], pool: &[u8], at: usize) -> [i32; 64]
 }
 
 // Runs the log's deltas from first to last.
-pub fn run_log(pool: &[u8], starts: &[usize], places: &[usize]) -> [i32; 64]
+pub fn run_log(pool: &[u8], starts: &[u16], places: &[u8]) -> [i32; 64]
     requires { ⌜ Listed (now pool) (now starts) (now places) ⌝ }
     ensures { λ r. ⌜ r ≡ setpointsOf (setIn (now (pool .entry)) (now (starts .entry))) ⌝ }
 {
     let mut values = start_values();
     let mut k = 0;
     while k < places.len() {
-        let place = places[k];
-        let start = starts[place];
+        let place = places[k] as usize;
+        let start = starts[place] as usize;
         let next = run_message(values, pool, start);
         values = next;
         k += 1;

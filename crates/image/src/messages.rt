@@ -23,21 +23,15 @@ fn copy_message(out: &mut [u8], to: usize, pool: &[u8], at: usize) -> usize
 }
 
 // Copies the messages at the given places, in order. Returns the place behind the last.
-pub fn copy_messages(
-    out: &mut [u8],
-    pool: &[u8],
-    starts: &[usize],
-    places: &[usize],
-    at: usize,
-) -> usize
+pub fn copy_messages(out: &mut [u8], pool: &[u8], starts: &[u16], places: &[u8], at: usize) -> usize
     requires { ⌜ Placed (now pool) (now starts) (now places) × (at + length (join (messagesAt (now pool) (now starts) (now places))) ≤ length (now out)) ⌝ }
     ensures { λ r. ⌜ Copied (now (out .entry)) at (join (messagesAt (now (pool .entry)) (now (starts .entry)) (now (places .entry)))) (now (out .exit)) r ⌝ }
 {
     let mut to = at;
     let mut k = 0;
     while k < places.len() {
-        let place = places[k];
-        let start = starts[place];
+        let place = places[k] as usize;
+        let start = starts[place] as usize;
         to = copy_message(out, to, pool, start);
         k += 1;
     }

@@ -20,7 +20,7 @@ pub enum Next {
 // The delta at an index, where it is ready.
 pub fn candidate(
     pool: &[u8],
-    starts: &[usize],
+    starts: &[u16],
     needs: &[usize],
     placed: &[u8],
     blocks: &[u32],
@@ -39,7 +39,7 @@ pub fn candidate(
 }
 
 // Of two the one of the lower key; the first where only that one is there.
-pub fn lower(pool: &[u8], starts: &[usize], a: Next, b: Next) -> Next
+pub fn lower(pool: &[u8], starts: &[u16], a: Next, b: Next) -> Next
     requires { ⌜ Holds (now pool) (now starts) × Within (length (now starts)) a × Within (length (now starts)) b ⌝ }
     ensures { λ r. ⌜ r ≡ lowerOf (deltasOf (now (pool .entry)) (now (starts .entry))) a b ⌝ }
 {

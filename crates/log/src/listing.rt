@@ -11,7 +11,7 @@ ghost use Rattle.log.specs.LogOrder.{placesOf, OrderRight};
 ghost use Rattle.log.specs.Ordered.{Ordered};
 
 // Of all deltas that are ready it places the one of the lowest key, again and again, until none is.
-pub fn order(pool: &[u8], starts: &[usize], begun: LogOrder) -> LogOrder
+pub fn order(pool: &[u8], starts: &[u16], begun: LogOrder) -> LogOrder
     requires { ⌜ Holds (now pool) (now starts) × OrderRight begun × (placesOf begun ≡ []) ⌝ }
     ensures { λ r. ⌜ Ordered (now (pool .entry)) (now (starts .entry)) begun r ⌝ }
 {
@@ -26,7 +26,7 @@ pub fn order(pool: &[u8], starts: &[usize], begun: LogOrder) -> LogOrder
         let Next::At(i, block) = found else {
             return log;
         };
-        let longer = log.place(i);
+        let longer = log.place(i as u8);
         log = longer;
         placed[i] = 1;
         blocks[i] = block;

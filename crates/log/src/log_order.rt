@@ -1,4 +1,5 @@
 // The new log as it grows, beside the old one: the places of its deltas, and the length of their longest common start.
+use layout::CAPACITY;
 ghost use mathlib.Core.Path.{_≡_};
 ghost use mathlib.Core.List.{[], _∷_, _++_};
 ghost use Prim.Native.Nat.{_≤_, _<_};
@@ -7,30 +8,30 @@ ghost use Rattle.log.specs.LogOrder.{oldOf, placesOf, OrderRight, Begun,
 
 // The old log and the new one so far, as places in the table, and how many at their start are the same.
 pub struct LogOrder {
-    pub old: [usize; 64],
+    pub old: [u8; CAPACITY],
     pub old_count: usize,
-    pub places: [usize; 64],
+    pub places: [u8; CAPACITY],
     pub count: usize,
     pub kept: usize,
 }
 
 impl LogOrder {
     // Nothing is placed yet.
-    pub fn begin(old: [usize; 64], old_count: usize) -> LogOrder
+    pub fn begin(old: [u8; CAPACITY], old_count: usize) -> LogOrder
         requires { ⌜ «old_count» ≤ 64 ⌝ }
         ensures { λ r. ⌜ Begun old «old_count» r ⌝ }
     {
         LogOrder {
             old,
             old_count,
-            places: [0usize; 64],
+            places: [0; CAPACITY],
             count: 0,
             kept: 0,
         }
     }
 
     // How many are kept once one more is placed.
-    fn kept_with(self, i: usize) -> usize
+    fn kept_with(self, i: u8) -> usize
         requires { ⌜ OrderRight self ⌝ }
         ensures { λ r. ⌜ r ≡ common (oldOf self) (placesOf self ++ i ∷ []) ⌝ }
     {
@@ -48,7 +49,7 @@ impl LogOrder {
     }
 
     // The delta at a place of the table comes next.
-    pub fn place(self, i: usize) -> LogOrder
+    pub fn place(self, i: u8) -> LogOrder
         requires { ⌜ OrderRight self × (self .count < 64) ⌝ }
         ensures { λ r. ⌜ Placed self i r ⌝ }
     {

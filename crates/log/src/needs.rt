@@ -23,7 +23,7 @@ ghost use Rattle.table.specs.Table.{deltasOf, Holds};
 ghost use Rattle.log.specs.Needs.{noNeed, indexOf, rowOf, NeedsRight};
 
 // The index of a sequence's delta, or that it is missing.
-fn index_of(pool: &[u8], starts: &[usize], s: Sequence) -> usize
+fn index_of(pool: &[u8], starts: &[u16], s: Sequence) -> usize
     requires { ⌜ Holds (now pool) (now starts) ⌝ }
     ensures { λ r. ⌜ r ≡ indexOf (deltasOf (now (pool .entry)) (now (starts .entry))) (sequenceNumber s) ⌝ }
 {
@@ -35,7 +35,7 @@ fn index_of(pool: &[u8], starts: &[usize], s: Sequence) -> usize
 }
 
 // The index of a sequence's predecessor, or that it needs none.
-fn predecessor_index(pool: &[u8], starts: &[usize], s: Sequence) -> usize
+fn predecessor_index(pool: &[u8], starts: &[u16], s: Sequence) -> usize
     requires { ⌜ Holds (now pool) (now starts) ⌝ }
     ensures { λ r. ⌜ r ≡ getD (map (indexOf (deltasOf (now (pool .entry)) (now (starts .entry)))) (predecessorOf (sequenceNumber s))) 0 noNeed ⌝ }
 {
@@ -47,7 +47,7 @@ fn predecessor_index(pool: &[u8], starts: &[usize], s: Sequence) -> usize
 }
 
 // One entry of a delta's row: first its predecessor, then its dependencies.
-fn need_at(pool: &[u8], starts: &[usize], i: usize, k: usize) -> usize
+fn need_at(pool: &[u8], starts: &[u16], i: usize, k: usize) -> usize
     requires { ⌜ Holds (now pool) (now starts) × (i < length (now starts)) × (k < 9) ⌝ }
     ensures { λ r. ⌜ r ≡ getD (rowOf (deltasOf (now (pool .entry)) (now (starts .entry))) (getD (deltasOf (now (pool .entry)) (now (starts .entry))) i [])) k 0 ⌝ }
 {
@@ -63,7 +63,7 @@ fn need_at(pool: &[u8], starts: &[usize], i: usize, k: usize) -> usize
 }
 
 // All rows, one after the other.
-pub fn fill_needs(pool: &[u8], starts: &[usize]) -> [usize; 576]
+pub fn fill_needs(pool: &[u8], starts: &[u16]) -> [usize; 576]
     requires { ⌜ Holds (now pool) (now starts) ⌝ }
     ensures { λ r. ⌜ NeedsRight (deltasOf (now (pool .entry)) (now (starts .entry))) r ⌝ }
 {

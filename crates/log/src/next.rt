@@ -5,7 +5,7 @@ use crate::candidate::lower;
 ghost use Rattle.log.specs.Next.{Tables, NextRight};
 
 // Looks at each delta of the table, the last one first.
-pub fn next(pool: &[u8], starts: &[usize], needs: &[usize], placed: &[u8], blocks: &[u32]) -> Next
+pub fn next(pool: &[u8], starts: &[u16], needs: &[usize], placed: &[u8], blocks: &[u32]) -> Next
     requires { ⌜ Tables (now pool) (now starts) (now needs) (now placed) (now blocks) ⌝ }
     ensures { λ r. ⌜ NextRight (now (pool .entry)) (now (starts .entry)) (now (placed .entry)) (now (blocks .entry)) r ⌝ }
 {

@@ -7,6 +7,7 @@ use crate::ordering::write_change;
 use crate::ordering::write_table;
 use crate::reading::Station;
 use buffer::copy_at;
+use layout::CAPACITY;
 use steps::places::shift_places;
 use table::Table;
 ghost use mathlib.Core.Path.{_≡_};
@@ -34,7 +35,7 @@ fn update(
     steps: &mut [u8],
     pool: &[u8],
     table: Table,
-    old: [usize; 64],
+    old: [u8; CAPACITY],
     logged: usize,
 ) -> Delivery
     requires { ⌜ Updatable (now image) (length (now steps)) (now pool) table old logged ⌝ }
@@ -65,7 +66,7 @@ pub fn accept(
     let mut pool = [0u8; POOL_SIZE];
     fill_pool(&mut pool, image, message);
     let table = station.table;
-    let next = table.insert(p, IMAGE_SIZE);
+    let next = table.insert(p, IMAGE_SIZE as u16);
     let places = station.places;
     let logged = station.logged;
     let old = shift_places(places, logged, p);

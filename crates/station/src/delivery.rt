@@ -57,7 +57,7 @@ fn take_in(
     let count = table.count;
     let place = find(image, &starts[..count], s);
     match place {
-        Place::Present(i) => judge_repeat(image, starts[i], message),
+        Place::Present(i) => judge_repeat(image, starts[i] as usize, message),
         Place::Absent(p) => accept_new(image, message, steps, station, p),
     }
 }

@@ -1,5 +1,6 @@
 // A table with its log: ordered, and written as an image and as steps.
 use image::write_image;
+use layout::CAPACITY;
 use log::listing::order;
 use log::log_order::LogOrder;
 use steps::write_steps;
@@ -15,7 +16,7 @@ ghost use Rattle.steps.specs.Names.{namesOf};
 ghost use Rattle.station.specs.Ordering.{Orderable, IsChange, Writable, Changeable};
 
 // The log of a table's set beside the old log, whose places are given.
-pub fn order_table(pool: &[u8], table: Table, old: [usize; 64], old_count: usize) -> LogOrder
+pub fn order_table(pool: &[u8], table: Table, old: [u8; CAPACITY], old_count: usize) -> LogOrder
     requires { ⌜ Orderable (now pool) table «old_count» ⌝ }
     ensures { λ r. ⌜ IsChange (now (pool .entry)) table old «old_count» r ⌝ }
 {
@@ -26,7 +27,7 @@ pub fn order_table(pool: &[u8], table: Table, old: [usize; 64], old_count: usize
 }
 
 // Writes the image of a table's set, whose log is at the given places.
-pub fn write_table(out: &mut [u8], pool: &[u8], table: Table, places: [usize; 64], logged: usize)
+pub fn write_table(out: &mut [u8], pool: &[u8], table: Table, places: [u8; CAPACITY], logged: usize)
     requires { ⌜ Writable (now out) (now pool) table places logged ⌝ }
     ensures { λ _. ⌜ now (out .exit) ≡ imageOf (setIn (now (pool .entry)) (startsOf table)) ⌝ }
 {

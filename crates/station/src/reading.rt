@@ -3,6 +3,7 @@ use crate::limits::IMAGE_SIZE;
 use crate::ordering::order_table;
 use crate::ordering::write_table;
 use buffer::same;
+use layout::CAPACITY;
 use message::checks::Check;
 use table::Table;
 use table::reading::read_table;
@@ -16,7 +17,7 @@ ghost use Rattle.station.specs.Reading.{Judges};
 pub struct Station {
     pub check: Check,
     pub table: Table,
-    pub places: [usize; 64],
+    pub places: [u8; CAPACITY],
     pub logged: usize,
 }
 
@@ -25,7 +26,7 @@ fn judge(b: &[u8], table: Table) -> Station
     requires { ⌜ (length (now b) ≡ imageSize) × IsTable (now b) table ⌝ }
     ensures { λ r. ⌜ Judges (now (b .entry)) r ⌝ }
 {
-    let order = order_table(b, table, [0usize; 64], 0);
+    let order = order_table(b, table, [0; CAPACITY], 0);
     let places = order.places;
     let logged = order.count;
     let mut written = [0u8; IMAGE_SIZE];
@@ -58,7 +59,7 @@ pub fn read_station(b: &[u8]) -> Station
         return Station {
             check: Check::Wrong,
             table,
-            places: [0usize; 64],
+            places: [0; CAPACITY],
             logged: 0,
         };
     };

@@ -17,7 +17,7 @@ ghost use Rattle.steps.specs.Names.{namesOf};
 ghost use Rattle.steps.specs.Room.{stepsAt, RestFits, StepsFit};
 
 // Writes the undos of the old log from its end down to what is kept.
-fn put_undos(steps: &mut [u8], at: usize, pool: &[u8], starts: &[usize], old: &[usize], kept: usize)
+fn put_undos(steps: &mut [u8], at: usize, pool: &[u8], starts: &[u16], old: &[u8], kept: usize)
     requires { ⌜ RestFits (now pool) (now starts) (now old) kept at (length (now steps)) ⌝ }
     ensures { λ _. ⌜ now (steps .exit) ≡ stepsAt (now (steps .entry)) at (map undo (reverse (drop kept (namesOf (now (pool .entry)) (now (starts .entry)) (now (old .entry)))))) ⌝ }
 {
@@ -32,14 +32,7 @@ fn put_undos(steps: &mut [u8], at: usize, pool: &[u8], starts: &[usize], old: &[
 }
 
 // Writes the executions of the new log from what is kept up to its end.
-fn put_executions(
-    steps: &mut [u8],
-    at: usize,
-    pool: &[u8],
-    starts: &[usize],
-    new: &[usize],
-    kept: usize,
-)
+fn put_executions(steps: &mut [u8], at: usize, pool: &[u8], starts: &[u16], new: &[u8], kept: usize)
     requires { ⌜ RestFits (now pool) (now starts) (now new) kept at (length (now steps)) ⌝ }
     ensures { λ _. ⌜ now (steps .exit) ≡ stepsAt (now (steps .entry)) at (map execute (drop kept (namesOf (now (pool .entry)) (now (starts .entry)) (now (new .entry))))) ⌝ }
 {
@@ -57,9 +50,9 @@ fn put_executions(
 pub fn write_steps(
     steps: &mut [u8],
     pool: &[u8],
-    starts: &[usize],
-    old: &[usize],
-    new: &[usize],
+    starts: &[u16],
+    old: &[u8],
+    new: &[u8],
     kept: usize,
 )
     requires { ⌜ StepsFit (now pool) (now starts) (now old) (now new) kept (length (now steps)) ⌝ }

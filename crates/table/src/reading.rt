@@ -66,7 +66,7 @@ fn read_message(b: &[u8], at: usize) -> Cut
 }
 
 // The table with a message more; refused where its sequence is there already.
-fn take_in(b: &[u8], table: Table, at: usize, s: Sequence) -> Reading
+fn take_in(b: &[u8], table: Table, at: u16, s: Sequence) -> Reading
     requires { ⌜ (Holds (now b) (startsOf table)) × (table .count < capacity) × IsMessage (now b) at s ⌝ }
     ensures { λ r. ⌜ TakesIn (now (b .entry)) table at r ⌝ }
 {
@@ -109,7 +109,7 @@ pub fn read_table(b: &[u8]) -> Reading
                 table,
             };
         };
-        let taken = take_in(b, table, at, s);
+        let taken = take_in(b, table, at as u16, s);
         let check = taken.check;
         let Check::Right = check else {
             return taken;

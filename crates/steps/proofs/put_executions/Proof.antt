@@ -25,19 +25,21 @@ Inv-loop steps₀ at pool starts new kept to₀ i₀ steps to i =
 abbrev μ-loop : tie.MeasureT-loop
 μ-loop steps₀ at pool starts new kept to₀ i₀ steps to i = length new - i
 
+-- the call as it began
+abbrev start : tie.At-loop Inv-loop μ-loop → tie.Start Inv-loop μ-loop
+start h = h .before .before .before .before .before
+
 loop-holds : tie.Need-loop-holds Inv-loop μ-loop
 loop-holds c = (search needs, (search needs, (refl, refl)))
-
-mul-sequence-at : tie.Need-mul-sequence-at Inv-loop μ-loop
-mul-sequence-at c = omega arith
 
 shared-slice-read-sequence-at : tie.Need-shared-slice-read-sequence-at Inv-loop μ-loop
 shared-slice-read-sequence-at c = omega arith
 
 sequence-at-requires : tie.Need-sequence-at-requires Inv-loop μ-loop
 sequence-at-requires c κs =
-    let l = c .before .before .loop in
-    let s = c .before .before .before .before .before .before .before in
+    let h = c .before .before in
+    let l = h .loop in
+    let s = start h in
     (s .pre .holds, s .pre .places (l .i) (omega arith))
 
 put-step-requires : tie.Need-put-step-requires Inv-loop μ-loop
@@ -56,9 +58,9 @@ loop-again : tie.Need-loop-again Inv-loop μ-loop
 loop-again c =
     let put = c .before .before in
     let read = put .before .before in
-    let l = read .before .before .before .loop in
-    let s = read .before .before .before .before .before .before .before .before in
-    let a = s .args in
+    let h = read .before .before .before in
+    let l = h .loop in
+    let a = start h .args in
     let names : List ℕ = namesOf (a .pool .now) (a .starts .now) (a .new .now) in
     let size : length names ≡ length (a .new .now) = length-names (a .pool .now) (a .starts .now) (a .new .now) in
     let n : ℕ = sequenceNumber (read .sequence-at .result) in
@@ -81,8 +83,9 @@ same-length c = c .before .loop .inv .1 .1 .1
 
 returns : tie.Need-returns Inv-loop μ-loop
 returns c =
-    let a = c .before .before .before .before .before .before .args in
-    let l = c .before .loop in
+    let h = c .before in
+    let a = start h .args in
+    let l = h .loop in
     let names : List ℕ = namesOf (a .pool .now) (a .starts .now) (a .new .now) in
     let size : length names ≡ length (a .new .now) = length-names (a .pool .now) (a .starts .now) (a .new .now) in
     let none : drop (l .i) names ≡ [] = drop-of-length-le names {i = l .i} (omega arith) in
@@ -95,7 +98,6 @@ put-executions-spec =
     Inv-loop
     μ-loop
     loop-holds
-    mul-sequence-at
     shared-slice-read-sequence-at
     sequence-at-requires
     put-step-requires

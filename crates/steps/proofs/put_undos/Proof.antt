@@ -26,6 +26,10 @@ Inv-loop steps₀ at pool starts old kept to₀ i₀ steps to i =
 abbrev μ-loop : tie.MeasureT-loop
 μ-loop steps₀ at pool starts old kept to₀ i₀ steps to i = i
 
+-- the call as it began
+abbrev start : tie.At-loop Inv-loop μ-loop → tie.Start Inv-loop μ-loop
+start h = h .before .before .before .before .before
+
 loop-holds : tie.Need-loop-holds Inv-loop μ-loop
 loop-holds c =
     let a = c .before .before .before .before .args in
@@ -48,16 +52,14 @@ loop-holds c =
 sub-i : tie.Need-sub-i Inv-loop μ-loop
 sub-i c = omega arith
 
-mul-sequence-at : tie.Need-mul-sequence-at Inv-loop μ-loop
-mul-sequence-at c = omega arith
-
 shared-slice-read-sequence-at : tie.Need-shared-slice-read-sequence-at Inv-loop μ-loop
 shared-slice-read-sequence-at c = omega arith
 
 sequence-at-requires : tie.Need-sequence-at-requires Inv-loop μ-loop
 sequence-at-requires c κs =
-    let l = c .before .before .loop in
-    let s = c .before .before .before .before .before .before .before in
+    let h = c .before .before in
+    let l = h .loop in
+    let s = start h in
     (s .pre .holds, s .pre .places (l .i - 1) (omega arith))
 
 put-step-requires : tie.Need-put-step-requires Inv-loop μ-loop
@@ -73,9 +75,9 @@ loop-again : tie.Need-loop-again Inv-loop μ-loop
 loop-again c =
     let put = c .before .before in
     let read = put .before .before in
-    let l = read .before .before .before .loop in
-    let s = read .before .before .before .before .before .before .before .before in
-    let a = s .args in
+    let h = read .before .before .before in
+    let l = h .loop in
+    let a = start h .args in
     let names : List ℕ = namesOf (a .pool .now) (a .starts .now) (a .old .now) in
     let size : length names ≡ length (a .old .now) = length-names (a .pool .now) (a .starts .now) (a .old .now) in
     let n : ℕ = sequenceNumber (read .sequence-at .result) in
@@ -101,8 +103,9 @@ same-length c = c .before .loop .inv .1 .1 .1 .1
 
 returns : tie.Need-returns Inv-loop μ-loop
 returns c =
-    let a = c .before .before .before .before .before .before .args in
-    let l = c .before .loop in
+    let h = c .before in
+    let a = start h .args in
+    let l = h .loop in
     let e : l .i ≡ a .kept = omega arith in
     l .inv .1 .1 .1 .0
     ∙ ap (λ (k : ℕ). stepsAt (a .steps .now) (a .at) (map undo (reverse (drop k (namesOf (a .pool .now) (a .starts .now) (a .old .now)))))) e
@@ -115,7 +118,6 @@ put-undos-spec =
     μ-loop
     loop-holds
     sub-i
-    mul-sequence-at
     shared-slice-read-sequence-at
     sequence-at-requires
     put-step-requires

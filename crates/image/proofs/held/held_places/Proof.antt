@@ -28,11 +28,11 @@ free l h = omega (arith, l .before .before .pre, l .loop .inv .1 .0, others-leng
 loop-holds : tie.Need-loop-holds Inv-loop μ-loop
 loop-holds c = (omega arith, (refl, (refl, refl)))
 
+cast-place : tie.Need-cast-place Inv-loop μ-loop
+cast-place c = omega arith
+
 is-among-requires : tie.Need-is-among-requires Inv-loop μ-loop
 is-among-requires c κs = search needs
-
-mul-held : tie.Need-mul-held Inv-loop μ-loop
-mul-held c = let h = free (c .before .before .before) (c .before .before .loop-test .taken) in search needs
 
 array-write-held : tie.Need-array-write-held Inv-loop μ-loop
 array-write-held c = free (c .before .before .before) (c .before .before .loop-test .taken)
@@ -95,8 +95,8 @@ held-places-spec =
     Inv-loop
     μ-loop
     loop-holds
+    cast-place
     is-among-requires
-    mul-held
     array-write-held
     add-n
     add-i

@@ -19,14 +19,18 @@ Inv-loop pool starts places values₀ k₀ values k =
 abbrev μ-loop : tie.MeasureT-loop
 μ-loop pool starts places values₀ k₀ values k = length places - k
 
+-- the call as it began
+abbrev start : tie.At-loop Inv-loop μ-loop → tie.Start Inv-loop μ-loop
+start l = l .before .before .before .before .before
+
 placed : (s : tie.Start Inv-loop μ-loop) → Placed (s .args .pool .now) (s .args .starts .now) (s .args .places .now)
 placed s = listed-placed (s .args .pool .now) (s .args .starts .now) (s .args .places .now) (s .pre)
 
 -- the place at k is one of the table's
-inside : (l : tie.At-loop Inv-loop μ-loop) → l .loop .k < length (l .before .before .before .before .before .args .places .now)
-    → getD (l .before .before .before .before .before .args .places .now) (l .loop .k) 0 < length (l .before .before .before .before .before .args .starts .now)
+inside : (l : tie.At-loop Inv-loop μ-loop) → l .loop .k < length (start l .args .places .now)
+    → getD (start l .args .places .now) (l .loop .k) 0 < length (start l .args .starts .now)
 inside l h =
-    let s = l .before .before .before .before .before in
+    let s = start l in
     next-place (s .args .pool .now) (s .args .starts .now) (s .args .places .now) (placed s) (l .loop .k) h
 
 start-values-requires : tie.Need-start-values-requires Inv-loop μ-loop
@@ -35,11 +39,11 @@ start-values-requires c κs = search needs
 loop-holds : tie.Need-loop-holds Inv-loop μ-loop
 loop-holds c = (omega arith, refl)
 
-mul-place : tie.Need-mul-place Inv-loop μ-loop
-mul-place c = search needs
-
 shared-slice-read-place : tie.Need-shared-slice-read-place Inv-loop μ-loop
 shared-slice-read-place c = omega arith
+
+cast-place : tie.Need-cast-place Inv-loop μ-loop
+cast-place c = omega (arith, c .shared-slice-known4 .given (c .before .before .loop .k))
 
 mul-start : tie.Need-mul-start Inv-loop μ-loop
 mul-start c = let h = inside (c .before .before) (c .before .loop-test .taken) in search needs
@@ -47,10 +51,15 @@ mul-start c = let h = inside (c .before .before) (c .before .loop-test .taken) i
 shared-slice-read-start : tie.Need-shared-slice-read-start Inv-loop μ-loop
 shared-slice-read-start c = inside (c .before .before .before) (c .before .before .loop-test .taken)
 
+cast-start : tie.Need-cast-start Inv-loop μ-loop
+cast-start c =
+    let l = c .before .before .before in
+    omega (arith, c .shared-slice-known5 .given (getD (start l .args .places .now) (l .loop .k) 0))
+
 run-message-requires : tie.Need-run-message-requires Inv-loop μ-loop
 run-message-requires c κs =
     let l = c .before .before .before in
-    let s = l .before .before .before .before .before in
+    let s = start l in
     next-passes (s .args .pool .now) (s .args .starts .now) (s .args .places .now) (placed s) (l .loop .k) (c .before .before .loop-test .taken)
 
 add-k : tie.Need-add-k Inv-loop μ-loop
@@ -63,7 +72,7 @@ loop-again : tie.Need-loop-again Inv-loop μ-loop
 loop-again c =
     let turn = c .before .before .before in
     let l = turn .before in
-    let s = l .before .before .before .before .before in
+    let s = start l in
     let pool = s .args .pool .now in
     let starts = s .args .starts .now in
     let places = s .args .places .now in
@@ -78,7 +87,7 @@ returns : tie.Need-returns Inv-loop μ-loop
 unfolding setpointsOf
 returns c =
     let l = c .before in
-    let s = l .before .before .before .before .before in
+    let s = start l in
     sym
     (l .loop .inv .1
     ∙ ap (λ (x : List Message). runLog x (l .loop .values)) (no-message (s .args .pool .now) (s .args .starts .now) (s .args .places .now) (l .loop .k) (c .loop-test .left)))
@@ -92,10 +101,11 @@ run-log-spec =
     μ-loop
     start-values-requires
     loop-holds
-    mul-place
     shared-slice-read-place
+    cast-place
     mul-start
     shared-slice-read-start
+    cast-start
     run-message-requires
     add-k
     loop-less

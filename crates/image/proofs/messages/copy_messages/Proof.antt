@@ -26,20 +26,24 @@ Inv-loop out₀ pool starts places at to₀ k₀ out to k =
 abbrev μ-loop : tie.MeasureT-loop
 μ-loop out₀ pool starts places at to₀ k₀ out to k = length places - k
 
+-- the call as it began
+abbrev start : tie.At-loop Inv-loop μ-loop → tie.Start Inv-loop μ-loop
+start l = l .before .before .before .before .before
+
 -- the place at k is one of the table's
-inside : (l : tie.At-loop Inv-loop μ-loop) → l .loop .k < length (l .before .before .before .before .before .args .places .now)
-    → getD (l .before .before .before .before .before .args .places .now) (l .loop .k) 0 < length (l .before .before .before .before .before .args .starts .now)
+inside : (l : tie.At-loop Inv-loop μ-loop) → l .loop .k < length (start l .args .places .now)
+    → getD (start l .args .places .now) (l .loop .k) 0 < length (start l .args .starts .now)
 inside l h =
-    let s = l .before .before .before .before .before in
+    let s = start l in
     next-place (s .args .pool .now) (s .args .starts .now) (s .args .places .now) (s .pre .0) (l .loop .k) h
 
 -- and there is room for its message
-room : (l : tie.At-loop Inv-loop μ-loop) → l .loop .k < length (l .before .before .before .before .before .args .places .now)
+room : (l : tie.At-loop Inv-loop μ-loop) → l .loop .k < length (start l .args .places .now)
     → l .loop .to
-    + length (messageFrom (l .before .before .before .before .before .args .pool .now) (getD (l .before .before .before .before .before .args .starts .now) (getD (l .before .before .before .before .before .args .places .now) (l .loop .k) 0) 0))
+    + length (messageFrom (start l .args .pool .now) (getD (start l .args .starts .now) (getD (start l .args .places .now) (l .loop .k) 0) 0))
     ≤ length (l .loop .out)
 room l h =
-    let s = l .before .before .before .before .before in
+    let s = start l in
     let size = next-length (s .args .pool .now) (s .args .starts .now) (s .args .places .now) (s .pre .0) (l .loop .k) h in
     let so-far = l .loop .inv .1 .0 in
     let fits = s .pre .1 in
@@ -48,11 +52,11 @@ room l h =
 loop-holds : tie.Need-loop-holds Inv-loop μ-loop
 loop-holds c = (omega arith, (refl, (refl, refl)))
 
-mul-place : tie.Need-mul-place Inv-loop μ-loop
-mul-place c = search needs
-
 shared-slice-read-place : tie.Need-shared-slice-read-place Inv-loop μ-loop
 shared-slice-read-place c = omega arith
+
+cast-place : tie.Need-cast-place Inv-loop μ-loop
+cast-place c = omega (arith, c .shared-slice-known4 .given (c .before .before .loop .k))
 
 mul-start : tie.Need-mul-start Inv-loop μ-loop
 mul-start c = let h = inside (c .before .before) (c .before .loop-test .taken) in search needs
@@ -60,10 +64,15 @@ mul-start c = let h = inside (c .before .before) (c .before .loop-test .taken) i
 shared-slice-read-start : tie.Need-shared-slice-read-start Inv-loop μ-loop
 shared-slice-read-start c = inside (c .before .before .before) (c .before .before .loop-test .taken)
 
+cast-start : tie.Need-cast-start Inv-loop μ-loop
+cast-start c =
+    let l = c .before .before .before in
+    omega (arith, c .shared-slice-known5 .given (getD (start l .args .places .now) (l .loop .k) 0))
+
 copy-message-requires : tie.Need-copy-message-requires Inv-loop μ-loop
 copy-message-requires c κs =
     let l = c .before .before .before .before in
-    let s = l .before .before .before .before .before in
+    let s = start l in
     let h = c .before .before .before .loop-test .taken in
     (next-passes (s .args .pool .now) (s .args .starts .now) (s .args .places .now) (s .pre .0) (l .loop .k) h, room l h)
 
@@ -78,7 +87,7 @@ loop-again c =
     let call = c .before .before in
     let turn = call .before .before .before .before in
     let l = turn .before in
-    let s = l .before .before .before .before .before in
+    let s = start l in
     let h = turn .loop-test .taken in
     let pool = s .args .pool .now in
     let starts = s .args .starts .now in
@@ -108,7 +117,7 @@ same-length c = c .before .loop .inv .1 .1 .1
 returns : tie.Need-returns Inv-loop μ-loop
 returns c =
     let l = c .before in
-    let s = l .before .before .before .before .before in
+    let s = start l in
     let none = no-message (s .args .pool .now) (s .args .starts .now) (s .args .places .now) (l .loop .k) (c .loop-test .left) in
     let size = ap (λ (x : List Message). length (join x)) none in
     let so-far = l .loop .inv .1 .0 in
@@ -125,10 +134,11 @@ copy-messages-spec =
     Inv-loop
     μ-loop
     loop-holds
-    mul-place
     shared-slice-read-place
+    cast-place
     mul-start
     shared-slice-read-start
+    cast-start
     copy-message-requires
     add-k
     loop-less

@@ -1,3 +1,4 @@
+-- The entry's start lies in the pool with as many bytes behind it as its length field says.
 use Prim.Native.Nat.{ℕ, _+_, _-_}
 use mathlib.Core.Path.{_≡_, sym, _∙_, ap}
 use lib.ListN.{getD, take, drop}
@@ -18,6 +19,9 @@ mul-at c = search needs
 
 shared-slice-read-at : tie.Need-shared-slice-read-at
 shared-slice-read-at c = search needs
+
+cast-at : tie.Need-cast-at
+cast-at c = let s = c .before .before .before in omega (arith, c .shared-slice-known3 .given (s .args .i))
 
 add-get-u16 : tie.Need-add-get-u16
 add-get-u16 c = let l = lies (c .before .before .before) in omega arith
@@ -53,6 +57,7 @@ message-at-spec =
     (tie.spec
     mul-at
     shared-slice-read-at
+    cast-at
     add-get-u16
     get-u16-requires
     cast-end

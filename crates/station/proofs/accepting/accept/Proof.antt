@@ -1,3 +1,4 @@
+-- The message stands in the pool behind the image, its start in the table, and the old log at the shifted places: `update` does the rest.
 use mathlib.Core.Path.{_≡_, refl}
 use native.Mathlib.Omega.{arith}
 use lib.ListN.{length}
@@ -5,80 +6,70 @@ use Rattle.station.specs.AcceptedLaws.{message-fits, place-fits, places-
 use borrow.Author.Needs.{needs}
 use Rattle.station.proofs.accepting.accept.Statement.{statement}
 use Rattle.station.proofs.accepting.accept.Tie as tie
-use Rattle.station.proofs.accepting.accept.Reads as reads
-use Rattle.station.proofs.accepting.accept.Lts as lts
-use Rattle.station.proofs.accepting.fill_pool.Reads as fill-pool-reads
-use Rattle.station.proofs.accepting.update.Reads as update-reads
-use Rattle.steps.proofs.places.shift_places.Reads as shift-places-reads
-use Rattle.table.proofs.Table.insert.Reads as insert-reads
 
 -- the arrays' lengths
-starts-size : (c : tie.Start) → length (c .args .station .table .starts) ≡ 64
-starts-size c = search needs
+starts-size : (s : tie.Start) → length (s .args .station .table .starts) ≡ 64
+starts-size s = search needs
 
-places-size : (c : tie.Start) → length (c .args .station .places) ≡ 64
-places-size c = search needs
+places-size : (s : tie.Start) → length (s .args .station .places) ≡ 64
+places-size s = search needs
 
--- src/accepting.rt:53:15
+-- the call as it began, the pool filled, the start inserted, from where the places are shifted
+abbrev start : tie.After-fill-pool → tie.Start
+start f = f .before .before .before .before .before .before
+
+abbrev filled : tie.After-shift-places → tie.After-fill-pool
+filled c = c .before .before .before .before .before
+
 slice-aggregate-fill-pool : tie.Need-slice-aggregate-fill-pool
 slice-aggregate-fill-pool c = search needs
 
--- src/accepting.rt:53:5
 fill-pool-requires : tie.Need-fill-pool-requires
 fill-pool-requires c κs =
-    let a = c .before .before .before .before .before .args in
-    let e = starts-size (c .before .before .before .before .before) in
-    let f = places-size (c .before .before .before .before .before) in
-    let pre = c .before .before .before .before .before .pre in
-    omega (arith, message-fits (a .image .now) (a .message .now) (length (a .steps .now)) (a .station) (a .p) pre e f)
+    let s = c .before .before .before .before .before in
+    let a = s .args in
+    omega (arith, message-fits (a .image .now) (a .message .now) (length (a .steps .now)) (a .station) (a .p) (s .pre) (starts-size s) (places-size s))
 
--- src/accepting.rt:55:9
+cast-insert : tie.Need-cast-insert
+cast-insert c = omega arith
+
 insert-requires : tie.Need-insert-requires
 insert-requires c κs =
-    let a = c .before .before .before .before .before .before .before .before .args in
-    let e = starts-size (c .before .before .before .before .before .before .before .before) in
-    let f = places-size (c .before .before .before .before .before .before .before .before) in
-    let pre = c .before .before .before .before .before .before .before .before .pre in
-    (pre .few, place-fits (a .image .now) (a .message .now) (length (a .steps .now)) (a .station) (a .p) pre e f)
+    let s = start (c .before .before) in
+    let a = s .args in
+    (s .pre .few, place-fits (a .image .now) (a .message .now) (length (a .steps .now)) (a .station) (a .p) (s .pre) (starts-size s) (places-size s))
 
--- src/accepting.rt:58:9
 shift-places-requires : tie.Need-shift-places-requires
 shift-places-requires c κs =
-    let a = c .before .before .before .before .before .before .before .before .before .before .args in
-    let e = starts-size (c .before .before .before .before .before .before .before .before .before .before) in
-    let f = places-size (c .before .before .before .before .before .before .before .before .before .before) in
-    let pre = c .before .before .before .before .before .before .before .before .before .before .pre in
-    (pre .judged .fits, places-within (a .image .now) (a .message .now) (length (a .steps .now)) (a .station) (a .p) pre e f)
+    let s = start (c .before .before .before .before) in
+    let a = s .args in
+    (s .pre .judged .fits, places-within (a .image .now) (a .message .now) (length (a .steps .now)) (a .station) (a .p) (s .pre) (starts-size s) (places-size s))
 
--- src/accepting.rt:59:26
 slice-aggregate-update : tie.Need-slice-aggregate-update
 slice-aggregate-update c = search needs
 
--- src/accepting.rt:59:5
 update-requires : tie.Need-update-requires
 update-requires c κs =
-    let a = c .before .before .before .before .before .before .before .before .before .before .before .before .before .before .args in
-    let e = starts-size (c .before .before .before .before .before .before .before .before .before .before .before .before .before .before) in
-    let f = places-size (c .before .before .before .before .before .before .before .before .before .before .before .before .before .before) in
-    let pre = c .before .before .before .before .before .before .before .before .before .before .before .before .before .before .pre in
-    updatable (a .image .now) (a .message .now) (length (a .steps .now)) (a .station) (a .p) pre e f _ _ (c .before .before .before .before .before .before .before .before .fill-pool .ensures) refl _ (c .before .before .before .before .before .insert .ensures .starts) (c .before .before .before .before .before .insert .ensures .count) _ (c .before .before .before .shift-places .ensures)
+    let shifted = c .before .before .before in
+    let inserted = shifted .before .before in
+    let s = start (filled shifted) in
+    let a = s .args in
+    updatable (a .image .now) (a .message .now) (length (a .steps .now)) (a .station) (a .p) (s .pre) (starts-size s) (places-size s) _ _ (filled shifted .fill-pool .ensures) refl _ (inserted .insert .ensures .starts) (inserted .insert .ensures .count) _ (shifted .shift-places .ensures)
 
--- src/accepting.rt:48:1
 same-length : tie.Need-same-length
 same-length c = search needs
 
--- src/accepting.rt:48:1
 same-length-2 : tie.Need-same-length-2
 same-length-2 c = search needs
 
--- src/accepting.rt:48:1
 returns : tie.Need-returns
 returns c =
-    let a = c .before .before .before .before .before .before .before .before .before .before .before .before .before .before .before .before .before .before .before .args in
-    let e = starts-size (c .before .before .before .before .before .before .before .before .before .before .before .before .before .before .before .before .before .before .before) in
-    let f = places-size (c .before .before .before .before .before .before .before .before .before .before .before .before .before .before .before .before .before .before .before) in
-    let pre = c .before .before .before .before .before .before .before .before .before .before .before .before .before .before .before .before .before .before .before .pre in
-    accepted-answer (a .image .now) (a .message .now) (length (a .steps .now)) (a .station) (a .p) pre e f _ _ (c .before .before .before .before .before .before .before .before .before .before .before .before .before .fill-pool .ensures) refl _ (c .before .before .before .before .before .before .before .before .before .before .insert .ensures .starts) (c .before .before .before .before .before .before .before .before .before .before .insert .ensures .count) _ (c .before .before .before .before .before .before .before .before .shift-places .ensures) _ _ (c .before .before .before .before .update .ensures)
+    let updated = c .before .before .before .before in
+    let shifted = updated .before .before .before .before in
+    let inserted = shifted .before .before in
+    let s = start (filled shifted) in
+    let a = s .args in
+    accepted-answer (a .image .now) (a .message .now) (length (a .steps .now)) (a .station) (a .p) (s .pre) (starts-size s) (places-size s) _ _ (filled shifted .fill-pool .ensures) refl _ (inserted .insert .ensures .starts) (inserted .insert .ensures .count) _ (shifted .shift-places .ensures) _ _ (updated .update .ensures)
 
 pub accept-spec : {M : Type 1} → statement M
 accept-spec =
@@ -86,6 +77,7 @@ accept-spec =
     (tie.spec
     slice-aggregate-fill-pool
     fill-pool-requires
+    cast-insert
     insert-requires
     shift-places-requires
     slice-aggregate-update

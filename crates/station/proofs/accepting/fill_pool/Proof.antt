@@ -6,23 +6,16 @@ use lib.Seq.{paste}
 use borrow.Author.Needs.{needs}
 use Rattle.station.proofs.accepting.fill_pool.Statement.{statement}
 use Rattle.station.proofs.accepting.fill_pool.Tie as tie
-use Rattle.station.proofs.accepting.fill_pool.Reads as reads
-use Rattle.station.proofs.accepting.fill_pool.Lts as lts
-use Rattle.buffer.proofs.copy_at.Reads as copy-at-reads
 
--- src/accepting.rt:27:5
 copy-at-requires : tie.Need-copy-at-requires
 copy-at-requires c κs = search needs
 
--- src/accepting.rt:28:5
 copy-at-requires-2 : tie.Need-copy-at-requires-2
 copy-at-requires-2 c κs = search needs
 
--- src/accepting.rt:23:1
 same-length : tie.Need-same-length
 same-length c = search needs
 
--- src/accepting.rt:23:1
 returns : tie.Need-returns
 returns c =
     let image = c .before .before .before .before .before .before .before .before .before .before .before .args .image .now in

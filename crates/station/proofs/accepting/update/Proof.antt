@@ -7,23 +7,13 @@ use Rattle.station.specs.AcceptLaws.{IsLogOf, accepted-by, steps-room}
 use borrow.Author.Needs.{needs}
 use Rattle.station.proofs.accepting.update.Statement.{statement}
 use Rattle.station.proofs.accepting.update.Tie as tie
-use Rattle.station.proofs.accepting.update.Reads as reads
-use Rattle.station.proofs.accepting.update.Lts as lts
-use Rattle.log.proofs.log_order.LogOrder.executions.Reads as executions-reads
-use Rattle.log.proofs.log_order.LogOrder.undos.Reads as undos-reads
-use Rattle.station.proofs.ordering.order_table.Reads as order-table-reads
-use Rattle.station.proofs.ordering.write_change.Reads as write-change-reads
-use Rattle.station.proofs.ordering.write_table.Reads as write-table-reads
 
--- src/accepting.rt:36:9
 order-table-requires : tie.Need-order-table-requires
 order-table-requires c κs = search needs
 
--- src/accepting.rt:39:5
 write-table-requires : tie.Need-write-table-requires
 write-table-requires c κs = search needs
 
--- src/accepting.rt:40:5
 write-change-requires : tie.Need-write-change-requires
 write-change-requires c κs =
     let pre = c .before .before .before .before .before .before .before .before .before .before .pre in
@@ -40,23 +30,18 @@ write-change-requires c κs =
       steps-fit = steps-room l (o .right) _ (o .olds) (pre .few) _ (pre .steps-room);
     }
 
--- src/accepting.rt:42:16
 undos-requires : tie.Need-undos-requires
 undos-requires c κs = search needs
 
--- src/accepting.rt:43:21
 executions-requires : tie.Need-executions-requires
 executions-requires c κs = search needs
 
--- src/accepting.rt:32:1
 same-length : tie.Need-same-length
 same-length c = search needs
 
--- src/accepting.rt:32:1
 same-length-2 : tie.Need-same-length-2
 same-length-2 c = search needs
 
--- src/accepting.rt:32:1
 returns : tie.Need-returns
 returns c =
     let start = c .before .before .before .before .before .before .before .before .before .before .before .before .before .before .before in

@@ -4,15 +4,11 @@ use Rattle.station.specs.PlaceCases.{full-case, new-case}
 use borrow.Author.Needs.{needs}
 use Rattle.station.proofs.delivery.accept_new.Statement.{statement}
 use Rattle.station.proofs.delivery.accept_new.Tie as tie
-use Rattle.station.proofs.delivery.accept_new.Reads as reads
-use Rattle.station.proofs.delivery.accept_new.Lts as lts
-use Rattle.station.proofs.accepting.accept.Reads as accept-reads
 
 -- the array's length
 starts-size : (c : tie.Start) → length (c .args .station .table .starts) ≡ 64
 starts-size c = search needs
 
--- src/delivery.rt:33:9
 returns : tie.Need-returns
 returns c =
     let start = c .before .before .before .before .before .before in
@@ -20,19 +16,15 @@ returns c =
     let pre = start .pre in
     full-case (a .image .now) (a .message .now) (a .steps .now) (a .station) (pre .size) (pre .steps-room) (pre .judged) (pre .right) (a .p) (pre .absent) (starts-size start) (c .if1 .taken)
 
--- src/delivery.rt:35:5
 accept-requires : tie.Need-accept-requires
 accept-requires c κs = search needs
 
--- src/delivery.rt:27:1
 same-length : tie.Need-same-length
 same-length c = search needs
 
--- src/delivery.rt:27:1
 same-length-2 : tie.Need-same-length-2
 same-length-2 c = search needs
 
--- src/delivery.rt:27:1
 returns-2 : tie.Need-returns-2
 returns-2 c =
     let start = c .before .before .before .before .before .before .before .before .before .before .before .before .before in

@@ -26,14 +26,6 @@ use Rattle.station.specs.RefuseCases.{size-case, room-case, sizes-case, 
 use borrow.Author.Needs.{needs}
 use Rattle.station.proofs.delivery.deliver.Statement.{statement}
 use Rattle.station.proofs.delivery.deliver.Tie as tie
-use Rattle.station.proofs.delivery.deliver.Reads as reads
-use Rattle.station.proofs.delivery.deliver.Lts as lts
-use Rattle.message.proofs.parse.parse.Reads as parse-reads
-use Rattle.station.proofs.delivery.take_in.Reads as take-in-reads
-use Rattle.station.proofs.reading.read_station.Reads as read-station-reads
-use Rattle.station.proofs.refusing.check_image_size.Reads as check-image-size-reads
-use Rattle.station.proofs.refusing.check_step_room.Reads as check-step-room-reads
-use Rattle.station.proofs.refusing.refuse.Reads as refuse-reads
 
 -- what the checks of the sizes told
 sized : (c : tie.After-enum-told) → true ≡ eqb (length (c .before .before .before .before .before .before .args .image .now)) imageSize
@@ -59,86 +51,70 @@ no-message parsed.WrongNumber k e = omega arith
 no-message parsed.WrongDependencies k e = omega arith
 no-message parsed.WrongContent k e = omega arith
 
--- src/delivery.rt:58:9
 check-image-size-requires : tie.Need-check-image-size-requires
 check-image-size-requires c κs = search needs
 
 enum-told : tie.Need-enum-told
 enum-told c = search needs
 
--- src/delivery.rt:60:9
 enum-told-2 : tie.Need-enum-told-2
 enum-told-2 c = search needs
 
--- src/delivery.rt:60:9
 returns : tie.Need-returns
 returns c =
     let a = c .before .before .before .before .before .before .args in
     size-case (a .image .now) (a .message .now) (a .steps .now) (sym (ap right (c .enum-told2 .given .1)) ∙ c .before .before .check-image-size .ensures)
 
--- src/delivery.rt:62:9
 check-step-room-requires : tie.Need-check-step-room-requires
 check-step-room-requires c κs = search needs
 
 enum-told-3 : tie.Need-enum-told-3
 enum-told-3 c = search needs
 
--- src/delivery.rt:64:9
 enum-told-4 : tie.Need-enum-told-4
 enum-told-4 c = search needs
 
--- src/delivery.rt:64:9
 returns-2 : tie.Need-returns-2
 returns-2 c =
     let a = c .before .before .before .before .before .before .before .before .before .args in
     room-case (a .image .now) (a .message .now) (a .steps .now) (sized (c .before .before .before)) (sym (ap right (c .enum-told4 .given .1)) ∙ c .before .before .check-step-room .ensures)
 
--- src/delivery.rt:66:9
 read-station-requires : tie.Need-read-station-requires
 read-station-requires c κs = eqb-true (length (c .before .before .before .before .before .before .before .before .before .before .args .image .now)) 16384 (sym (sized (c .before .before .before .before)))
 
 enum-told-5 : tie.Need-enum-told-5
 enum-told-5 c = search needs
 
--- src/delivery.rt:69:9
 enum-told-6 : tie.Need-enum-told-6
 enum-told-6 c = search needs
 
--- src/delivery.rt:69:9
 same-length : tie.Need-same-length
 same-length c = search needs
 
--- src/delivery.rt:69:9
 returns-3 : tie.Need-returns-3
 returns-3 c =
     let a = c .before .before .before .before .before .before .before .before .before .before .before .before .before .args in
     let r = c .before .before .read-station .result in
     image-case (a .image .now) (a .message .now) (a .steps .now) (sizes (c .before .before .before .before)) (judges-wrong (a .image .now) (r .check) (r .table) (r .places) (r .logged) (c .before .before .read-station .ensures) (c .enum-told6 .given .1))
 
--- src/delivery.rt:71:9
 parse-requires : tie.Need-parse-requires
 parse-requires c κs = search needs
 
--- src/delivery.rt:72:25
 enum-known-parsed : tie.Need-enum-known-parsed
 enum-known-parsed c = search needs
 
--- src/delivery.rt:73:9
 refuse-requires : tie.Need-refuse-requires
 refuse-requires c κs = search needs
 
--- src/delivery.rt:73:9
 same-length-2 : tie.Need-same-length-2
 same-length-2 c = search needs
 
--- src/delivery.rt:73:9
 returns-4 : tie.Need-returns-4
 returns-4 c =
     let a = c .before .before .before .before .before .before .before .before .before .before .before .before .before .before .before .before .args in
     ap (λ (d : Delivery). deliveredBy d (a .image .now) (a .steps .now)) (c .refuse .ensures)
     ∙ message-case (a .image .now) (a .message .now) (a .steps .now) (sizes (c .before .before .before .before .before .before .before)) (station-is (c .before .before .before) .image) (c .before .before .parse .result) (c .before .before .parse .ensures) (no-message (c .before .before .parse .result) (c .before .match4 .keys2))
 
--- src/delivery.rt:76:5
 take-in-requires : tie.Need-take-in-requires
 take-in-requires c κs =
     let a = c .before .before .before .before .before .before .before .before .before .before .before .before .before .before .before .before .before .before .before .before .args in
@@ -153,15 +129,12 @@ take-in-requires c κs =
       sequence = ap (λ (x : Header). sequenceNumber (x .sequence)) (p .header h refl) ∙ header-describes (a .message .now) .sequence;
     }
 
--- src/delivery.rt:55:1
 same-length-3 : tie.Need-same-length-3
 same-length-3 c = search needs
 
--- src/delivery.rt:55:1
 same-length-4 : tie.Need-same-length-4
 same-length-4 c = search needs
 
--- src/delivery.rt:55:1
 returns-5 : tie.Need-returns-5
 returns-5 c = search needs
 

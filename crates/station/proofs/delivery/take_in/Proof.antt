@@ -1,3 +1,4 @@
+-- A message whose sequence is there is compared with the one that is there; another is taken in at its place.
 use mathlib.Core.Path.{_≡_, sym, _∙_, ap, subst}
 use Prim.Native.Nat.{ℕ, _≤_, _<_}
 use native.Mathlib.Omega.{arith}
@@ -16,11 +17,6 @@ use Rattle.station.specs.PlaceCases.{present-case}
 use borrow.Author.Needs.{needs}
 use Rattle.station.proofs.delivery.take_in.Statement.{statement}
 use Rattle.station.proofs.delivery.take_in.Tie as tie
-use Rattle.station.proofs.delivery.take_in.Reads as reads
-use Rattle.station.proofs.delivery.take_in.Lts as lts
-use Rattle.station.proofs.delivery.accept_new.Reads as accept-new-reads
-use Rattle.station.proofs.refusing.judge_repeat.Reads as judge-repeat-reads
-use Rattle.table.proofs.places.find.Reads as find-reads
 
 -- the array's length
 starts-size : (c : tie.Start) → length (c .args .station .table .starts) ≡ 64
@@ -34,99 +30,115 @@ used c =
     let f : t .count ≤ 64 = c .pre .judged .table .fits in
     length-take-le (t .count) (t .starts) (omega arith)
 
+-- the call as it began, from where the place is found; and what was found, from where its place is known
+abbrev start : tie.After-find → tie.Start
+start f = f .before .before .before .before .before .before .before .before
+
+abbrev sought : tie.After-known-told → tie.After-find
+sought k = k .before .before .before
+
 -- what was found, of the message's own sequence
-found : (c : tie.After-find) → Finds (c .before .before .before .before .before .before .before .before .args .image .now) (startsOf (c .before .before .before .before .before .before .before .before .args .station .table)) (sequenceOf (c .before .before .before .before .before .before .before .before .args .message .now)) (c .find .result)
-found c =
-    let a = c .before .before .before .before .before .before .before .before .args in
-    subst (λ (n : ℕ). Finds (a .image .now) (startsOf (a .station .table)) n (c .find .result)) (c .before .before .before .before .before .before .before .before .pre .sequence) (c .find .ensures)
+found : (f : tie.After-find) → Finds (start f .args .image .now) (startsOf (start f .args .station .table)) (sequenceOf (start f .args .message .now)) (f .find .result)
+found f =
+    let a = start f .args in
+    subst (λ (n : ℕ). Finds (a .image .now) (startsOf (a .station .table)) n (f .find .result)) (start f .pre .sequence) (f .find .ensures)
 
 -- the sequence is there
-present : (c : tie.After-known-told) → IsPresent (c .before .before .before .before .before .before .before .before .before .before .before .args .image .now) (startsOf (c .before .before .before .before .before .before .before .before .before .before .before .args .station .table)) (sequenceOf (c .before .before .before .before .before .before .before .before .before .before .before .args .message .now)) (c .before .place .given .0 .0)
-present c =
-    let a = c .before .before .before .before .before .before .before .before .before .before .before .args in
-    subst (λ (r : Place). Finds (a .image .now) (startsOf (a .station .table)) (sequenceOf (a .message .now)) r) (c .before .place .given .1) (found (c .before .before .before))
+present : (k : tie.After-known-told) → IsPresent (start (sought k) .args .image .now) (startsOf (start (sought k) .args .station .table)) (sequenceOf (start (sought k) .args .message .now)) (k .before .place .given .0 .0)
+present k =
+    let a = start (sought k) .args in
+    subst (λ (r : Place). Finds (a .image .now) (startsOf (a .station .table)) (sequenceOf (a .message .now)) r) (k .before .place .given .1) (found (sought k))
 
--- or it is new
-absent : (c : tie.After-known-told2) → IsAbsent (c .before .before .before .before .before .before .before .before .before .before .before .args .image .now) (startsOf (c .before .before .before .before .before .before .before .before .before .before .before .args .station .table)) (sequenceOf (c .before .before .before .before .before .before .before .before .before .before .before .args .message .now)) (c .before .place2 .given .0 .0)
-absent c =
-    let a = c .before .before .before .before .before .before .before .before .before .before .before .args in
-    subst (λ (r : Place). Finds (a .image .now) (startsOf (a .station .table)) (sequenceOf (a .message .now)) r) (c .before .place2 .given .1) (found (c .before .before .before))
+-- the place is one of those in use
+below : (k : tie.After-known-told) → k .before .place .given .0 .0 < start (sought k) .args .station .table .count
+below k = omega (arith, present k .inside, used (start (sought k)))
 
--- the place is one of the array, and what starts there is the table's
-inside : (c : tie.After-known-told) → c .before .place .given .0 .0 < 64
-inside c = let f : c .before .before .before .before .before .before .before .before .before .before .before .args .station .table .count ≤ 64 = c .before .before .before .before .before .before .before .before .before .before .before .pre .judged .table .fits in omega (arith, present c .inside, used (c .before .before .before .before .before .before .before .before .before .before .before))
+-- so it is one of the array, and what starts there is the table's
+inside : (k : tie.After-known-told) → k .before .place .given .0 .0 < 64
+inside k =
+    let s = start (sought k) in
+    let f : s .args .station .table .count ≤ 64 = s .pre .judged .table .fits in
+    omega (arith, below k)
 
-start-at : (c : tie.After-known-told) → getD (startsOf (c .before .before .before .before .before .before .before .before .before .before .before .args .station .table)) (c .before .place .given .0 .0) 0 ≡ getD (c .before .before .before .before .before .before .before .before .before .before .before .args .station .table .starts) (c .before .place .given .0 .0) 0
-start-at c = getD-take (c .before .before .before .before .before .before .before .before .before .before .before .args .station .table .count) (c .before .before .before .before .before .before .before .before .before .before .before .args .station .table .starts) (c .before .place .given .0 .0) 0 (omega (arith, present c .inside, used (c .before .before .before .before .before .before .before .before .before .before .before)))
+start-at : (k : tie.After-known-told) → getD (startsOf (start (sought k) .args .station .table)) (k .before .place .given .0 .0) 0 ≡ getD (start (sought k) .args .station .table .starts) (k .before .place .given .0 .0) 0
+start-at k =
+    let t = start (sought k) .args .station .table in
+    getD-take (t .count) (t .starts) (k .before .place .given .0 .0) 0 (below k)
 
--- src/delivery.rt:46:29
+-- the message that starts there lies inside the image
+lies : (k : tie.After-known-told) → Lies (start (sought k) .args .image .now) (getD (start (sought k) .args .station .table .starts) (k .before .place .given .0 .0) 0)
+lies k =
+    let s = start (sought k) in
+    let a = s .args in
+    subst (λ (n : ℕ). Lies (a .image .now) n) (start-at k)
+    (stands (a .image .now) (startsOf (a .station .table)) (s .pre .judged .table .holds) (k .before .place .given .0 .0) (present k .inside) .lies)
+
 array-share-prefix-starts : tie.Need-array-share-prefix-starts
 array-share-prefix-starts c =
-    let e : length (c .before .before .before .before .before .before .args .station .table .starts) ≡ 64 = starts-size (c .before .before .before .before .before .before) in
-    let f : c .before .before .before .before .before .before .args .station .table .count ≤ 64 = c .before .before .before .before .before .before .pre .judged .table .fits in
+    let s = c .before .before .before .before .before .before in
+    let e : length (s .args .station .table .starts) ≡ 64 = starts-size s in
+    let f : s .args .station .table .count ≤ 64 = s .pre .judged .table .fits in
     omega arith
 
--- src/delivery.rt:46:29
 slice-aggregate-find : tie.Need-slice-aggregate-find
-slice-aggregate-find c = sym (used (c .before .before .before .before .before .before .before))
+slice-aggregate-find c = let s = c .before .before .before .before .before .before .before in sym (used s)
 
--- src/delivery.rt:46:9
 find-requires : tie.Need-find-requires
-find-requires c κs = c .before .before .before .before .before .before .before .pre .judged .table .holds
+find-requires c κs = let s = c .before .before .before .before .before .before .before in s .pre .judged .table .holds
 
--- src/delivery.rt:48:24
 enum-known-place : tie.Need-enum-known-place
 enum-known-place c = search needs
 
--- src/delivery.rt:48:50
 mul-judge-repeat : tie.Need-mul-judge-repeat
 mul-judge-repeat c = omega (arith, inside (c .before))
 
--- src/delivery.rt:48:50
 array-read-judge-repeat : tie.Need-array-read-judge-repeat
 array-read-judge-repeat c = omega (arith, inside (c .before))
 
--- src/delivery.rt:48:30
-judge-repeat-requires : tie.Need-judge-repeat-requires
-judge-repeat-requires c κs =
-    let a = c .before .before .before .before .before .before .before .before .before .before .before .before .args in
-    subst (λ (n : ℕ). Lies (a .image .now) n) (start-at (c .before))
-    (stands (a .image .now) (startsOf (a .station .table)) (c .before .before .before .before .before .before .before .before .before .before .before .before .pre .judged .table .holds) (c .before .before .place .given .0 .0) (present (c .before) .inside) .lies)
+cast-judge-repeat : tie.Need-cast-judge-repeat
+cast-judge-repeat c =
+    let s = start (sought (c .before)) in
+    let h : getD (s .args .station .table .starts) (c .before .before .place .given .0 .0) 0 ≤ 16384 = omega (arith, lies (c .before) .inside, s .pre .size) in
+    omega (arith, h)
 
--- src/delivery.rt:49:23
+judge-repeat-requires : tie.Need-judge-repeat-requires
+judge-repeat-requires c κs = lies (c .before)
+
 enum-known-place-2 : tie.Need-enum-known-place-2
 enum-known-place-2 c = search needs
 
--- src/delivery.rt:49:29
+-- the sequence is new
+absent : (k : tie.After-known-told2) → IsAbsent (start (k .before .before .before) .args .image .now) (startsOf (start (k .before .before .before) .args .station .table)) (sequenceOf (start (k .before .before .before) .args .message .now)) (k .before .place2 .given .0 .0)
+absent k =
+    let f = k .before .before .before in
+    let a = start f .args in
+    subst (λ (r : Place). Finds (a .image .now) (startsOf (a .station .table)) (sequenceOf (a .message .now)) r) (k .before .place2 .given .1) (found f)
+
 accept-new-requires : tie.Need-accept-new-requires
 accept-new-requires c κs =
-    let pre = c .before .before .before .before .before .before .before .before .before .before .before .before .before .pre in
-    record { size = pre .size; steps-room = pre .steps-room; judged = pre .judged; right = pre .right; absent = absent (c .before .before) }
+    let k = c .before .before in
+    let pre = start (k .before .before .before) .pre in
+    record { size = pre .size; steps-room = pre .steps-room; judged = pre .judged; right = pre .right; absent = absent k }
 
--- src/delivery.rt:39:1
 same-length : tie.Need-same-length
 same-length c = search needs
 
--- src/delivery.rt:39:1
 returns : tie.Need-returns
 returns c =
-    let start = c .before .before .before .before .before .before .before .before .before .before .before .before .before in
-    let a = start .args in
-    let pre = start .pre in
-    let i = c .before .before .before .place .given .0 .0 in
+    let k = c .before .before in
+    let s = start (sought k) in
+    let a = s .args in
+    let pre = s .pre in
     ap (λ (d : Delivery). deliveredBy d (a .image .now) (a .steps .now)) (c .judge-repeat .ensures)
-    ∙ ap (λ (n : ℕ). deliveredBy (repeatOf (same (messageFrom (a .image .now) n) (a .message .now))) (a .image .now) (a .steps .now)) (sym (start-at (c .before .before)))
-    ∙ present-case (a .image .now) (a .message .now) (a .steps .now) (a .station) (pre .size) (pre .steps-room) (pre .judged) (pre .right) i (present (c .before .before))
+    ∙ ap (λ (n : ℕ). deliveredBy (repeatOf (same (messageFrom (a .image .now) n) (a .message .now))) (a .image .now) (a .steps .now)) (sym (start-at k))
+    ∙ present-case (a .image .now) (a .message .now) (a .steps .now) (a .station) (pre .size) (pre .steps-room) (pre .judged) (pre .right) (k .before .place .given .0 .0) (present k)
 
--- src/delivery.rt:39:1
 same-length-2 : tie.Need-same-length-2
 same-length-2 c = search needs
 
--- src/delivery.rt:39:1
 same-length-3 : tie.Need-same-length-3
 same-length-3 c = search needs
 
--- src/delivery.rt:39:1
 returns-2 : tie.Need-returns-2
 returns-2 c = search needs
 
@@ -140,6 +152,7 @@ take-in-spec =
     enum-known-place
     mul-judge-repeat
     array-read-judge-repeat
+    cast-judge-repeat
     judge-repeat-requires
     enum-known-place-2
     accept-new-requires

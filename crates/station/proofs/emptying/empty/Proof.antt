@@ -6,39 +6,29 @@ use Rattle.station.specs.EmptyCases.{empty-wrong, empty-done}
 use borrow.Author.Needs.{needs}
 use Rattle.station.proofs.emptying.empty.Statement.{statement}
 use Rattle.station.proofs.emptying.empty.Tie as tie
-use Rattle.station.proofs.emptying.empty.Reads as reads
-use Rattle.station.proofs.emptying.empty.Lts as lts
-use Rattle.image.proofs.put_empty.Reads as put-empty-reads
-use Rattle.station.proofs.refusing.check_image_size.Reads as check-image-size-reads
 
--- src/emptying.rt:14:9
 check-image-size-requires : tie.Need-check-image-size-requires
 check-image-size-requires c κs = search needs
 
 enum-told : tie.Need-enum-told
 enum-told c = search needs
 
--- src/emptying.rt:16:9
 enum-told-2 : tie.Need-enum-told-2
 enum-told-2 c = search needs
 
--- src/emptying.rt:16:9
 returns : tie.Need-returns
 returns c =
     let wrong = sym (ap right (c .enum-told2 .given .1)) ∙ c .before .before .check-image-size .ensures in
     empty-wrong (c .before .before .before .before .args .image .now) wrong
 
--- src/emptying.rt:18:5
 put-empty-requires : tie.Need-put-empty-requires
 put-empty-requires c κs =
     let sized = sym (ap right (c .before .enum-told .given .1)) ∙ c .before .before .before .check-image-size .ensures in
     eqb-true (length (c .before .before .before .before .before .args .image .now)) 16384 (sym sized)
 
--- src/emptying.rt:11:1
 same-length : tie.Need-same-length
 same-length c = search needs
 
--- src/emptying.rt:11:1
 returns-2 : tie.Need-returns-2
 returns-2 c =
     let sized = sym (ap right (c .before .before .before .before .enum-told .given .1)) ∙ c .before .before .before .before .before .before .check-image-size .ensures in

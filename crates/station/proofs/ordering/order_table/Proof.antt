@@ -7,36 +7,27 @@ use Rattle.steps.specs.NameLaws.{getD-in}
 use borrow.Author.Needs.{needs}
 use Rattle.station.proofs.ordering.order_table.Statement.{statement}
 use Rattle.station.proofs.ordering.order_table.Tie as tie
-use Rattle.station.proofs.ordering.order_table.Reads as reads
-use Rattle.station.proofs.ordering.order_table.Lts as lts
-use Rattle.log.proofs.listing.order.Reads as order-reads
-use Rattle.log.proofs.log_order.LogOrder.begin.Reads as begin-reads
 
--- src/ordering.rt:24:9
 begin-requires : tie.Need-begin-requires
 begin-requires c κs = search needs
 
--- src/ordering.rt:25:17
 array-share-prefix-starts : tie.Need-array-share-prefix-starts
 array-share-prefix-starts c =
     let t = c .before .before .before .args .table in
     let e : length (t .starts) ≡ 64 = search needs in
     omega arith
 
--- src/ordering.rt:25:17
 slice-aggregate-order : tie.Need-slice-aggregate-order
 slice-aggregate-order c =
     let t = c .before .before .before .before .args .table in
     let e : length (t .starts) ≡ 64 = search needs in
     sym (length-take-le (t .count) (t .starts) (omega arith))
 
--- src/ordering.rt:25:5
 order-requires : tie.Need-order-requires
 order-requires c κs =
     let begun = c .before .begin .ensures in
     (c .before .before .before .before .pre .holds, begun .right, begun .none)
 
--- src/ordering.rt:18:1
 returns : tie.Need-returns
 returns c =
     let placed = c .order .ensures in

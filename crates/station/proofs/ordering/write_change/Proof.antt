@@ -6,53 +6,43 @@ use Rattle.station.specs.AcceptLaws.{common-places}
 use borrow.Author.Needs.{needs}
 use Rattle.station.proofs.ordering.write_change.Statement.{statement}
 use Rattle.station.proofs.ordering.write_change.Tie as tie
-use Rattle.station.proofs.ordering.write_change.Reads as reads
-use Rattle.station.proofs.ordering.write_change.Lts as lts
-use Rattle.steps.proofs.write_steps.Reads as write-steps-reads
 
--- src/ordering.rt:56:30
 array-share-prefix-starts : tie.Need-array-share-prefix-starts
 array-share-prefix-starts c =
     let t = c .before .before .before .before .before .before .args .table in
     let e : length (t .starts) ≡ 64 = search needs in
     omega arith
 
--- src/ordering.rt:56:30
 slice-aggregate-write-steps : tie.Need-slice-aggregate-write-steps
 slice-aggregate-write-steps c =
     let t = c .before .before .before .before .before .before .before .args .table in
     let e : length (t .starts) ≡ 64 = search needs in
     sym (length-take-le (t .count) (t .starts) (omega arith))
 
--- src/ordering.rt:56:48
 array-share-prefix-old : tie.Need-array-share-prefix-old
 array-share-prefix-old c =
     let o = c .before .before .before .before .before .before .before .args .order in
     let e : length (o .old) ≡ 64 = search needs in
     omega arith
 
--- src/ordering.rt:56:48
 slice-aggregate-write-steps-2 : tie.Need-slice-aggregate-write-steps-2
 slice-aggregate-write-steps-2 c =
     let o = c .before .before .before .before .before .before .before .before .args .order in
     let e : length (o .old) ≡ 64 = search needs in
     sym (length-take-le (o .«old_count») (o .old) (omega arith))
 
--- src/ordering.rt:56:67
 array-share-prefix-places : tie.Need-array-share-prefix-places
 array-share-prefix-places c =
     let o = c .before .before .before .before .before .before .before .before .args .order in
     let e : length (o .places) ≡ 64 = search needs in
     omega arith
 
--- src/ordering.rt:56:67
 slice-aggregate-write-steps-3 : tie.Need-slice-aggregate-write-steps-3
 slice-aggregate-write-steps-3 c =
     let o = c .before .before .before .before .before .before .before .before .before .args .order in
     let e : length (o .places) ≡ 64 = search needs in
     sym (length-take-le (o .count) (o .places) (omega arith))
 
--- src/ordering.rt:56:5
 write-steps-requires : tie.Need-write-steps-requires
 write-steps-requires c κs =
     let h = c .before .before .before .before .before .before .before .before .before .pre in
@@ -64,11 +54,9 @@ write-steps-requires c κs =
       room = h .steps-fit;
     }
 
--- src/ordering.rt:46:1
 same-length : tie.Need-same-length
 same-length c = search needs
 
--- src/ordering.rt:46:1
 returns : tie.Need-returns
 returns c = search needs
 

@@ -5,46 +5,36 @@ use lib.Seq.{length-take-le}
 use borrow.Author.Needs.{needs}
 use Rattle.station.proofs.ordering.write_table.Statement.{statement}
 use Rattle.station.proofs.ordering.write_table.Tie as tie
-use Rattle.station.proofs.ordering.write_table.Reads as reads
-use Rattle.station.proofs.ordering.write_table.Lts as lts
-use Rattle.image.proofs.write_image.Reads as write-image-reads
 
--- src/ordering.rt:42:28
 array-share-prefix-starts : tie.Need-array-share-prefix-starts
 array-share-prefix-starts c =
     let t = c .before .before .before .before .args .table in
     let e : length (t .starts) ≡ 64 = search needs in
     omega arith
 
--- src/ordering.rt:42:28
 slice-aggregate-write-image : tie.Need-slice-aggregate-write-image
 slice-aggregate-write-image c =
     let t = c .before .before .before .before .before .args .table in
     let e : length (t .starts) ≡ 64 = search needs in
     sym (length-take-le (t .count) (t .starts) (omega arith))
 
--- src/ordering.rt:42:46
 array-share-prefix-places : tie.Need-array-share-prefix-places
 array-share-prefix-places c = search needs
 
--- src/ordering.rt:42:46
 slice-aggregate-write-image-2 : tie.Need-slice-aggregate-write-image-2
 slice-aggregate-write-image-2 c =
     let a = c .before .before .before .before .before .before .args in
     let e : length (a .t4) ≡ 64 = search needs in
     sym (length-take-le (a .logged) (a .t4) (omega arith))
 
--- src/ordering.rt:42:5
 write-image-requires : tie.Need-write-image-requires
 write-image-requires c κs =
     let h = c .before .before .before .before .before .before .pre in
     record { size = h .size; listed = record { holds = h .holds; log = h .log .log } }
 
--- src/ordering.rt:36:1
 same-length : tie.Need-same-length
 same-length c = search needs
 
--- src/ordering.rt:36:1
 returns : tie.Need-returns
 returns c = search needs
 

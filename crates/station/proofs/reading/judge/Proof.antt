@@ -7,33 +7,22 @@ use Rattle.station.specs.ReadLaws.{judged}
 use borrow.Author.Needs.{needs}
 use Rattle.station.proofs.reading.judge.Statement.{statement}
 use Rattle.station.proofs.reading.judge.Tie as tie
-use Rattle.station.proofs.reading.judge.Reads as reads
-use Rattle.station.proofs.reading.judge.Lts as lts
-use Rattle.buffer.proofs.same.Reads as same-reads
-use Rattle.station.proofs.ordering.order_table.Reads as order-table-reads
-use Rattle.station.proofs.ordering.write_table.Reads as write-table-reads
 
--- src/reading.rt:28:9
 order-table-requires : tie.Need-order-table-requires
 order-table-requires c κs = search needs
 
--- src/reading.rt:32:17
 slice-aggregate-write-table : tie.Need-slice-aggregate-write-table
 slice-aggregate-write-table c = search needs
 
--- src/reading.rt:32:5
 write-table-requires : tie.Need-write-table-requires
 write-table-requires c κs = search needs
 
--- src/reading.rt:33:13
 slice-aggregate-same : tie.Need-slice-aggregate-same
 slice-aggregate-same c = search needs
 
--- src/reading.rt:33:8
 same-requires : tie.Need-same-requires
 same-requires c κs = search needs
 
--- src/reading.rt:34:9
 returns : tie.Need-returns
 returns c =
     let start = c .before .before .before .before .before .before .before .before .before in
@@ -43,7 +32,6 @@ returns c =
     let is = judged b t (start .pre .1) ∙ ap (λ (i : List ℕ). same i b) (sym (c .before .before .before .before .write-table .ensures)) ∙ sym (c .before .same .ensures) ∙ c .if1 .taken in
     record { image = subst T (sym is) tt; table = start .pre .1; log = ordered .log; fits = ordered .right .news }
 
--- src/reading.rt:24:1
 returns-2 : tie.Need-returns-2
 returns-2 c =
     let start = c .before .before .before .before .before .before .before .before .before in

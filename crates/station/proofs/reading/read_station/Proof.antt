@@ -2,35 +2,26 @@ use Rattle.station.specs.ReadLaws.{read-wrong, read-right}
 use borrow.Author.Needs.{needs}
 use Rattle.station.proofs.reading.read_station.Statement.{statement}
 use Rattle.station.proofs.reading.read_station.Tie as tie
-use Rattle.station.proofs.reading.read_station.Reads as reads
-use Rattle.station.proofs.reading.read_station.Lts as lts
-use Rattle.station.proofs.reading.judge.Reads as judge-reads
-use Rattle.table.proofs.reading.read_table.Reads as read-table-reads
 
--- src/reading.rt:54:9
 read-table-requires : tie.Need-read-table-requires
 read-table-requires c κs = search needs
 
 enum-told : tie.Need-enum-told
 enum-told c = search needs
 
--- src/reading.rt:59:20
 enum-told-2 : tie.Need-enum-told-2
 enum-told-2 c = search needs
 
--- src/reading.rt:58:9
 returns : tie.Need-returns
 returns c =
     let r = c .before .before .before .read-table .result in
     read-wrong (c .before .before .before .before .before .args .b .now) (r .check) (r .table) (c .before .before .before .read-table .ensures) (c .enum-told2 .given .1)
 
--- src/reading.rt:65:5
 judge-requires : tie.Need-judge-requires
 judge-requires c κs =
     let r = c .before .before .before .read-table .result in
     (c .before .before .before .before .before .pre, read-right (c .before .before .before .before .before .args .b .now) (r .check) (r .table) (c .before .before .before .read-table .ensures) (c .enum-told .given .1))
 
--- src/reading.rt:50:1
 returns-2 : tie.Need-returns-2
 returns-2 c = search needs
 

@@ -1,14 +1,10 @@
 use borrow.Author.Tests.{eq-eqb, ne-eqb}
 use Rattle.station.proofs.refusing.check_image_size.Statement.{statement}
 use Rattle.station.proofs.refusing.check_image_size.Tie as tie
-use Rattle.station.proofs.refusing.check_image_size.Reads as reads
-use Rattle.station.proofs.refusing.check_image_size.Lts as lts
 
--- src/refusing.rt:26:9
 returns : tie.Need-returns
 returns c = simp (ne-eqb _ _ (c .if1 .taken))
 
--- src/refusing.rt:22:1
 returns-2 : tie.Need-returns-2
 returns-2 c = simp (eq-eqb _ _ (c .if1 .left))
 

@@ -3,48 +3,34 @@ use Rattle.station.specs.RefuseLaws.{repeat-answer}
 use borrow.Author.Needs.{needs}
 use Rattle.station.proofs.refusing.judge_repeat.Statement.{statement}
 use Rattle.station.proofs.refusing.judge_repeat.Tie as tie
-use Rattle.station.proofs.refusing.judge_repeat.Reads as reads
-use Rattle.station.proofs.refusing.judge_repeat.Lts as lts
-use Rattle.buffer.proofs.get_u16.Reads as get-u16-reads
-use Rattle.buffer.proofs.same.Reads as same-reads
 
--- src/refusing.rt:52:35
 add-get-u16 : tie.Need-add-get-u16
 add-get-u16 c = omega arith
 
--- src/refusing.rt:52:21
 get-u16-requires : tie.Need-get-u16-requires
 get-u16-requires c κs = omega arith
 
--- src/refusing.rt:52:21
 cast-end : tie.Need-cast-end
 cast-end c = search needs
 
--- src/refusing.rt:52:15
 add-end : tie.Need-add-end
 add-end c = omega arith
 
--- src/refusing.rt:53:13
 sub-same : tie.Need-sub-same
 sub-same c = search needs
 
--- src/refusing.rt:53:13
 part-same-start : tie.Need-part-same-start
 part-same-start c = search needs
 
--- src/refusing.rt:53:13
 part-same-end : tie.Need-part-same-end
 part-same-end c = omega arith
 
--- src/refusing.rt:53:8
 same-requires : tie.Need-same-requires
 same-requires c κs = search needs
 
--- src/refusing.rt:54:9
 returns : tie.Need-returns
 returns c = repeat-answer _ _ _ _ (c .before .same .ensures) (c .before .before .before .get-u16 .ensures .0) (c .if1 .taken)
 
--- src/refusing.rt:48:1
 returns-2 : tie.Need-returns-2
 returns-2 c = repeat-answer _ _ _ _ (c .before .same .ensures) (c .before .before .before .get-u16 .ensures .0) (c .if1 .left)
 

@@ -1,3 +1,4 @@
+-- A place from p on is one more, a place before p stays.
 use borrow.Author.Tests.{le-leb, lt-leb}
 use native.Mathlib.Numerals.{add-one}
 use borrow.Author.Needs.{needs}

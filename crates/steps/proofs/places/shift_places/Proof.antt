@@ -21,9 +21,6 @@ abbrev μ-loop : tie.MeasureT-loop
 loop-holds : tie.Need-loop-holds Inv-loop μ-loop
 loop-holds c = (search needs, (refl, search needs))
 
-mul-shift-place : tie.Need-mul-shift-place Inv-loop μ-loop
-mul-shift-place c = search needs
-
 array-read-shift-place : tie.Need-array-read-shift-place Inv-loop μ-loop
 array-read-shift-place c = search needs
 
@@ -34,9 +31,6 @@ shift-place-requires c κs =
     let here : i < s .args .count = omega arith in
     let size : length (take (s .args .count) (s .args .t1)) ≡ s .args .count = length-take-le (s .args .count) (s .args .t1) (omega arith) in
     omega (arith, s .pre .1 i (omega arith), getD-take (s .args .count) (s .args .t1) i 0 here)
-
-mul-moved : tie.Need-mul-moved Inv-loop μ-loop
-mul-moved c = search needs
 
 array-write-moved : tie.Need-array-write-moved Inv-loop μ-loop
 array-write-moved c = search needs
@@ -72,10 +66,8 @@ shift-places-spec =
     Inv-loop
     μ-loop
     loop-holds
-    mul-shift-place
     array-read-shift-place
     shift-place-requires
-    mul-moved
     array-write-moved
     add-i
     loop-less

@@ -1,3 +1,4 @@
+-- The invariant: the starts from i on stand one further on, those before it where they were.
 use Prim.Native.Nat.{ℕ, _≤_}
 use mathlib.Core.Path.{_≡_, refl, subst}
 use lib.ListN.{length}

@@ -1,3 +1,4 @@
+-- The message is cut by its length field; what does not fit, or does not parse, fails 3 to 6.
 use mathlib.Core.Path.{_≡_, subst}
 use mathlib.Core.Logic.{⊎-elim}
 use mathlib.Core.List.{[], _∷_}
@@ -54,10 +55,14 @@ parse-requires c κs = search needs
 enum-known-parsed : tie.Need-enum-known-parsed
 enum-known-parsed c = search needs
 
+-- the call as it began
+abbrev start : tie.After-parse → tie.Start
+start p = p .before .before .before .before .before .before
+
 -- what was parsed is the message that starts at the place
-parsed-here : (c : tie.After-parse) → Parses (messageFrom (c .before .before .before .before .before .before .args .b .now) (c .before .before .before .before .before .before .args .at)) (c .parse .result)
+parsed-here : (c : tie.After-parse) → Parses (messageFrom (start c .args .b .now) (start c .args .at)) (c .parse .result)
 parsed-here c =
-    let a = c .before .before .before .before .before .before .args in
+    let a = start c .args in
     let n = c .before .before .before .get-u16 in
     let e : a .at + n .result - a .at ≡ field (a .b .now) (a .at + 4) 2 = omega arith in
     subst (λ (x : ℕ). Parses (take x (drop (a .at) (a .b .now))) (c .parse .result)) e (c .parse .ensures)
@@ -72,16 +77,17 @@ no-message parsed.WrongContent k e = omega arith
 
 returns-3 : tie.Need-returns-3
 returns-3 c =
-    let a = c .before .before .before .before .before .before .before .args in
+    let a = start (c .before) .args in
     refused-fails (messageFrom (a .b .now) (a .at)) (c .before .parse .result) (parsed-here (c .before)) (no-message (c .before .parse .result) (c .match .keys2))
 
 returns-4 : tie.Need-returns-4
 returns-4 c =
-    let a = c .before .before .before .before .before .before .before .before .before .before .args in
+    let q = c .before .before .before .before in
+    let a = start q .args in
     let h = c .before .before .parsed .given .0 .0 in
-    let p : Parses (messageFrom (a .b .now) (a .at)) (parsed.Message h) = subst (λ (r : Parsed). Parses (messageFrom (a .b .now) (a .at)) r) (c .before .before .parsed .given .1) (parsed-here (c .before .before .before .before)) in
+    let p : Parses (messageFrom (a .b .now) (a .at)) (parsed.Message h) = subst (λ (r : Parsed). Parses (messageFrom (a .b .now) (a .at)) r) (c .before .before .parsed .given .1) (parsed-here q) in
     let m = parsed-accepted (messageFrom (a .b .now) (a .at)) h p in
-    (record { pass = m .pass; sequence = m .sequence }, c .before .before .before .before .before .before .before .get-u16 .ensures .0)
+    (record { pass = m .pass; sequence = m .sequence }, q .before .before .before .get-u16 .ensures .0)
 
 pub read-message-spec : {M : Type 1} → statement M
 read-message-spec =

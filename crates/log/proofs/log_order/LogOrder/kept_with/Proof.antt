@@ -1,3 +1,4 @@
+-- The common start grows by one only where it is the whole new log so far, and the old one goes on with the same place.
 use mathlib.Core.Path.{_≡_}
 use lib.ListN.{length}
 use Rattle.log.specs.LogOrderLaws.{kept-parted, kept-past, kept-other, kept-more}
@@ -5,44 +6,41 @@ use borrow.Author.Needs.{needs}
 use Rattle.log.proofs.log_order.LogOrder.kept_with.Statement.{statement}
 use Rattle.log.proofs.log_order.LogOrder.kept_with.Tie as tie
 
+olds : (s : tie.Start) → length (s .args .t1 .old) ≡ 64
+olds s = search needs
+
+news : (s : tie.Start) → length (s .args .t1 .places) ≡ 64
+news s = search needs
+
 returns : tie.Need-returns
 returns c =
-    let o = c .before .args .t1 in
-    let olds : length (o .old) ≡ 64 = search needs in
-    let news : length (o .places) ≡ 64 = search needs in
-    kept-parted o olds news (c .before .pre) (c .before .args .i) (c .if1 .taken)
+    let s = c .before in
+    kept-parted (s .args .t1) (olds s) (news s) (s .pre) (s .args .i) (c .if1 .taken)
 
 returns-2 : tie.Need-returns-2
 returns-2 c =
-    let o = c .before .before .args .t1 in
-    let olds : length (o .old) ≡ 64 = search needs in
-    let news : length (o .places) ≡ 64 = search needs in
-    kept-past o olds news (c .before .before .pre) (c .before .before .args .i) (c .if2 .taken)
-
-mul-if3 : tie.Need-mul-if3
-mul-if3 c = search needs
+    let s = c .before .before in
+    kept-past (s .args .t1) (olds s) (news s) (s .pre) (s .args .i) (c .if2 .taken)
 
 element-copy-out-if3 : tie.Need-element-copy-out-if3
 element-copy-out-if3 c = search needs
 
 returns-3 : tie.Need-returns-3
 returns-3 c =
-    let o = c .before .before .before .before .args .t1 in
-    let olds : length (o .old) ≡ 64 = search needs in
-    let news : length (o .places) ≡ 64 = search needs in
-    kept-other o olds news (c .before .before .before .before .pre) (c .before .before .before .before .args .i) (c .before .before .before .if1 .left) (c .before .before .if2 .left) (c .if3 .taken)
+    let past = c .before .before in
+    let s = past .before .before in
+    kept-other (s .args .t1) (olds s) (news s) (s .pre) (s .args .i) (past .before .if1 .left) (past .if2 .left) (c .if3 .taken)
 
 add-result : tie.Need-add-result
 add-result c = search needs
 
 returns-4 : tie.Need-returns-4
 returns-4 c =
-    let o = c .before .before .before .before .args .t1 in
-    let olds : length (o .old) ≡ 64 = search needs in
-    let news : length (o .places) ≡ 64 = search needs in
-    kept-more o olds news (c .before .before .before .before .pre) (c .before .before .before .before .args .i) (c .before .before .before .if1 .left) (c .before .before .if2 .left) (c .if3 .left)
+    let past = c .before .before in
+    let s = past .before .before in
+    kept-more (s .args .t1) (olds s) (news s) (s .pre) (s .args .i) (past .before .if1 .left) (past .if2 .left) (c .if3 .left)
 
 pub kept-with-spec : {M : Type 1} → statement M
 kept-with-spec =
     tie.close
-    (tie.spec returns returns-2 mul-if3 element-copy-out-if3 returns-3 add-result returns-4)
+    (tie.spec returns returns-2 element-copy-out-if3 returns-3 add-result returns-4)

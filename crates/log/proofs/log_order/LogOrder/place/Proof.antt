@@ -1,3 +1,4 @@
+-- The place goes behind the new log's last, and `kept_with` says how many are kept with it.
 use mathlib.Core.Path.{_≡_}
 use lib.ListN.{length}
 use Rattle.log.specs.LogOrderLaws.{placed}
@@ -7,9 +8,6 @@ use Rattle.log.proofs.log_order.LogOrder.place.Tie as tie
 
 kept-with-requires : tie.Need-kept-with-requires
 kept-with-requires c κs = search needs
-
-mul-next : tie.Need-mul-next
-mul-next c = search needs
 
 element-write-next : tie.Need-element-write-next
 element-write-next c = search needs
@@ -25,4 +23,4 @@ returns c =
     placed o olds news (c .before .pre .0) (c .before .args .i) (c .kept-with .result) (c .before .pre .1) (c .kept-with .ensures)
 
 pub place-spec : {M : Type 1} → statement M
-place-spec = tie.close (tie.spec kept-with-requires mul-next element-write-next add-next returns)
+place-spec = tie.close (tie.spec kept-with-requires element-write-next add-next returns)
