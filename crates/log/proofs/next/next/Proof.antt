@@ -1,45 +1,51 @@
--- The invariant: the best so far is that of the deltas from i on.
-use native.Mathlib.Omega.{arith}
-use Rattle.log.specs.Next.{Looked}
-use Rattle.log.specs.NextLaws.{looked-none, found-within, looked-more, looked-all}
 use Rattle.log.proofs.next.next.Statement.{statement}
 use Rattle.log.proofs.next.next.Tie as tie
+use Rattle.log.proofs.next.next.Reads as reads
+use Rattle.log.proofs.next.next.Lts as lts
+use Rattle.log.proofs.candidate.candidate.Reads as candidate-reads
+use Rattle.log.proofs.candidate.lower.Reads as lower-reads
 
 abbrev Inv-loop : tie.InvT-loop
-Inv-loop pool starts needs placed blocks best₀ i₀ best i = Looked pool starts placed blocks i best
+Inv-loop pool starts rows counts placed keys best₀ i₀ best i = ?
 
 abbrev μ-loop : tie.MeasureT-loop
-μ-loop pool starts needs placed blocks best₀ i₀ best i = i
+μ-loop pool starts rows counts placed keys best₀ i₀ best i = ?
 
+-- src/next.rt:29:5
 loop-holds : tie.Need-loop-holds Inv-loop μ-loop
-loop-holds c = let s = c .before .before .before .before .before in looked-none (s .args .pool .now) (s .args .starts .now) (s .args .needs .now) (s .args .placed .now) (s .args .blocks .now) (s .pre)
+loop-holds c = ?
 
+-- src/next.rt:30:17
 sub-k : tie.Need-sub-k Inv-loop μ-loop
-sub-k c = omega arith
+sub-k c = ?
 
+-- src/next.rt:31:19
+mul-key : tie.Need-mul-key Inv-loop μ-loop
+mul-key c = ?
+
+-- src/next.rt:31:19
+array-copy-out-key : tie.Need-array-copy-out-key Inv-loop μ-loop
+array-copy-out-key c = ?
+
+-- src/next.rt:32:13
 candidate-requires : tie.Need-candidate-requires Inv-loop μ-loop
-candidate-requires c κs = (c .before .before .before .before .before .before .before .pre, omega arith)
+candidate-requires c κs = ?
 
+-- src/next.rt:33:13
 lower-requires : tie.Need-lower-requires Inv-loop μ-loop
-lower-requires c κs =
-    let s = c .before .before .before .before .before .before .before .before in
-    let l = c .before .before .loop in
-    (s .pre .holds, found-within (s .args .pool .now) (s .args .starts .now) (s .args .needs .now) (s .args .placed .now) (s .args .blocks .now) (s .pre) _ (omega arith) (c .candidate .result) (c .candidate .ensures), l .inv .within)
+lower-requires c κs = ?
 
+-- src/next.rt:29:5
 loop-less : tie.Need-loop-less Inv-loop μ-loop
-loop-less c = omega arith
+loop-less c = ?
 
+-- src/next.rt:29:5
 loop-again : tie.Need-loop-again Inv-loop μ-loop
-loop-again c =
-    let s = c .before .before .before .before .before .before .before .before .before in
-    let l = c .before .before .before .loop in
-    looked-more (s .args .pool .now) (s .args .starts .now) (s .args .needs .now) (s .args .placed .now) (s .args .blocks .now) (s .pre) (l .i) (omega arith) (l .best) (l .inv) (c .before .candidate .result) (c .lower .result) (c .before .candidate .ensures) (c .lower .ensures)
+loop-again c = ?
 
+-- src/next.rt:16:1
 returns : tie.Need-returns Inv-loop μ-loop
-returns c =
-    let s = c .before .before .before .before .before .before .before in
-    let l = c .before .loop in
-    looked-all (s .args .pool .now) (s .args .starts .now) (s .args .needs .now) (s .args .placed .now) (s .args .blocks .now) (s .pre) (l .i) (omega arith) (l .best) (l .inv)
+returns c = ?
 
 pub next-spec : {M : Type 1} → statement M
 next-spec =
@@ -49,6 +55,8 @@ next-spec =
     μ-loop
     loop-holds
     sub-k
+    mul-key
+    array-copy-out-key
     candidate-requires
     lower-requires
     loop-less

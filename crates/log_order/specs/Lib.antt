@@ -1,0 +1,3 @@
+pub mod LogOrder
+pub mod CommonLaws
+pub mod LogOrderLaws
