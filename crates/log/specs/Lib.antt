@@ -1,4 +1,5 @@
 pub mod Keys
+pub mod KeyMaking
 pub mod Next
 pub mod NextLaws
 pub mod Ordered

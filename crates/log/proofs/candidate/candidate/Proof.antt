@@ -1,21 +1,28 @@
+-- The delta at the index is handed back where it is ready.
+use mathlib.Core.Path.{sym, _∙_}
 use borrow.Author.Needs.{needs}
+use borrow.Author.Tests.{not-true, not-false}
+use Rattle.log.specs.NextLaws.{candidate-none, candidate-at}
 use Rattle.log.proofs.candidate.candidate.Statement.{statement}
 use Rattle.log.proofs.candidate.candidate.Tie as tie
-use Rattle.log.proofs.candidate.candidate.Reads as reads
-use Rattle.log.proofs.candidate.candidate.Lts as lts
-use Rattle.closure.proofs.ready.ready.Reads as ready-reads
 
--- src/candidate.rt:23:9
+abbrev start : tie.After-ready → tie.Start
+start c = c .before .before .before .before
+
 ready-requires : tie.Need-ready-requires
 ready-requires c κs = search needs
 
--- src/candidate.rt:24:9
 returns : tie.Need-returns
-returns c = ?
+returns c =
+    let a = c .before in
+    let s = start a in
+    sym (candidate-none (s .args .rows .now) (s .args .counts .now) (s .args .placed .now) (s .args .i) (s .args .key) (sym (a .ready .ensures) ∙ not-true (a .ready .result) (c .if1 .taken)))
 
--- src/candidate.rt:19:1
 returns-2 : tie.Need-returns-2
-returns-2 c = ?
+returns-2 c =
+    let a = c .before in
+    let s = start a in
+    sym (candidate-at (s .args .rows .now) (s .args .counts .now) (s .args .placed .now) (s .args .i) (s .args .key) (sym (a .ready .ensures) ∙ not-false (a .ready .result) (c .if1 .left)))
 
 pub candidate-spec : {M : Type 1} → statement M
 candidate-spec = tie.close (tie.spec ready-requires returns returns-2)
