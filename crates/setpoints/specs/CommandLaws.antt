@@ -13,19 +13,7 @@ use Rattle.model.specs.Message.{Message, dependencyCount, commandCount, command
 use Rattle.model.specs.Setpoints.{runCommand, runCommands, runDelta}
 use Rattle.wire_laws.specs.BytesLaws.{field-part}
 use Rattle.wire_laws.specs.MessageLaws.{layout-sized, passes-layout}
-use Rattle.setpoints.specs.Commands.{commandsIn, operateTag}
-
--- ---- the command at a place, by the three fields read there
-pub run-read : (c : List ℕ) (at : ℕ) (values : List ℤ) {tag operation : ℕ} {v : ℤ}
-    → tag ≡ field c (at + tagAt) 1 → operation ≡ field c (at + operationAt) 1 → v ≡ integer (field c (at + valueAt) 4)
-    → operateTag values tag operation v ≡ runCommand (take commandSize (drop at c)) values
-unfolding runCommand
-run-read c at values {tag} p q r =
-    ap₂ (operateTag values tag)
-    (q ∙ sym (field-part c at commandSize operationAt 1 (omega arith)))
-    (r ∙ ap integer (sym (field-part c at commandSize valueAt 4 (omega arith))))
-    ∙ ap (λ (t : ℕ). operateTag values t (field (take commandSize (drop at c)) operationAt 1) (integer (field (take commandSize (drop at c)) valueAt 4)))
-    (p ∙ sym (field-part c at commandSize tagAt 1 (omega arith)))
+use Rattle.setpoints.specs.Commands.{commandsIn}
 
 -- ---- the commands from a place on: none where fewer than eight bytes are left, else one and those behind it
 pub run-end : (c : List ℕ) (at : ℕ) (values : List ℤ) → length c - at < commandSize → values ≡ runCommands (commandsIn (drop at c)) values
