@@ -1,5 +1,5 @@
 -- Setpoints: a command, a delta's commands, and the 64 values that a log leaves.
-use mathlib.Core.Bool.{Bool, cond}
+use mathlib.Core.Bool.{cond}
 use mathlib.Core.List.{List, [], _∷_}
 use Prim.Native.Nat.{ℕ}
 use lib.ListN.{getD, set, replicate}

@@ -1,6 +1,6 @@
--- Laws of integers of 32 bits: their sum at 64 bits, and -1 less one of them.
+-- Laws of integers of 32 bits: at 64 bits, their sum there, what lies between two, and -1 less one of them.
 use mathlib.Core.Path.{_≡_, refl, ap, _∙_}
-use mathlib.Core.Bool.{Bool, true, false, cond}
+use mathlib.Core.Bool.{Bool, true, false, cond, true≢false}
 use Prim.Native.Nat.{ℕ, zero, suc, _+_, _-_, _≤_}
 use native.Mathlib.Omega.{arith}
 use native.Mathlib.Nat.{zero-add, not-suc-le-zero}
@@ -12,9 +12,6 @@ use mir.Val.{SFits, toZ, ofZ}
 use mir.Facts.{sfits-widen, toZ-ofZ}
 use borrow.Author.Tests.{ltb-true, ltb-false, le-ltb}
 use Rattle.model.specs.Bytes.{word}
-
-never : _≡_ {A = Bool} true false → ⊥
-never e = let z : _≡_ {A = ℕ} 0 1 = cc in omega arith
 
 -- ---- an integer of 32 bits at 64
 pub wide : {z : ℤ} → SFits w32 z → SFits w64 z
@@ -41,8 +38,8 @@ sum-fits {x} {v} f g = record { sfits = omega (arith, mag-sum x v, f .sfits, g .
 pub between : (low high z : ℤ) → SFits w32 low → SFits w32 high → ltZ z low ≡ false → ltZ high z ≡ false → SFits w32 z
 between low (pos b) (pos n) f g l h = record { sfits = omega (arith, ltb-false b n h, g .sfits) }
 between (negsuc a) high (negsuc n) f g l h = record { sfits = omega (arith, ltb-false a n l, f .sfits) }
-between low (negsuc b) (pos n) f g l h = absurd (never h)
-between (pos a) high (negsuc n) f g l h = absurd (never l)
+between low (negsuc b) (pos n) f g l h = absurd (true≢false h)
+between (pos a) high (negsuc n) f g l h = absurd (true≢false l)
 
 -- ---- -1 less an integer
 pub flip-pos : (n : ℕ) → negsuc 0 -ℤ pos n ≡ negsuc n
@@ -61,4 +58,4 @@ word-negative (negsuc k) h f = omega arith
 
 pub not-negative : (v : ℤ) → ltZ v (pos 0) ≡ false → v ≡ pos (mag v)
 not-negative (pos n) h = refl
-not-negative (negsuc k) h = absurd (never h)
+not-negative (negsuc k) h = absurd (true≢false h)

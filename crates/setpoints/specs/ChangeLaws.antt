@@ -8,7 +8,7 @@ use lib.IntN.{ℤ, pos}
 use lib.ListN.{length, take, drop, getD}
 use Rattle.model.specs.Bytes.{field, integer}
 use Rattle.model.specs.Layout.{commandSize, operationAt, tagAt, valueAt, valueSize}
-use Rattle.model.specs.Setpoints.{Change, operate, changeOf}
+use Rattle.model.specs.Setpoints.{operate, changeOf}
 use Rattle.wire_laws.specs.BytesLaws.{field-part}
 
 -- past the end stands the default

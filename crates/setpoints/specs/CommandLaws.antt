@@ -1,17 +1,16 @@
 -- Commands in a run of bytes, run from a place on; and that those of a right message are its own.
-use mathlib.Core.Path.{_≡_, refl, sym, ap, ap₂, _∙_}
-use mathlib.Core.List.{List, [], _∷_}
-use Prim.Native.Nat.{ℕ, zero, suc, _+_, _*_, _-_, _/_, _≤_, _<_}
+use mathlib.Core.Path.{_≡_, sym, ap, _∙_}
+use mathlib.Core.List.{List}
+use Prim.Native.Nat.{ℕ, suc, _+_, _*_, _-_, _/_, _≤_, _<_}
 use native.Mathlib.Omega.{arith}
 use lib.Dec.{T}
 use lib.IntN.{ℤ}
 use lib.ListN.{length, take, drop, length-drop}
-use lib.Seq.{take-take, drop-drop}
-use Rattle.model.specs.Bytes.{number, field, parts, integer}
-use Rattle.model.specs.Layout.{commandSize, operationAt, tagAt, valueAt}
+use lib.Seq.{drop-drop}
+use Rattle.model.specs.Bytes.{parts}
+use Rattle.model.specs.Layout.{commandSize}
 use Rattle.model.specs.Message.{Message, dependencyCount, commandCount, commandsStart, commandsOf, layoutRight, passes}
 use Rattle.model.specs.Setpoints.{runCommand, runCommands, runDelta}
-use Rattle.wire_laws.specs.BytesLaws.{field-part}
 use Rattle.wire_laws.specs.MessageLaws.{layout-sized, passes-layout}
 use Rattle.setpoints.specs.Commands.{commandsIn}
 
@@ -32,7 +31,7 @@ run-next c at values h =
 pub commandsIn-message : (m : Message) → T (layoutRight m) → commandsIn (drop (commandsStart (dependencyCount m)) m) ≡ commandsOf m
 commandsIn-message m t =
     let start = commandsStart (dependencyCount m) in
-    let e : length m ≡ start + 8 * commandCount m = layout-sized m t .total in
+    let e : length m ≡ start + commandSize * commandCount m = layout-sized m t .total in
     ap (λ (n : ℕ). parts n commandSize (drop start m)) {x = length (drop start m) / commandSize} {y = commandCount m} (omega (arith, length-drop start m))
 
 -- so a delta that passes 3 to 6 is run

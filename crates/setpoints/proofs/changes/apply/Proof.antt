@@ -10,9 +10,12 @@ use Rattle.model.specs.Setpoints.{apply}
 use Rattle.setpoints.proofs.changes.apply.Statement.{statement}
 use Rattle.setpoints.proofs.changes.apply.Tie as tie
 
+abbrev start : tie.After-struct-told → tie.Start
+start told = told .before
+
 returns : tie.Need-returns
 unfolding apply
-returns c = let a = c .before .before .args in sym (set-out (a .values .now) (a .change .tag) (a .change .after) (omega arith))
+returns c = let a = start (c .before) .args in sym (set-out (a .values .now) (a .change .tag) (a .change .after) (omega arith))
 
 mul-after : tie.Need-mul-after
 mul-after c = search needs
@@ -26,8 +29,8 @@ same-length c = search needs
 returns-2 : tie.Need-returns-2
 unfolding apply
 returns-2 c =
-    let s = c .before .before in
-    ap (λ (z : ℤ). set (s .args .values .now) (s .args .change .tag) z) (toZ-ofZ (record { sfits = omega (arith, s .good) }))
+    let a = start (c .before) .args in
+    ap (λ (z : ℤ). set (a .values .now) (a .change .tag) z) (toZ-ofZ (record { sfits = omega arith }))
 
 pub apply-spec : {M : Type 1} → statement M
 apply-spec = tie.close (tie.spec returns mul-after slice-set-from-after same-length returns-2)

@@ -39,14 +39,15 @@ operate-requires c κs = search needs
 
 returns : tie.Need-returns
 returns c =
-    let value = c .before .before in
+    let found = c .before in
+    let value = found .before in
     let word = value .before in
     let tag = word .before in
     let operation = tag .before in
     let s = operation .before .before .args in
     change-read (s .c .now) (s .at) (s .values .now) (tag .byte2 .ensures .0) (operation .byte .ensures .0)
     (toZ-ofZ (record { sfits = value .of-word .ok }) ∙ value .of-word .ensures ∙ ap integer (word .get-u32 .ensures))
-    (toZ-ofZ (record { sfits = c .before .value-of .ok }) ∙ c .before .value-of .ensures)
+    (toZ-ofZ (record { sfits = found .value-of .ok }) ∙ found .value-of .ensures)
     (toZ-ofZ (record { sfits = c .operate .ok }) ∙ c .operate .ensures)
 
 pub change-of-spec : {M : Type 1} → statement M

@@ -1,6 +1,4 @@
 -- Both summands are read back at 64 bits as they are, and their sum fits there.
-use mathlib.Core.Path.{_≡_}
-use lib.IntN.{_+ℤ_}
 use mir.Facts.{toZ-ofZ}
 use Rattle.setpoints.proofs.IntegerLaws.{wide, wide-back, sum-fits}
 use Rattle.setpoints.proofs.operations.sum.Statement.{statement}
