@@ -15,7 +15,7 @@ use Rattle.model.specs.Bytes.{bytes, field, join, word}
 use Rattle.model.specs.Layout.{lengthAt, imageSize, messagesStart, capacity, tagCount}
 use Rattle.model.specs.Message.{Message, commandsOf, passes}
 use Rattle.model.specs.Order.{State, stateOf, logOf, heldOf}
-use Rattle.model.specs.Setpoints.{startValues, runCommand, runCommands, runDelta, runLog, setpointsOf}
+use Rattle.model.specs.Setpoints.{startValues, apply, runCommand, runCommands, runDelta, runLog, setpointsOf}
 use Rattle.model.specs.Image.{messagesOf, usedOf, imageOf, Valid, IsImage, cut, logCount, heldCount, logIn, messagesIn, setOf, stateIn, isImage}
 use Rattle.order.specs.TestLaws.{and-l, and-r, and-i, every-∈, ∈-every, same-refl, same→eq}
 use Rattle.laws.specs.SetLaws.{setOf-ascending, setOf-same}
@@ -25,7 +25,7 @@ use Rattle.wire_laws.specs.MessageLaws.{Sized, passes-sized, sized-range}
 
 -- ---- 64 values
 length-commands : (l : List (List ℕ)) (t : List ℤ) → length (runCommands l t) ≡ length t
-unfolding runCommand
+unfolding runCommand apply
 length-commands [] t = refl
 length-commands (c ∷ l) t = length-commands l (runCommand c t) ∙ length-set t _ _
 
@@ -35,8 +35,8 @@ length-run [] t = refl
 length-run (m ∷ l) t = length-run l (runDelta m t) ∙ length-commands (commandsOf m) t
 
 pub length-setpoints : (S : State) → length (setpointsOf S) ≡ tagCount
-unfolding setpointsOf
-length-setpoints S = length-run (logOf S) startValues
+unfolding setpointsOf startValues
+length-setpoints S = length-run (logOf S) (startValues S)
 
 length-values : (l : List ℤ) → length (join (map (λ v. bytes 4 (word v)) l)) ≡ length l * 4
 length-values [] = omega arith

@@ -51,6 +51,15 @@ pub const VALUE_AT: usize = 4;
 
 pub const VALUE_SIZE: usize = 4;
 
+pub const TAG_COUNT: usize = 64;
+
+pub const LOWEST_VALUE: i32 = -1000000;
+
+pub const HIGHEST_VALUE: i32 = 1000000;
+
+// all tags' values
+pub const VALUES_SIZE: usize = VALUE_SIZE * TAG_COUNT;
+
 // ---- the station image
 pub const LOG_COUNT_AT: usize = 0;
 

@@ -6,13 +6,7 @@ ghost use Rattle.log.specs.Above.{Comparable, Above};
 
 // Whether the key at place k is above those of all places from `from` on. Where a key is above the one at place q, it is above
 // all from froms[q] on, of which that one is the greatest.
-pub fn above(
-    keys: [Key; CAPACITY],
-    places: &[u8],
-    froms: &[u8],
-    from: usize,
-    k: usize,
-) -> bool
+pub fn above(keys: [Key; CAPACITY], places: &[u8], froms: &[u8], from: usize, k: usize) -> bool
     requires { ⌜ Comparable keys (now places) (now froms) k ⌝ }
     ensures { λ r. ⌜ Above keys (now (places .entry)) from k r ⌝ }
 {

@@ -11,7 +11,7 @@ use Rattle.model.specs.Bytes.{bytes, word, field}
 use Rattle.model.specs.Layout.{imageSize, stepRoom, messageRoom}
 use Rattle.model.specs.Message.{Message, sequenceOf, layoutRight, numbersRight, dependenciesRight, contentRight, commandRight, passes}
 use Rattle.model.specs.Order.{sequencesOf, needs, executablesOf, logOf, heldOf}
-use Rattle.model.specs.Setpoints.{stop, raise, operate, runCommand, runDelta, setpointsOf}
+use Rattle.model.specs.Setpoints.{startValues, stop, raise, operate, changeOf, apply, runCommand, runDelta, setpointsOf}
 use Rattle.model.specs.Image.{messagesOf, usedOf, imageOf, logIn, stateIn, isImage}
 use Rattle.model.specs.Steps.{Step, undo, execute, readSteps}
 use Rattle.model.specs.Compose.{messageOf, newDependencies, composed}
@@ -175,5 +175,10 @@ examples =
 
 -- Every example has the outcome that stands beside it.
 examples-hold : map (λ e. outcomeOf (e .0)) examples ≡ map (λ e. e .1) examples
-unfolding examples empty deliver deliverCode compose composeCode setpoint composed newDependencies isImage imageOf usedOf messagesOf setpointsOf logOf heldOf executablesOf needs runDelta runCommand operate raise stop passes layoutRight numbersRight dependenciesRight contentRight commandRight
+unfolding examples empty deliver deliverCode compose composeCode setpoint composed newDependencies isImage imageOf usedOf messagesOf setpointsOf startValues logOf heldOf executablesOf needs runDelta runCommand apply changeOf operate raise stop passes layoutRight numbersRight dependenciesRight contentRight commandRight
 examples-hold = refl
+
+-- A change: 20 more on 999990 at tag 1, of which 10 are left by the stop.
+change-holds : changeOf (command 2 1 (pos 20)) (pos 5 ∷ pos 999990 ∷ []) ≡ record { tag = 1; before = pos 999990; after = pos 1000000 }
+unfolding changeOf operate stop
+change-holds = refl

@@ -83,6 +83,10 @@ commandZerosAt = 2
 abbrev pub valueAt : ℕ
 valueAt = 4
 
+-- of a value, in a command and in an image
+abbrev pub valueSize : ℕ
+valueSize = 4
+
 abbrev pub tagCount : ℕ
 tagCount = 64
 

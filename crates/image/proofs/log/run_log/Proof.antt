@@ -7,6 +7,7 @@ use lib.ListN.{length, drop, getD}
 use borrow.Author.Needs.{needs}
 use Rattle.model.specs.Message.{Message}
 use Rattle.model.specs.Setpoints.{runLog, setpointsOf}
+use Rattle.table.specs.Table.{setIn}
 use Rattle.image.specs.Places.{messagesAt, Placed}
 use Rattle.image.specs.PlaceLaws.{listed-placed, next-place, next-message, next-passes, no-message}
 use Rattle.image.proofs.log.run_log.Statement.{statement}
@@ -91,7 +92,7 @@ returns c =
     sym
     (l .loop .inv .1
     ∙ ap (λ (x : List Message). runLog x (l .loop .values)) (no-message (s .args .pool .now) (s .args .starts .now) (s .args .places .now) (l .loop .k) (c .loop-test .left)))
-    ∙ ap₂ runLog (s .pre .log) (l .before .start-values .ensures)
+    ∙ ap₂ runLog (s .pre .log) (l .before .start-values .ensures (setIn (s .args .pool .now) (s .args .starts .now)))
 
 pub run-log-spec : {M : Type 1} → statement M
 run-log-spec =
