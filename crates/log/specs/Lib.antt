@@ -4,3 +4,7 @@ pub mod Next
 pub mod NextLaws
 pub mod Ordered
 pub mod OrderLaws
+pub mod Above
+pub mod Waiting
+pub mod Checking
+pub mod CheckingLaws
