@@ -1,7 +1,7 @@
 -- What the tables say of a delta is what the definitions say: whether it is ready, and its effective block.
-use mathlib.Core.Path.{_≡_, refl, sym, _∙_, ap, ap₂}
+use mathlib.Core.Path.{_≡_, sym, _∙_, ap, ap₂}
 use mathlib.Core.Logic.{_⊎_, ⊎-elim}
-use mathlib.Core.Bool.{Bool, true, false, not, _&&_}
+use mathlib.Core.Bool.{Bool, not, _&&_}
 use mathlib.Core.List.{List, [], List·Memᴰ·append-cases, List·Memᴰ·eq-of-singleton, Memᴰ·cast}
 use Prim.Native.Nat.{ℕ, _<_, max}
 use lib.ListN.{length, getD}
@@ -11,7 +11,7 @@ use Rattle.model.specs.Message.{Message, sequenceOf, blockOf, needsOf, passes}
 use Rattle.model.specs.Listing as L
 use Rattle.model.specs.Order.{State, find, effectiveBlock, Executable}
 use Rattle.model.specs.Image.{Valid}
-use Rattle.order.specs.TestLaws.{has→∈, hasAll→∈}
+use Rattle.order.specs.TestLaws.{false-of, has→∈, hasAll→∈}
 use Rattle.order.specs.ListingLaws.{after, ready-needs, listing-snoc}
 use Rattle.laws.specs.SetLaws.{find-here}
 use Rattle.laws.specs.EffectiveLaws.{effective-is}
@@ -20,10 +20,6 @@ use Rattle.log.specs.Needs.{missing, indexOf, NeedsRight}
 use Rattle.log.specs.Ready.{isPlaced, readyIn, blockIn, effectiveIn, Marks, Progress}
 use Rattle.log.specs.IndexLaws.{Unnamed, Named, index-cases}
 use Rattle.log.specs.RowLaws.{every-row, greatest-row}
-
-pub false-of : (b : Bool) → (T b → ⊥) → b ≡ false
-false-of true f = absurd (f tt)
-false-of false f = refl
 
 -- ---- whether a sequence is placed
 module _ (l : List Message) (placed done : List ℕ) (marks : Marks l placed done) where

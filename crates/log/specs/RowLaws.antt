@@ -10,7 +10,7 @@ use lib.Dec.{T, ltb}
 use Rattle.model.specs.Lists.{_∈_, has, hasAll, every, greatest}
 use Rattle.model.specs.Message.{Message, sequenceOf, predecessorOf, dependenciesOf, dependencyCount, needsOf, passes, numberOf}
 use Rattle.wire_laws.specs.MessageLaws.{passes-sized}
-use Rattle.message.specs.ListLaws.{length-dependencies}
+use Rattle.message.specs.DependencyLaws.{length-dependencies}
 use Rattle.log.specs.Needs.{noNeed, indexOf, padded, rowOf, rowIn, NeedsRight, RowFits}
 use Rattle.log.specs.PaddedLaws.{every-append, hasAll-append, greatest-append, every-padded, greatest-padded, length-padded, padded-at, getD-mapped}
 use Rattle.log.specs.IndexLaws.{index-small}

@@ -6,7 +6,7 @@ use Prim.Native.Nat.{ℕ, _+_, _*_, _≤_, _<_, max}
 use native.Mathlib.Omega.{arith}
 use lib.ListN.{length, getD, drop}
 use Rattle.model.specs.Lists.{every, greatest}
-use Rattle.message.specs.ListLaws.{every-step, every-end}
+use Rattle.order.specs.ScanLaws.{every-step, every-end}
 use Rattle.log.specs.Needs.{rowIn}
 use Rattle.log.specs.Ready.{isPlaced, readyIn}
 use Rattle.log.specs.PaddedLaws.{greatest-step, greatest-end}

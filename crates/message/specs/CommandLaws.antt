@@ -13,9 +13,8 @@ use lib.ListN.{length}
 use Rattle.model.specs.Bytes.{isBytes, field}
 use Rattle.model.specs.Message.{valueOf, commandRight}
 use Rattle.model.specs.Codes.{commandsSized}
-use Rattle.order.specs.TestLaws.{and-l, and-r, and-i, decide}
+use Rattle.order.specs.TestLaws.{and-l, and-r, and-i, and-true, decide, is-true, false-of, eq→eqb, same-leb}
 use Rattle.message.specs.Check.{valueRight}
-use Rattle.sequence.specs.Decisions.{eq→eqb, T-true, T-false, and-true, leb-same}
 
 pub record Command (c : List ℕ) : Type 0 where
   pub least : 1 ≤ field c 0 1
@@ -65,14 +64,14 @@ value-low n k h = ⊎-elim positive negative (decide (ltb n 2147483648))
     negative : T (not (ltb n 2147483648)) → valueRight n ≡ leb 4293967296 n
     negative t =
         simp (le-ltb n 2147483648 (nltb→le n 2147483648 t), lt-ltb n 4294967296 k)
-        (and-true (leb (4294967296 - suc n) 999999) ∙ leb-same (4294967296 - suc n) 999999 4293967296 n (λ e. omega arith) (λ e. omega arith))
+        (and-true (leb (4294967296 - suc n) 999999) ∙ same-leb (4294967296 - suc n) 999999 4293967296 n (λ e. omega arith) (λ e. omega arith))
 
 -- the test as the answer of its check
 pub command-wrong : (c : List ℕ) → (Command c → ⊥) → false ≡ commandRight c
-command-wrong c f = sym (T-false (commandRight c) (λ t. f (command-out c t)))
+command-wrong c f = sym (false-of (commandRight c) (λ t. f (command-out c t)))
 
 pub command-right : (c : List ℕ) → Command c → true ≡ commandRight c
-command-right c f = sym (T-true (commandRight c) (command-in c f))
+command-right c f = sym (is-true (commandRight c) (command-in c f))
 
 -- ---- the bytes of commands handed over
 pub record Sized (c : List ℕ) : Type 0 where
@@ -81,7 +80,7 @@ pub record Sized (c : List ℕ) : Type 0 where
   pub whole : length c % 8 ≡ 0
 
 pub sized-wrong : (c : List ℕ) → (Sized c → ⊥) → false ≡ commandsSized c
-sized-wrong c f = sym (T-false (commandsSized c) (λ t. f (record {
+sized-wrong c f = sym (false-of (commandsSized c) (λ t. f (record {
   least = leb→le 8 (length c) (search (and-l, and-r) depth 8);
   most = leb→le (length c) 64 (search (and-l, and-r) depth 8);
   whole = eqb→eq (length c % 8) 0 (search (and-l, and-r) depth 8);
@@ -92,4 +91,4 @@ sized-right c t f =
     let a : T (leb 8 (length c)) = le→leb _ _ (f .least) in
     let b : T (leb (length c) 64) = le→leb _ _ (f .most) in
     let d : T (eqb (length c % 8) 0) = eq→eqb (f .whole) in
-    sym (T-true (commandsSized c) (search and-i depth 8))
+    sym (is-true (commandsSized c) (search and-i depth 8))

@@ -7,10 +7,9 @@ use lib.ListN.{length}
 use lib.Dec.{T, eqb, leb, eqb→eq, leb→le, le→leb}
 use Rattle.model.specs.Bytes.{isBytes, field}
 use Rattle.model.specs.Message.{Message, dependencyCount, commandCount, totalLength, commandsStart, layoutRight}
-use Rattle.order.specs.TestLaws.{and-l, and-r, and-i}
+use Rattle.order.specs.TestLaws.{and-l, and-r, and-i, is-true, false-of, eq→eqb}
 use Rattle.wire_laws.specs.MessageLaws.{layout-sized, sized-range}
 use Rattle.message.specs.Check.{countsRight, offsetsRight}
-use Rattle.sequence.specs.Decisions.{eq→eqb, T-true, T-false}
 
 pub record Counts (m : Message) : Type 0 where
   pub kind : field m 0 1 ≡ 1
@@ -90,17 +89,17 @@ layout-parts m t = go (isBytes m) t _ _ _ _ _ _ _ _ _ _ _
 
 -- fewer bytes than a header's are no message
 pub short-wrong : (m : Message) → length m < 40 → layoutRight m ≡ false
-short-wrong m h = T-false (layoutRight m) (λ t. let r = sized-range m (layout-sized m t) in omega arith)
+short-wrong m h = false-of (layoutRight m) (λ t. let r = sized-range m (layout-sized m t) in omega arith)
 
 -- each part as the answer of its check
 pub counts-wrong : (m : Message) → (Counts m → ⊥) → false ≡ countsRight m
-counts-wrong m f = sym (T-false (countsRight m) (λ t. f (counts-out m t)))
+counts-wrong m f = sym (false-of (countsRight m) (λ t. f (counts-out m t)))
 
 pub counts-right : (m : Message) → Counts m → true ≡ countsRight m
-counts-right m f = sym (T-true (countsRight m) (counts-in m f))
+counts-right m f = sym (is-true (countsRight m) (counts-in m f))
 
 pub offsets-wrong : (m : Message) → (Offsets m → ⊥) → false ≡ offsetsRight m
-offsets-wrong m f = sym (T-false (offsetsRight m) (λ t. f (offsets-out m t)))
+offsets-wrong m f = sym (false-of (offsetsRight m) (λ t. f (offsets-out m t)))
 
 pub offsets-right : (m : Message) → Offsets m → true ≡ offsetsRight m
-offsets-right m f = sym (T-true (offsetsRight m) (offsets-in m f))
+offsets-right m f = sym (is-true (offsetsRight m) (offsets-in m f))

@@ -2,7 +2,7 @@ pub mod Check
 pub mod Header
 pub mod HeaderLaws
 pub mod LayoutLaws
-pub mod ListLaws
+pub mod DependencyLaws
 pub mod CommandLaws
 pub mod ContentLaws
 pub mod Parsed

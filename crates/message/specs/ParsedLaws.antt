@@ -12,7 +12,7 @@ use Rattle.message.specs.declared.parse.Parsed.{Parsed}
 use Rattle.message.specs.declared.parse.Parsed.the-variants as parsed
 use Rattle.message.specs.Header.{headerOf}
 use Rattle.message.specs.Parsed.{parsedCode, Parses}
-use Rattle.sequence.specs.Decisions.{true-T}
+use Rattle.order.specs.TestLaws.{true-T}
 
 -- the code by the four tests
 abbrev codeBy : Bool → Bool → Bool → Bool → ℕ

@@ -1,4 +1,5 @@
 pub mod TestLaws
+pub mod ScanLaws
 pub mod KeyOrder
 pub mod StepLaws
 pub mod ListingLaws

@@ -13,7 +13,7 @@ use Rattle.model.specs.Codes.{lowestCode, messageConditions}
 use Rattle.message.specs.declared.header.Header.{Header}
 use Rattle.message.specs.declared.parse.Parsed.{Parsed}
 use Rattle.message.specs.declared.parse.Parsed.the-variants as parsed
-use Rattle.sequence.specs.Decisions.{T-false}
+use Rattle.order.specs.TestLaws.{false-of}
 use Rattle.message.specs.HeaderLaws.{header-describes}
 use Rattle.message.specs.Parsed.{parsedCode, Parses}
 use Rattle.message.specs.ParsedLaws.{parses-passes}
@@ -23,10 +23,10 @@ use Rattle.table.specs.TableLaws.{Lies, passes-lies}
 
 -- too little is left for a header, or for the length that the header says
 pub short-fails : (b : List ℕ) (at : ℕ) → length b < at + 48 → passes (messageFrom b at) ≡ false
-short-fails b at h = T-false (passes (messageFrom b at)) (λ t. let l : Lies b at = passes-lies b at t in let z : ⊥ = omega arith in z)
+short-fails b at h = false-of (passes (messageFrom b at)) (λ t. let l : Lies b at = passes-lies b at t in let z : ⊥ = omega arith in z)
 
 pub past-end-fails : (b : List ℕ) (at : ℕ) → length b < at + field b (at + lengthAt) 2 → passes (messageFrom b at) ≡ false
-past-end-fails b at h = T-false (passes (messageFrom b at)) (λ t. let l : Lies b at = passes-lies b at t in let z : ⊥ = omega arith in z)
+past-end-fails b at h = false-of (passes (messageFrom b at)) (λ t. let l : Lies b at = passes-lies b at t in let z : ⊥ = omega arith in z)
 
 -- ---- what `parse` answers
 passes-code : (m : Message) → T (passes m) → lowestCode (messageConditions m) ≡ 0
@@ -41,7 +41,7 @@ passes-code m t = go (layoutRight m) (numbersRight m) (dependenciesRight m) (con
     go false n d c t = absurd t
 
 pub refused-fails : (m : Message) (r : Parsed) → Parses m r → (parsedCode r ≡ 0 → ⊥) → passes m ≡ false
-refused-fails m r p f = T-false (passes m) (λ t. f (p .code ∙ passes-code m t))
+refused-fails m r p f = false-of (passes m) (λ t. f (p .code ∙ passes-code m t))
 
 pub record Accepted (m : Message) (h : Header) : Type 0 where
   pub pass : T (passes m)

@@ -3,7 +3,7 @@ use mathlib.Core.Path.{sym, _∙_, ap, subst}
 use lib.Dec.{T, lit≤}
 use lib.ListN.{take, drop}
 use Rattle.message.specs.Check.{valueRight}
-use Rattle.message.specs.ListLaws.{field-part, field-part-start}
+use Rattle.wire_laws.specs.BytesLaws.{field-part, field-part-start}
 use Rattle.message.specs.CommandLaws.{command-wrong, command-right}
 use borrow.Author.Needs.{needs}
 use Rattle.message.proofs.commands.check_command.Statement.{statement}

@@ -4,12 +4,12 @@ use mathlib.Core.Bool.{Bool, _&&_}
 use mathlib.Core.List.{List, []}
 use lib.ListN.{length, take, drop}
 use native.Mathlib.Omega.{arith}
-use borrow.Author.Needs.{needs}
 use Rattle.model.specs.Lists.{every}
 use Rattle.model.specs.Bytes.{parts}
 use Rattle.model.specs.Message.{commandRight}
 use Rattle.message.specs.Check.{right}
-use Rattle.message.specs.ListLaws.{every-step, every-end, length-parts, parts-at}
+use Rattle.order.specs.ScanLaws.{every-step, every-end}
+use Rattle.wire_laws.specs.BytesLaws.{length-parts, parts-at}
 use borrow.Author.Needs.{needs}
 use Rattle.message.proofs.commands.check_commands.Statement.{statement}
 use Rattle.message.proofs.commands.check_commands.Tie as tie

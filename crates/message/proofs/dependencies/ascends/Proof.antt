@@ -4,11 +4,11 @@ use mathlib.Core.Bool.{Bool, _&&_}
 use lib.ListN.{drop}
 use lib.Dec.{ltb}
 use native.Mathlib.Omega.{arith}
-use borrow.Author.Needs.{needs}
 use Rattle.model.specs.Lists.{ascending}
 use Rattle.model.specs.Message.{dependenciesOf}
 use borrow.Author.Tests.{not-true, not-false}
-use Rattle.message.specs.ListLaws.{ascending-step, ascending-end, length-dependencies}
+use Rattle.order.specs.ScanLaws.{ascending-step, ascending-end}
+use Rattle.message.specs.DependencyLaws.{length-dependencies}
 use borrow.Author.Needs.{needs}
 use Rattle.message.proofs.dependencies.ascends.Statement.{statement}
 use Rattle.message.proofs.dependencies.ascends.Tie as tie

@@ -3,11 +3,11 @@ use mathlib.Core.Path.{_≡_, sym, _∙_, ap}
 use mathlib.Core.Bool.{Bool, true, false, not, _&&_}
 use lib.ListN.{drop, getD}
 use native.Mathlib.Omega.{arith}
-use borrow.Author.Needs.{needs}
 use Rattle.model.specs.Lists.{every}
 use Rattle.model.specs.Message.{numbered, numberOf, sequenceOf, dependenciesOf, numbersRight}
 use borrow.Author.Tests.{eq-eqb, ne-eqb}
-use Rattle.message.specs.ListLaws.{every-step, every-end, length-dependencies}
+use Rattle.order.specs.ScanLaws.{every-step, every-end}
+use Rattle.message.specs.DependencyLaws.{length-dependencies}
 use borrow.Author.Needs.{needs}
 use Rattle.message.proofs.dependencies.check_numbers.Statement.{statement}
 use Rattle.message.proofs.dependencies.check_numbers.Tie as tie

@@ -4,11 +4,11 @@ use mathlib.Core.Bool.{Bool, _||_}
 use lib.ListN.{drop}
 use lib.Dec.{eqb}
 use native.Mathlib.Omega.{arith}
-use borrow.Author.Needs.{needs}
 use Rattle.model.specs.Lists.{has}
 use Rattle.model.specs.Message.{dependenciesOf}
 use Rattle.sequence.specs.Sequence.{sequenceNumber}
-use Rattle.message.specs.ListLaws.{has-step, has-end, length-dependencies}
+use Rattle.order.specs.ScanLaws.{has-step, has-end}
+use Rattle.message.specs.DependencyLaws.{length-dependencies}
 use borrow.Author.Needs.{needs}
 use Rattle.message.proofs.dependencies.depends_on.Statement.{statement}
 use Rattle.message.proofs.dependencies.depends_on.Tie as tie
