@@ -1,15 +1,15 @@
 // The checks of commands, of a message's own and of those handed over to be composed.
 use crate::checks::Check;
-use crate::limits::HIGHEST_VALUE;
-use crate::limits::LOWEST_VALUE;
-use crate::limits::TAG_COUNT;
 use buffer::byte;
 use buffer::get_u16;
 use buffer::get_u32;
 use layout::COMMAND_SIZE;
 use layout::COMMAND_ZEROS_AT;
+use layout::HIGHEST_VALUE_WORD;
+use layout::LOWEST_VALUE_WORD;
 use layout::MOST_COMMANDS;
 use layout::TAG_AT;
+use layout::TAG_COUNT;
 use layout::VALUE_AT;
 ghost use mathlib.Core.Path.{_≡_};
 ghost use Prim.Native.Nat.{_+_, _/_, _≤_};
@@ -24,10 +24,10 @@ ghost use Rattle.message.specs.Check.{right, valueRight};
 fn in_range(value: u32) -> bool
     ensures { λ r. ⌜ r ≡ valueRight value ⌝ }
 {
-    if value <= HIGHEST_VALUE {
+    if value <= HIGHEST_VALUE_WORD {
         return true;
     }
-    LOWEST_VALUE <= value
+    LOWEST_VALUE_WORD <= value
 }
 
 // The command that starts at a place: operation, tag, zeros and value.
@@ -42,7 +42,7 @@ fn check_command(c: &[u8], at: usize) -> Check
     if 3 < operation {
         return Check::Wrong;
     }
-    if TAG_COUNT <= byte(c, at + TAG_AT) {
+    if TAG_COUNT <= byte(c, at + TAG_AT) as usize {
         return Check::Wrong;
     }
     if get_u16(c, at + COMMAND_ZEROS_AT) != 0 {

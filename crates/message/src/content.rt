@@ -1,11 +1,11 @@
 // The check of code 6.
 use crate::checks::Check;
 use crate::commands::check_commands;
-use crate::limits::FIELD_LIMIT;
 use buffer::byte;
 use buffer::get_u32;
 use layout::BLOCK_AT;
 use layout::DEPENDENCY_COUNT_AT;
+use layout::FIELD_LIMIT;
 use layout::GROUP_AT;
 use layout::HEADER_SIZE;
 use layout::PRIORITY_AT;

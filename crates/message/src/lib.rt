@@ -4,5 +4,4 @@ pub mod commands;
 pub mod content;
 pub mod dependencies;
 pub mod header;
-pub mod limits;
 pub mod parse;

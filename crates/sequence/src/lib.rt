@@ -1,6 +1,7 @@
 // Sequences as two numbers: how they are read, compared and taken apart.
 use buffer::get_u32;
 use buffer::get_u64;
+use layout::NUMBERS_OF_LINE;
 ghost use mathlib.Core.Path.{_≡_};
 ghost use Prim.Native.Nat.{_+_, _≤_};
 ghost use lib.ListN.{length};
@@ -8,9 +9,6 @@ ghost use lib.Dec.{eqb, ltb};
 ghost use Rattle.model.specs.Bytes.{field};
 ghost use Rattle.model.specs.Message.{numberOf, lineOf, predecessorOf};
 ghost use Rattle.sequence.specs.Sequence.{sequenceNumber, predecessorList};
-
-// How many numbers a line has, 0000 among them.
-pub const NUMBERS_OF_LINE: u32 = 65536;
 
 // The twelve bytes of a sequence: the first eight, and the last four.
 pub struct Sequence {

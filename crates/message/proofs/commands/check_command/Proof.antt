@@ -30,6 +30,9 @@ add-byte c = search needs
 byte-requires-2 : tie.Need-byte-requires-2
 byte-requires-2 c κs = search needs
 
+cast-if3 : tie.Need-cast-if3
+cast-if3 c = search needs
+
 returns-3 : tie.Need-returns-3
 returns-3 c =
     let a = c .before .before .before .before .before .before .args in
@@ -81,6 +84,7 @@ check-command-spec =
     returns-2
     add-byte
     byte-requires-2
+    cast-if3
     returns-3
     add-get-u16
     get-u16-requires
