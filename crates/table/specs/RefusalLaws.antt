@@ -11,12 +11,12 @@ use Rattle.model.specs.Layout.{lengthAt}
 use Rattle.model.specs.Message.{Message, sequenceOf, layoutRight, numbersRight, dependenciesRight, contentRight, passes}
 use Rattle.model.specs.Codes.{lowestCode, messageConditions}
 use Rattle.message.specs.declared.header.Header.{Header}
-use Rattle.message.specs.declared.parse.Parsed.{Parsed}
-use Rattle.message.specs.declared.parse.Parsed.the-variants as parsed
+use Rattle.parse.specs.declared.Parsed.{Parsed}
+use Rattle.parse.specs.declared.Parsed.the-variants as parsed
 use Rattle.order.specs.TestLaws.{false-of}
 use Rattle.message.specs.HeaderLaws.{header-describes}
-use Rattle.message.specs.Parsed.{parsedCode, Parses}
-use Rattle.message.specs.ParsedLaws.{parses-passes}
+use Rattle.parse.specs.Parsed.{parsedCode, Parses}
+use Rattle.parse.specs.ParsedLaws.{parses-passes}
 use Rattle.sequence.specs.Sequence.{sequenceNumber}
 use Rattle.table.specs.Table.{messageFrom}
 use Rattle.table.specs.TableLaws.{Lies, passes-lies}

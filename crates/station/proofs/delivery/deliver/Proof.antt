@@ -11,13 +11,13 @@ use borrow.Author.Tests.{eqb-true}
 use Rattle.model.specs.Layout.{imageSize}
 use Rattle.model.specs.Codes.{wrongSize, smallSteps}
 use Rattle.sequence.specs.Sequence.{sequenceNumber}
-use Rattle.message.proofs.parse.Parsed.{the-type}
-use Rattle.message.specs.declared.parse.Parsed.{Parsed}
-use Rattle.message.specs.declared.parse.Parsed.the-variants as parsed
+use Rattle.parse.proofs.Parsed.{the-type}
+use Rattle.parse.specs.declared.Parsed.{Parsed}
+use Rattle.parse.specs.declared.Parsed.the-variants as parsed
 use Rattle.message.specs.declared.header.Header.{Header}
 use Rattle.message.specs.Check.{right}
-use Rattle.message.specs.Parsed.{parsedCode, Parses}
-use Rattle.message.specs.ParsedLaws.{parses-passes}
+use Rattle.parse.specs.Parsed.{parsedCode, Parses}
+use Rattle.parse.specs.ParsedLaws.{parses-passes}
 use Rattle.message.specs.HeaderLaws.{header-describes}
 use Rattle.station.specs.declared.answer.Delivery.{Delivery}
 use Rattle.station.specs.Answer.{deliveredBy}
@@ -28,7 +28,7 @@ use Rattle.station.proofs.delivery.deliver.Statement.{statement}
 use Rattle.station.proofs.delivery.deliver.Tie as tie
 use Rattle.station.proofs.delivery.deliver.Reads as reads
 use Rattle.station.proofs.delivery.deliver.Lts as lts
-use Rattle.message.proofs.parse.parse.Reads as parse-reads
+use Rattle.parse.proofs.parse.Reads as parse-reads
 use Rattle.station.proofs.delivery.take_in.Reads as take-in-reads
 use Rattle.station.proofs.reading.read_station.Reads as read-station-reads
 use Rattle.station.proofs.refusing.check_image_size.Reads as check-image-size-reads

@@ -6,12 +6,12 @@ use native.Mathlib.Omega.{arith}
 use lib.ListN.{take, drop}
 use types.Run.{OneOf}
 use denote.Enum.Declared.{tagOf}
-use Rattle.message.proofs.parse.Parsed.{the-type}
-use Rattle.message.specs.declared.parse.Parsed.{Parsed}
-use Rattle.message.specs.declared.parse.Parsed.the-variants as parsed
+use Rattle.parse.proofs.Parsed.{the-type}
+use Rattle.parse.specs.declared.Parsed.{Parsed}
+use Rattle.parse.specs.declared.Parsed.the-variants as parsed
 use Rattle.model.specs.Bytes.{field}
 use Rattle.model.specs.Message.{Message}
-use Rattle.message.specs.Parsed.{parsedCode, Parses}
+use Rattle.parse.specs.Parsed.{parsedCode, Parses}
 use Rattle.table.specs.Table.{messageFrom}
 use Rattle.table.specs.RefusalLaws.{short-fails, past-end-fails, refused-fails, parsed-accepted}
 use borrow.Author.Needs.{needs}
