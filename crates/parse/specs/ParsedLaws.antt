@@ -1,18 +1,21 @@
--- The answers of `parse`: what each needs, and that a message whose header is handed back passes 3 to 6.
+-- The answers of `parse`: what each needs, and what its caller knows: a message whose header is handed back passes 3 to 6, and
+-- a refused one does not.
 use mathlib.Core.Path.{_≡_, refl, sym, _∙_, ap, ap₂}
-use mathlib.Core.Bool.{Bool, true, false, cond, not}
+use mathlib.Core.Bool.{Bool, true, false, cond, not, _&&_}
 use Prim.Native.Nat.{ℕ}
 use native.Mathlib.Omega.{arith}
 use lib.Dec.{T}
-use Rattle.model.specs.Message.{Message, layoutRight, numbersRight, dependenciesRight, contentRight, passes}
+use Rattle.model.specs.Message.{Message, sequenceOf, layoutRight, numbersRight, dependenciesRight, contentRight, passes}
 use Rattle.model.specs.Codes.{lowestCode, messageConditions}
+use Rattle.order.specs.TestLaws.{true-T, false-of}
 use Rattle.wire_laws.specs.MessageLaws.{Sized, layout-sized, passes-all}
 use Rattle.message.specs.declared.header.Header.{Header}
 use Rattle.parse.specs.declared.Parsed.{Parsed}
 use Rattle.parse.specs.declared.Parsed.the-variants as parsed
+use Rattle.sequence.specs.Sequence.{sequenceNumber}
 use Rattle.message.specs.Header.{headerOf}
+use Rattle.message.specs.HeaderLaws.{header-describes}
 use Rattle.parse.specs.Parsed.{parsedCode, Parses}
-use Rattle.order.specs.TestLaws.{true-T}
 
 -- the code by the four tests
 abbrev codeBy : Bool → Bool → Bool → Bool → ℕ
@@ -46,6 +49,7 @@ pub all-right : (m : Message) → true ≡ layoutRight m → true ≡ numbersRig
     → (h : Header) → h ≡ headerOf m → Parses m (parsed.Message h)
 all-right m l n d c h e = record { code = code-is m l n d c; header = λ h′ z. cc }
 
+-- ---- what a caller knows
 pub parses-passes : (m : Message) (h : Header) → Parses m (parsed.Message h) → T (passes m)
 parses-passes m h p = go (layoutRight m) (numbersRight m) (dependenciesRight m) (contentRight m) (p .code) (passes-all m)
   where
@@ -55,3 +59,28 @@ parses-passes m h p = go (layoutRight m) (numbersRight m) (dependenciesRight m) 
     go true true false c e f = absurd (let z : ⊥ = omega arith in z)
     go true false d c e f = absurd (let z : ⊥ = omega arith in z)
     go false n d c e f = absurd (let z : ⊥ = omega arith in z)
+
+-- a message that passes meets none of 3 to 6
+pub passes-code : (m : Message) → T (passes m) → lowestCode (messageConditions m) ≡ 0
+unfolding passes
+passes-code m t = go (layoutRight m) (numbersRight m) (dependenciesRight m) (contentRight m) t
+  where
+    go : (l n d c : Bool) → T (l && n && d && c) → codeBy l n d c ≡ 0
+    go true true true true t = refl
+    go true true true false t = absurd t
+    go true true false c t = absurd t
+    go true false d c t = absurd t
+    go false n d c t = absurd t
+
+pub refused-fails : (m : Message) (r : Parsed) → Parses m r → (parsedCode r ≡ 0 → ⊥) → passes m ≡ false
+refused-fails m r p f = false-of (passes m) (λ t. f (p .code ∙ passes-code m t))
+
+pub record Accepted (m : Message) (h : Header) : Type 0 where
+  pub pass : T (passes m)
+  pub sequence : sequenceNumber (h .sequence) ≡ sequenceOf m
+
+pub parsed-accepted : (m : Message) (h : Header) → Parses m (parsed.Message h) → Accepted m h
+parsed-accepted m h p = record {
+  pass = parses-passes m h p;
+  sequence = ap (λ (x : Header). sequenceNumber (x .sequence)) (p .header h refl) ∙ header-describes m .sequence;
+}
