@@ -14,12 +14,11 @@ use message::checks::Check;
 ghost use mathlib.Core.Path.{_≡_};
 ghost use Prim.Native.Nat.{_+_, _/_, _≤_};
 ghost use lib.ListN.{length, take, drop};
-ghost use Rattle.model.specs.Lists.{every};
-ghost use Rattle.model.specs.Bytes.{parts};
+ghost use Rattle.model.specs.Layout.{commandSize};
 ghost use Rattle.model.specs.Message.{commandRight};
 ghost use Rattle.model.specs.Codes.{commandsSized};
 ghost use Rattle.message.specs.Check.{right};
-ghost use Rattle.commands.specs.Value.{valueRight};
+ghost use Rattle.commands.specs.CommandTests.{valueRight, commandsRight};
 
 // Whether four bytes, as two's complement, are a value from -1000000 to 1000000.
 fn in_range(value: u32) -> bool
@@ -33,8 +32,8 @@ fn in_range(value: u32) -> bool
 
 // The command that starts at a place: operation, tag, zeros and value.
 fn check_command(c: &[u8], at: usize) -> Check
-    requires { ⌜ at + 8 ≤ length (now c) ⌝ }
-    ensures { λ r. ⌜ right r ≡ commandRight (take 8 (drop at (now (c .entry)))) ⌝ }
+    requires { ⌜ at + commandSize ≤ length (now c) ⌝ }
+    ensures { λ r. ⌜ right r ≡ commandRight (take commandSize (drop at (now (c .entry)))) ⌝ }
 {
     let operation = byte(c, at);
     if operation < 1 {
@@ -57,14 +56,14 @@ fn check_command(c: &[u8], at: usize) -> Check
 
 // How many whole commands any bytes hold.
 fn count_commands(c: &[u8]) -> usize
-    ensures { λ r. ⌜ r ≡ length (now (c .entry)) / 8 ⌝ }
+    ensures { λ r. ⌜ r ≡ length (now (c .entry)) / commandSize ⌝ }
 {
     c.len() / COMMAND_SIZE
 }
 
 // Every whole command of any bytes.
 pub fn check_commands(c: &[u8]) -> Check
-    ensures { λ r. ⌜ right r ≡ every commandRight (parts (length (now (c .entry)) / 8) 8 (now (c .entry))) ⌝ }
+    ensures { λ r. ⌜ right r ≡ commandsRight (now (c .entry)) ⌝ }
 {
     let count = count_commands(c);
     let mut k = 0;

@@ -5,13 +5,14 @@ use Prim.Native.Nat.{ℕ, _+_, _*_, _<_}
 use lib.ListN.{length, take, drop, getD, List·getD-map, length-map}
 use lib.Seq.{drop-drop}
 use Rattle.model.specs.Bytes.{number, field, parts}
+use Rattle.model.specs.Layout.{headerSize, sequenceSize}
 use Rattle.model.specs.Message.{Message, dependencyCount, dependenciesOf}
 use Rattle.wire_laws.specs.BytesLaws.{length-parts, parts-at}
 
 pub length-dependencies : (m : Message) → length (dependenciesOf m) ≡ dependencyCount m
-length-dependencies m = length-map (parts (dependencyCount m) 12 (drop 40 m)) number ∙ length-parts (dependencyCount m) 12 (drop 40 m)
+length-dependencies m = length-map (parts (dependencyCount m) sequenceSize (drop headerSize m)) number ∙ length-parts (dependencyCount m) sequenceSize (drop headerSize m)
 
-pub dependency-at : (m : Message) (k : ℕ) → k < dependencyCount m → getD (dependenciesOf m) k 0 ≡ field m (40 + 12 * k) 12
+pub dependency-at : (m : Message) (k : ℕ) → k < dependencyCount m → getD (dependenciesOf m) k 0 ≡ field m (headerSize + sequenceSize * k) sequenceSize
 dependency-at m k h =
-    List·getD-map number (parts (dependencyCount m) 12 (drop 40 m)) k [] ∙ ap number (parts-at (dependencyCount m) 12 (drop 40 m) k h)
-    ∙ ap (λ (l : List ℕ). number (take 12 l)) (drop-drop (12 * k) 40 m)
+    List·getD-map number (parts (dependencyCount m) sequenceSize (drop headerSize m)) k [] ∙ ap number (parts-at (dependencyCount m) sequenceSize (drop headerSize m) k h)
+    ∙ ap (λ (l : List ℕ). number (take sequenceSize l)) (drop-drop (sequenceSize * k) headerSize m)

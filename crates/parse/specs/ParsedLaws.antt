@@ -21,8 +21,8 @@ use Rattle.parse.specs.Parsed.{parsedCode, Parses}
 abbrev codeBy : Bool → Bool → Bool → Bool → ℕ
 codeBy l n d c = cond (not l) 3 (cond (not n) 4 (cond (not d) 5 (cond (not c) 6 0)))
 
-pub sized : (m : Message) → true ≡ layoutRight m → Sized m
-sized m e = layout-sized m (true-T (layoutRight m) (sym e))
+pub sized : {m : Message} → true ≡ layoutRight m → Sized m
+sized {m} e = layout-sized m (true-T (layoutRight m) (sym e))
 
 code-is : (m : Message) {l n d c : Bool} → l ≡ layoutRight m → n ≡ numbersRight m → d ≡ dependenciesRight m → c ≡ contentRight m
     → codeBy l n d c ≡ lowestCode (messageConditions m)
@@ -32,22 +32,22 @@ code-is m {l} {n} {d} {c} layout numbers dependencies content =
 refused : (m : Message) (r : Parsed) → (parsedCode r ≡ 0 → ⊥) → parsedCode r ≡ lowestCode (messageConditions m) → Parses m r
 refused m r f e = record { code = e; header = λ h z. absurd (f (ap parsedCode z)) }
 
-pub wrong-layout : (m : Message) → false ≡ layoutRight m → Parses m parsed.WrongLayout
-wrong-layout m l = refused m parsed.WrongLayout (λ z. omega arith) (code-is m l refl refl refl)
+pub wrong-layout : {m : Message} → false ≡ layoutRight m → Parses m parsed.WrongLayout
+wrong-layout {m} l = refused m parsed.WrongLayout (λ z. omega arith) (code-is m l refl refl refl)
 
-pub wrong-number : (m : Message) → true ≡ layoutRight m → false ≡ numbersRight m → Parses m parsed.WrongNumber
-wrong-number m l n = refused m parsed.WrongNumber (λ z. omega arith) (code-is m l n refl refl)
+pub wrong-number : {m : Message} → true ≡ layoutRight m → false ≡ numbersRight m → Parses m parsed.WrongNumber
+wrong-number {m} l n = refused m parsed.WrongNumber (λ z. omega arith) (code-is m l n refl refl)
 
-pub wrong-dependencies : (m : Message) → true ≡ layoutRight m → true ≡ numbersRight m → false ≡ dependenciesRight m → Parses m parsed.WrongDependencies
-wrong-dependencies m l n d = refused m parsed.WrongDependencies (λ z. omega arith) (code-is m l n d refl)
+pub wrong-dependencies : {m : Message} → true ≡ layoutRight m → true ≡ numbersRight m → false ≡ dependenciesRight m → Parses m parsed.WrongDependencies
+wrong-dependencies {m} l n d = refused m parsed.WrongDependencies (λ z. omega arith) (code-is m l n d refl)
 
-pub wrong-content : (m : Message) → true ≡ layoutRight m → true ≡ numbersRight m → true ≡ dependenciesRight m → false ≡ contentRight m
+pub wrong-content : {m : Message} → true ≡ layoutRight m → true ≡ numbersRight m → true ≡ dependenciesRight m → false ≡ contentRight m
     → Parses m parsed.WrongContent
-wrong-content m l n d c = refused m parsed.WrongContent (λ z. omega arith) (code-is m l n d c)
+wrong-content {m} l n d c = refused m parsed.WrongContent (λ z. omega arith) (code-is m l n d c)
 
-pub all-right : (m : Message) → true ≡ layoutRight m → true ≡ numbersRight m → true ≡ dependenciesRight m → true ≡ contentRight m
+pub all-right : {m : Message} → true ≡ layoutRight m → true ≡ numbersRight m → true ≡ dependenciesRight m → true ≡ contentRight m
     → (h : Header) → h ≡ headerOf m → Parses m (parsed.Message h)
-all-right m l n d c h e = record { code = code-is m l n d c; header = λ h′ z. cc }
+all-right {m} l n d c h e = record { code = code-is m l n d c; header = λ h′ z. cc }
 
 -- ---- what a caller knows
 pub parses-passes : (m : Message) (h : Header) → Parses m (parsed.Message h) → T (passes m)

@@ -14,13 +14,14 @@ use message::checks::Check;
 ghost use mathlib.Core.Path.{_≡_};
 ghost use Prim.Native.Nat.{_≤_};
 ghost use lib.ListN.{length};
+ghost use Rattle.model.specs.Layout.{headerSize};
 ghost use Rattle.model.specs.Message.{dependencyCount, commandCount, totalLength, contentRight};
 ghost use Rattle.message.specs.Check.{right};
 ghost use Rattle.parse.specs.Content.{priorityRight};
 
 // Block and priority: their limits, at least block 1 with the flag, both zero without.
 fn check_priority(m: &[u8]) -> Check
-    requires { ⌜ 40 ≤ length (now m) ⌝ }
+    requires { ⌜ headerSize ≤ length (now m) ⌝ }
     ensures { λ r. ⌜ right r ≡ priorityRight (now (m .entry)) ⌝ }
 {
     let block = get_u32(m, BLOCK_AT);

@@ -1,28 +1,43 @@
+-- Each test that is failed contradicts one fact of `Command`, and all that are passed make them up.
 use native.Mathlib.Omega.{arith}
-use mathlib.Core.Path.{sym, _∙_, ap, subst}
-use lib.Dec.{T, lit≤}
-use lib.ListN.{take, drop}
-use Rattle.commands.specs.Value.{valueRight}
-use Rattle.wire_laws.specs.BytesLaws.{field-part, field-part-start}
+use mathlib.Core.Path.{_≡_, sym, _∙_, ap, subst}
+use mathlib.Core.Bool.{Bool}
+use Prim.Native.Nat.{_+_}
+use lib.Dec.{T}
+use Rattle.model.specs.Bytes.{field}
+use Rattle.model.specs.Layout.{valueAt}
+use Rattle.order.specs.TestLaws.{true-T}
+use Rattle.commands.specs.CommandTests.{valueRight}
 use Rattle.commands.specs.CommandFacts.{command-wrong, command-right}
 use borrow.Author.Needs.{needs}
 use Rattle.commands.proofs.check_command.Statement.{statement}
 use Rattle.commands.proofs.check_command.Tie as tie
 
+-- ---- from one reading back to the one before
+abbrev start : tie.After-byte → tie.Start
+start c = c .before .before
+
+abbrev operated : tie.After-byte2 → tie.After-byte
+operated c = c .before .before .before
+
+abbrev tagged : tie.After-get-u16 → tie.After-byte2
+tagged c = c .before .before
+
+abbrev begun : tie.After-in-range → tie.Start
+begun c = start (operated (tagged (c .before .before .before)))
+
+-- what was answered of the value
+value-is : (c : tie.After-in-range) {t : Bool} → c .in-range .result ≡ t → valueRight (field (begun c .args .c .now) (begun c .args .at + valueAt) 4) ≡ t
+value-is c e = ap valueRight (sym (c .before .get-u32 .ensures)) ∙ sym (c .in-range .ensures) ∙ e
+
 byte-requires : tie.Need-byte-requires
 byte-requires c κs = search needs
 
 returns : tie.Need-returns
-returns c =
-    let a = c .before .before .before .args in
-    let p0 = field-part-start (a .c .now) (a .at) 8 1 (lit≤ tt) in
-    command-wrong (take 8 (drop (a .at) (a .c .now))) (λ f. omega arith)
+returns c = let a = start (c .before) .args in command-wrong (a .c .now) (a .at) (λ f. omega arith)
 
 returns-2 : tie.Need-returns-2
-returns-2 c =
-    let a = c .before .before .before .before .args in
-    let p0 = field-part-start (a .c .now) (a .at) 8 1 (lit≤ tt) in
-    command-wrong (take 8 (drop (a .at) (a .c .now))) (λ f. omega arith)
+returns-2 c = let a = start (c .before .before) .args in command-wrong (a .c .now) (a .at) (λ f. omega arith)
 
 add-byte : tie.Need-add-byte
 add-byte c = search needs
@@ -34,10 +49,7 @@ cast-if3 : tie.Need-cast-if3
 cast-if3 c = search needs
 
 returns-3 : tie.Need-returns-3
-returns-3 c =
-    let a = c .before .before .before .before .before .before .args in
-    let p1 = field-part (a .c .now) (a .at) 8 1 1 (lit≤ tt) in
-    command-wrong (take 8 (drop (a .at) (a .c .now))) (λ f. omega arith)
+returns-3 c = let a = start (operated (c .before)) .args in command-wrong (a .c .now) (a .at) (λ f. omega arith)
 
 add-get-u16 : tie.Need-add-get-u16
 add-get-u16 c = search needs
@@ -46,10 +58,7 @@ get-u16-requires : tie.Need-get-u16-requires
 get-u16-requires c κs = search needs
 
 returns-4 : tie.Need-returns-4
-returns-4 c =
-    let a = c .before .before .before .before .before .before .before .before .args in
-    let p2 = field-part (a .c .now) (a .at) 8 2 2 (lit≤ tt) in
-    command-wrong (take 8 (drop (a .at) (a .c .now))) (λ f. omega arith)
+returns-4 c = let a = start (operated (tagged (c .before))) .args in command-wrong (a .c .now) (a .at) (λ f. omega arith)
 
 add-get-u32 : tie.Need-add-get-u32
 add-get-u32 c = search needs
@@ -62,18 +71,12 @@ in-range-requires c κs = search needs
 
 returns-5 : tie.Need-returns-5
 returns-5 c =
-    let a = c .before .before .before .before .before .before .before .before .before .before .before .args in
-    let p0 = field-part-start (a .c .now) (a .at) 8 1 (lit≤ tt) in
-    let p1 = field-part (a .c .now) (a .at) 8 1 1 (lit≤ tt) in
-    let p2 = field-part (a .c .now) (a .at) 8 2 2 (lit≤ tt) in
-    let value = subst T (sym (sym (ap valueRight (c .before .before .get-u32 .ensures ∙ sym (field-part (a .c .now) (a .at) 8 4 4 (lit≤ tt)))) ∙ sym (c .before .in-range .ensures) ∙ c .if5 .taken)) tt in
-    command-right (take 8 (drop (a .at) (a .c .now))) (record { least = omega arith; most = omega arith; tag = omega arith; zeros = omega arith; value = value })
+    let a = begun (c .before) .args in
+    let value = true-T _ (value-is (c .before) (c .if5 .taken)) in
+    command-right (a .c .now) (a .at) (record { least = omega arith; most = omega arith; tag = omega arith; zeros = omega arith; value = value })
 
 returns-6 : tie.Need-returns-6
-returns-6 c =
-    let a = c .before .before .before .before .before .before .before .before .before .before .before .args in
-    let value = sym (ap valueRight (c .before .before .get-u32 .ensures ∙ sym (field-part (a .c .now) (a .at) 8 4 4 (lit≤ tt)))) ∙ sym (c .before .in-range .ensures) ∙ c .if5 .left in
-    command-wrong (take 8 (drop (a .at) (a .c .now))) (λ f. subst T value (f .value))
+returns-6 c = let a = begun (c .before) .args in command-wrong (a .c .now) (a .at) (λ f. subst T (value-is (c .before) (c .if5 .left)) (f .value))
 
 pub check-command-spec : {M : Type 1} → statement M
 check-command-spec =

@@ -1,3 +1,4 @@
+-- Words up to the highest value are right; above it, those from the lowest value's word on.
 use native.Mathlib.Omega.{arith}
 use mathlib.Core.Path.{sym}
 use Rattle.commands.specs.CommandFacts.{value-high, value-low}

@@ -1,3 +1,4 @@
+-- The dependencies stand end to end past the header, each of a sequence's size.
 use native.Mathlib.Omega.{arith}
 use mathlib.Core.Path.{sym, _∙_}
 use Rattle.message.specs.DependencyLaws.{dependency-at}

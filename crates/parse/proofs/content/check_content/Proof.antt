@@ -1,30 +1,41 @@
+-- Group, then block and priority, then the commands: the definition's test in its order.
 use native.Mathlib.Omega.{arith}
 use mathlib.Core.Path.{_≡_, refl, sym, _∙_, ap}
-use borrow.Author.Tests.{le-leb, lt-leb}
-use Prim.Native.Nat.{ℕ, _+_, _*_, _-_, _/_}
-use mathlib.Core.Bool.{Bool}
-use mathlib.Core.List.{List}
+use mathlib.Core.Bool.{Bool, _&&_}
+use Prim.Native.Nat.{ℕ, _-_}
 use lib.ListN.{length, take, drop, length-drop}
 use lib.Seq.{take-all}
+use borrow.Author.Tests.{le-leb, lt-leb}
 use Rattle.model.specs.Lists.{every}
-use Rattle.model.specs.Bytes.{parts}
-use Rattle.model.specs.Message.{dependencyCount, commandsStart, groupOf, commandRight}
+use Rattle.model.specs.Layout.{fieldLimit}
+use Rattle.model.specs.Message.{Message, commandsStart, groupOf, commandsOf, commandRight, contentRight}
 use Rattle.message.specs.Check.{right}
-use Rattle.parse.specs.ContentLaws.{content-is}
+use Rattle.commands.specs.CommandTests.{commandsRight}
+use Rattle.parse.specs.ContentLaws.{content-is, commands-past}
 use borrow.Author.Needs.{needs}
 use Rattle.parse.proofs.content.check_content.Statement.{statement}
 use Rattle.parse.proofs.content.check_content.Tie as tie
 
-abbrev commandsRight : List ℕ → Bool
-commandsRight b = every commandRight (parts (length b / 8) 8 b)
+abbrev start : tie.After-get-u32 → tie.Start
+start c = c .before .before
+
+abbrev begun : tie.After-check-priority → tie.Start
+begun c = start (c .before .before)
+
+abbrev bytes : tie.After-check-priority → Message
+bytes c = begun c .args .m .now
+
+-- the group is within its limit: block and priority decide next
+by-priority : (c : tie.After-check-priority) {t e : Bool} → right (c .check-priority .result) ≡ t → every commandRight (commandsOf (bytes c)) ≡ e → contentRight (bytes c) ≡ t && e
+by-priority c p e = content-is (bytes c) (le-leb (groupOf (bytes c)) fieldLimit (omega arith)) (sym (c .check-priority .ensures) ∙ p) e
 
 get-u32-requires : tie.Need-get-u32-requires
 get-u32-requires c κs = search needs
 
 returns : tie.Need-returns
 returns c =
-    let m = c .before .before .before .args .m .now in
-    sym (content-is m (c .before .before .before .pre) (lt-leb (groupOf m) 2147483647 (omega arith)) refl refl)
+    let m = start (c .before) .args .m .now in
+    sym (content-is m (lt-leb (groupOf m) fieldLimit (omega arith)) refl refl)
 
 check-priority-requires : tie.Need-check-priority-requires
 check-priority-requires c κs = search needs
@@ -36,10 +47,7 @@ enum-told-2 : tie.Need-enum-told-2
 enum-told-2 c = search needs
 
 returns-2 : tie.Need-returns-2
-returns-2 c =
-    let m = c .before .before .before .before .before .before .args .m .now in
-    let priority = sym (c .before .before .check-priority .ensures) ∙ ap right (c .enum-told2 .given .1) in
-    sym (content-is m (c .before .before .before .before .before .before .pre) (le-leb (groupOf m) 2147483647 (omega arith)) priority refl)
+returns-2 c = sym (by-priority (c .before .before) (ap right (c .enum-told2 .given .1)) refl)
 
 byte-requires : tie.Need-byte-requires
 byte-requires c κs = search needs
@@ -67,13 +75,15 @@ check-commands-requires c κs = search needs
 
 returns-3 : tie.Need-returns-3
 returns-3 c =
-    let m = c .before .before .before .before .before .before .before .before .before .args .m .now in
-    let priority = sym (c .before .before .before .before .before .check-priority .ensures) ∙ ap right (c .before .before .before .enum-told .given .1) in
-    let from = 40 + 12 * c .before .before .byte .result in
-    let start : from ≡ commandsStart (dependencyCount m) = omega arith in
-    let commands : right (c .check-commands .result) ≡ commandsRight (take (length m - from) (drop from m)) = c .check-commands .ensures in
-    commands ∙ ap commandsRight (take-all (length m - from) (drop from m) (omega (arith, length-drop from m)))
-    ∙ ap (λ (n : ℕ). commandsRight (drop n m)) start ∙ sym (content-is m (c .before .before .before .before .before .before .before .before .before .pre) (le-leb (groupOf m) 2147483647 (omega arith)) priority refl)
+    let read = c .before .before in
+    let told = read .before in
+    let checked = told .before .before in
+    let m = bytes checked in
+    let from = commandsStart (read .byte .result) in
+    let handed : right (c .check-commands .result) ≡ commandsRight (take (length m - from) (drop from m)) = c .check-commands .ensures in
+    handed ∙ ap commandsRight (take-all (length m - from) (drop from m) (omega (arith, length-drop from m)))
+    ∙ ap (λ (n : ℕ). commandsRight (drop (commandsStart n) m)) (read .byte .ensures .0)
+    ∙ sym (commands-past m (begun checked .pre)) ∙ sym (by-priority checked (ap right (told .enum-told .given .1)) refl)
 
 pub check-content-spec : {M : Type 1} → statement M
 check-content-spec =

@@ -1,8 +1,6 @@
+-- Each test that is failed contradicts one fact of `BlockAndPriority`, and all that are passed make them up.
 use native.Mathlib.Omega.{arith}
-use borrow.Author.Tests.{eq-eqb, ne-eqb, le-leb, lt-leb}
-use Rattle.model.specs.Bytes.{field}
-use Rattle.model.specs.Message.{blockOf, priorityOf}
-use Rattle.parse.specs.Content.{priorityRight}
+use Rattle.parse.specs.ContentLaws.{priority-wrong, priority-right}
 use borrow.Author.Needs.{needs}
 use Rattle.parse.proofs.content.check_priority.Statement.{statement}
 use Rattle.parse.proofs.content.check_priority.Tie as tie
@@ -14,49 +12,28 @@ get-u32-requires-2 : tie.Need-get-u32-requires-2
 get-u32-requires-2 c κs = search needs
 
 returns : tie.Need-returns
-unfolding priorityRight
-returns c =
-    let m = c .before .before .before .before .args .m .now in
-    simp (lt-leb (blockOf m) 2147483647 (omega arith))
+returns c = priority-wrong (λ f. omega arith)
 
 returns-2 : tie.Need-returns-2
-unfolding priorityRight
-returns-2 c =
-    let m = c .before .before .before .before .before .args .m .now in
-    simp (le-leb (blockOf m) 2147483647 (omega arith), lt-leb (priorityOf m) 2147483647 (omega arith))
+returns-2 c = priority-wrong (λ f. omega arith)
 
 byte-requires : tie.Need-byte-requires
 byte-requires c κs = search needs
 
 returns-3 : tie.Need-returns-3
-unfolding priorityRight
-returns-3 c =
-    let m = c .before .before .before .before .before .before .before .before .args .m .now in
-    simp (le-leb (blockOf m) 2147483647 (omega arith), le-leb (priorityOf m) 2147483647 (omega arith), eq-eqb (field m 1 1) 1 (omega arith), lt-leb 1 (blockOf m) (omega arith))
+returns-3 c = priority-wrong (λ f. omega (arith, f .given (omega arith)))
 
 returns-4 : tie.Need-returns-4
-unfolding priorityRight
-returns-4 c =
-    let m = c .before .before .before .before .before .before .before .before .args .m .now in
-    simp (le-leb (blockOf m) 2147483647 (omega arith), le-leb (priorityOf m) 2147483647 (omega arith), eq-eqb (field m 1 1) 1 (omega arith), le-leb 1 (blockOf m) (omega arith))
+returns-4 c = priority-right (record { block = omega arith; priority = omega arith; given = λ e. omega arith; no-block = λ f. absurd (f (omega arith)); no-priority = λ f. absurd (f (omega arith)) })
 
 returns-5 : tie.Need-returns-5
-unfolding priorityRight
-returns-5 c =
-    let m = c .before .before .before .before .before .before .before .before .args .m .now in
-    simp (le-leb (blockOf m) 2147483647 (omega arith), le-leb (priorityOf m) 2147483647 (omega arith), ne-eqb (field m 1 1) 1 (λ e. omega arith), ne-eqb (blockOf m) 0 (λ e. omega arith))
+returns-5 c = priority-wrong (λ f. omega (arith, f .no-block (λ e. omega arith)))
 
 returns-6 : tie.Need-returns-6
-unfolding priorityRight
-returns-6 c =
-    let m = c .before .before .before .before .before .before .before .before .before .args .m .now in
-    simp (le-leb (blockOf m) 2147483647 (omega arith), le-leb (priorityOf m) 2147483647 (omega arith), ne-eqb (field m 1 1) 1 (λ e. omega arith), eq-eqb (blockOf m) 0 (omega arith), ne-eqb (priorityOf m) 0 (λ e. omega arith))
+returns-6 c = priority-wrong (λ f. omega (arith, f .no-priority (λ e. omega arith)))
 
 returns-7 : tie.Need-returns-7
-unfolding priorityRight
-returns-7 c =
-    let m = c .before .before .before .before .before .before .before .before .before .args .m .now in
-    simp (le-leb (blockOf m) 2147483647 (omega arith), le-leb (priorityOf m) 2147483647 (omega arith), ne-eqb (field m 1 1) 1 (λ e. omega arith), eq-eqb (blockOf m) 0 (omega arith), eq-eqb (priorityOf m) 0 (omega arith))
+returns-7 c = priority-right (record { block = omega arith; priority = omega arith; given = λ e. omega arith; no-block = λ f. omega arith; no-priority = λ f. omega arith })
 
 pub check-priority-spec : {M : Type 1} → statement M
 check-priority-spec =
