@@ -81,6 +81,10 @@ pub value-low : (n : ℕ) → n < 4294967296 → word highestValue < n → value
 unfolding valueRight
 value-low n k h = ⊎-elim positive negative (decide (ltb n 2147483648))
   where
+    -- how far below -1 a value may lie
+    depth : ℕ
+    depth = 4294967296 - suc (word lowestValue)
+
     positive : T (ltb n 2147483648) → valueRight n ≡ leb (word lowestValue) n
     positive t =
         let small : n < 2147483648 = ltb→lt n 2147483648 t in
@@ -89,7 +93,7 @@ value-low n k h = ⊎-elim positive negative (decide (ltb n 2147483648))
     negative : T (not (ltb n 2147483648)) → valueRight n ≡ leb (word lowestValue) n
     negative t =
         simp (le-ltb n 2147483648 (nltb→le n 2147483648 t), lt-ltb n 4294967296 k)
-        (and-true (leb (4294967296 - suc n) 999999) ∙ same-leb (4294967296 - suc n) 999999 (word lowestValue) n (λ e. omega arith) (λ e. omega arith))
+        (and-true (leb (4294967296 - suc n) depth) ∙ same-leb (4294967296 - suc n) depth (word lowestValue) n (λ e. omega arith) (λ e. omega arith))
 
 -- ---- the bytes of commands handed over
 pub record WholeCommands (c : List ℕ) : Type 0 where
