@@ -15,9 +15,9 @@ use Rattle.model.specs.Layout.{capacity}
 use Rattle.model.specs.Message.{Message, sequenceOf, blockOf}
 use Rattle.model.specs.Order.{State, RightSet, sequencesOf, needs, placedBy, ready, Executable, effectiveBlock}
 use Rattle.order.specs.ListLaws.{getD-∈}
-use Rattle.order.specs.TestLaws.{decide}
+use Rattle.order.specs.TestLaws.{decide, not-eqb}
 use Rattle.order.specs.ListingLaws.{Stuck, stuck-complete, listing-snoc, listing-length, after-snoc, after-has}
-use Rattle.laws.specs.SetLaws.{not-eqb, ascending-names}
+use Rattle.laws.specs.SetLaws.{ascending-names}
 use Rattle.table.specs.Table.{deltasAt}
 use Rattle.table.specs.PlaceLaws.{one-place}
 use Rattle.needs.specs.Names.{missing}

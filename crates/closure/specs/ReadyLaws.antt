@@ -10,7 +10,8 @@ use lib.Dec.{T, T-not, not-T}
 use Rattle.model.specs.Lists.{_∈_, has, hasAll, every, greatest}
 use Rattle.model.specs.Message.{Message, sequenceOf, blockOf}
 use Rattle.model.specs.Order.{State, RightSet, sequencesOf, find, needs, placedBy, ready, effectiveBlock}
-use Rattle.order.specs.ListLaws.{getD-∈, ∈-getD, every-drop, every-end, greatest-drop, greatest-end}
+use Rattle.order.specs.ListLaws.{getD-∈, ∈-getD}
+use Rattle.order.specs.ScanLaws.{every-step, every-end, greatest-step, greatest-end}
 use Rattle.order.specs.TestLaws.{is-true, is-false, has→∈, hasAll→∈}
 use Rattle.order.specs.ListingLaws.{Stuck, ready-needs, ready-executable, after-from}
 use Rattle.laws.specs.SetLaws.{find-here}
@@ -26,7 +27,7 @@ use Rattle.closure.specs.Ready.{isPlaced, readyIn, effectiveIn, Marks, P
 module _ (rows counts : List ℕ) (i : ℕ) (fits : RowFits rows counts i) where
   pub every-row : (p : ℕ → Bool) (k : ℕ) → k < getD counts i 0 → every p (drop k (rowIn rows counts i)) ≡ p (getD rows (rowSize * i + k) 0) && every p (drop (k + 1) (rowIn rows counts i))
   every-row p k h =
-      every-drop p (rowIn rows counts i) k 0 (omega (arith, row-length fits))
+      every-step p (rowIn rows counts i) k 0 (omega (arith, row-length fits))
       ∙ ap (λ (x : ℕ). p x && every p (drop (k + 1) (rowIn rows counts i))) (row-at fits k h)
 
   pub row-done : (p : ℕ → Bool) (k : ℕ) → getD counts i 0 ≤ k → every p (drop k (rowIn rows counts i)) ≡ true
@@ -34,7 +35,7 @@ module _ (rows counts : List ℕ) (i : ℕ) (fits : RowFits rows counts i) where
 
   pub greatest-row : (f : ℕ → ℕ) (k : ℕ) → k < getD counts i 0 → greatest f (drop k (rowIn rows counts i)) ≡ max (f (getD rows (rowSize * i + k) 0)) (greatest f (drop (k + 1) (rowIn rows counts i)))
   greatest-row f k h =
-      greatest-drop f (rowIn rows counts i) k 0 (omega (arith, row-length fits))
+      greatest-step f (rowIn rows counts i) k 0 (omega (arith, row-length fits))
       ∙ ap (λ (x : ℕ). max (f x) (greatest f (drop (k + 1) (rowIn rows counts i)))) (row-at fits k h)
 
   pub greatest-done : (f : ℕ → ℕ) (k : ℕ) → getD counts i 0 ≤ k → greatest f (drop k (rowIn rows counts i)) ≡ 0

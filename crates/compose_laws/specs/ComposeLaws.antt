@@ -23,12 +23,12 @@ use Rattle.model.specs.Codes.{lowestCode, commandsSized, composeContent, heldOn
 use Rattle.model.specs.Calls.{Composed, composeAnswer, composeCode, compose, Delivered, deliver}
 use Rattle.model.specs.PlainStation.{accepts, receive}
 use Rattle.model.specs.Run.{delivery}
-use Rattle.order.specs.TestLaws.{and-l, and-r, and-i, or-l, or-r, or-e, decide, has→∈, ∈→has, keep-∈, ∈-keep, every-∈, ∈-every, some-∈, ∈-some, greatest-≥, greatest-cong}
+use Rattle.order.specs.TestLaws.{and-l, and-r, and-i, or-l, or-r, or-e, nor-l, nor-r, decide, has→∈, ∈→has, keep-∈, ∈-keep, every-∈, ∈-every, some-∈, ∈-some, greatest-≥, greatest-cong, not-eqb}
 use Rattle.order.specs.KeyOrder.{less-total}
 use Rattle.order.specs.ListingLaws.{after-has}
 use Rattle.order.specs.Extension.{extends}
 use Rattle.order.specs.StepLaws.{common-longer, steps-longer}
-use Rattle.laws.specs.SetLaws.{ascending-names, insert-from, insert-keeps, insert-has, insert-ascending, not-eqb}
+use Rattle.laws.specs.SetLaws.{ascending-names, insert-from, insert-keeps, insert-has, insert-ascending}
 use Rattle.laws.specs.LogLaws.{Logged, keys-differ, log-received}
 use Rattle.laws.specs.EffectiveLaws.{keys-agree}
 use Rattle.wire_laws.specs.MessageLaws.{sequence-range}
@@ -87,14 +87,6 @@ none-applies false false false false false false false q = (tt, tt, tt, tt, tt, 
 not-not : (b : Bool) → T (not (not b)) → T b
 not-not true t = tt
 not-not false t = t
-
-nor-l : (a b : Bool) → T (not (a || b)) → T (not a)
-nor-l true b t = t
-nor-l false b t = tt
-
-nor-r : (a b : Bool) → T (not (a || b)) → T (not b)
-nor-r true b t = absurd t
-nor-r false b t = t
 
 granted : (b line commands : List ℕ) (flag priority room : ℕ) → composeCode b line commands flag priority room ≡ 0 → Granted b line commands flag priority room
 unfolding composeCode

@@ -1,5 +1,5 @@
 -- The places that are not the log's are those of the held messages, by ascending sequence.
-use mathlib.Core.Path.{_≡_, refl, sym, _∙_, ap, ap₂, subst}
+use mathlib.Core.Path.{_≡_, refl, sym, _∙_, ap, ap₂}
 use mathlib.Core.Logic.{⊎-elim}
 use mathlib.Core.Bool.{Bool, true, false, cond, not, _||_}
 use mathlib.Core.List.{List, [], _∷_, _++_, map, append-nil, List·Memᴰ·head, List·Memᴰ·tail, List·Memᴰ·not-nil, List·Memᴰ·cases-cons, List·Memᴰ·append-cases}
@@ -7,13 +7,12 @@ use Prim.Native.Nat.{ℕ, zero, suc, _+_, _≤_, _<_}
 use native.Mathlib.Omega.{arith}
 use native.Mathlib.Nat.{le-of-suc-le-suc}
 use native.Mathlib.Numerals.{add-one}
-use lib.Dec.{T, eqb, eqb→eq, eqb-refl}
 use lib.ListN.{length, take, getD, length-append, length-map}
 use lib.Seq.{take-suc, take-length}
 use Rattle.model.specs.Lists.{_∈_, has, keep}
 use Rattle.model.specs.Message.{Message, sequenceOf}
 use Rattle.model.specs.Order.{Ascending, sequencesOf, logOf, heldOf}
-use Rattle.order.specs.TestLaws.{keep-∈, keep-length}
+use Rattle.order.specs.TestLaws.{keep-∈, keep-length, same-eqb}
 use Rattle.table.specs.Table.{messageFrom, deltasOf, setIn}
 use Rattle.image.specs.Places.{messagesAt, below, othersBelow, Placed, Listed}
 use Rattle.image.specs.PlaceLaws.{at-member, listed-placed}
@@ -88,17 +87,6 @@ one-place l a i j h k e =
     omega arith
 
 -- ---- so a place is among places exactly if its sequence is among theirs
-same-test : (a b : Bool) → (T a → T b) → (T b → T a) → a ≡ b
-same-test true true f g = refl
-same-test true false f g = absurd (f tt)
-same-test false true f g = absurd (g tt)
-same-test false false f g = refl
-
-same-eqb : (a b x y : ℕ) → (a ≡ b → x ≡ y) → (x ≡ y → a ≡ b) → eqb a b ≡ eqb x y
-same-eqb a b x y f g =
-    same-test (eqb a b) (eqb x y) (λ t. subst (λ (z : ℕ). T (eqb x z)) (f (eqb→eq a b t)) (eqb-refl x))
-    (λ t. subst (λ (z : ℕ). T (eqb a z)) (g (eqb→eq x y t)) (eqb-refl a))
-
 has-places : (at : ℕ → Message) (i : ℕ) (places : List ℕ) → ((j : ℕ) → j ∈ places → sequenceOf (at i) ≡ sequenceOf (at j) → i ≡ j)
     → has i places ≡ has (sequenceOf (at i)) (sequencesOf (map at places))
 has-places at i [] f = refl

@@ -12,10 +12,7 @@ use Rattle.model.specs.Lists.{_∈_, has}
 use Rattle.model.specs.Message.{Message, sequenceOf}
 use Rattle.model.specs.Order.{Ascending, insert, find}
 use Rattle.model.specs.Image.{setOf}
-use Rattle.order.specs.TestLaws.{Same, decide}
-
-pub not-eqb : (a b : ℕ) → T (not (eqb a b)) → a ≡ b → ⊥
-not-eqb a b t e = T-not (eqb a b) t (subst (λ (z : ℕ). T (eqb a z)) e (eqb-refl a))
+use Rattle.order.specs.TestLaws.{Same, decide, not-eqb}
 
 pub insert-from : (m : Message) (S : List Message) (a : Message) → a ∈ insert m S → (a ≡ m) ⊎ (a ∈ S)
 insert-from m [] a h = List·Memᴰ·cases-cons h

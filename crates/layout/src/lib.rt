@@ -1,5 +1,5 @@
-// The offsets and sizes of document 01 in bytes, and its counts, by the names of `Layout` in the definitions. Every crate that
-// reads or writes a message, an image or a step takes them from here.
+// The offsets and sizes of document 01 in bytes, its counts and its limits, by the names of `Layout` in the definitions. Every
+// crate that reads or writes a message, an image or a step takes them from here.
 
 // ---- a delta on the wire: the header
 pub const KIND_AT: usize = 0;
@@ -34,7 +34,13 @@ pub const HEADER_SIZE: usize = 40;
 
 pub const SEQUENCE_SIZE: usize = 12;
 
+// how many numbers a line has, 0000 among them
+pub const NUMBERS_OF_LINE: u32 = 65536;
+
 pub const MOST_DEPENDENCIES: usize = 8;
+
+// the most that group, block and priority may be
+pub const FIELD_LIMIT: u32 = 2147483647;
 
 // ---- a command
 pub const COMMAND_SIZE: usize = 8;
@@ -59,6 +65,11 @@ pub const HIGHEST_VALUE: i32 = 1000000;
 
 // all tags' values
 pub const VALUES_SIZE: usize = VALUE_SIZE * TAG_COUNT;
+
+// the two as the words that stand in a command, by two's complement
+pub const LOWEST_VALUE_WORD: u32 = (LOWEST_VALUE as i64 + 4294967296) as u32;
+
+pub const HIGHEST_VALUE_WORD: u32 = HIGHEST_VALUE as u32;
 
 // ---- the station image
 pub const LOG_COUNT_AT: usize = 0;

@@ -15,13 +15,13 @@ use Rattle.model.specs.Layout.{capacity}
 use Rattle.model.specs.Message.{Message, sequenceOf}
 use Rattle.model.specs.Listing as L
 use Rattle.model.specs.Order.{State, RightSet, sequencesOf, needs, placedBy, ready, Listing, Executable, keyOf, less, logOf}
-use Rattle.order.specs.ListLaws.{getD-∈, ∈-getD, getD-map, greatest-≤}
-use Rattle.order.specs.TestLaws.{decide, ∈→has, hasAll→∈, greatest-≥}
+use Rattle.order.specs.ListLaws.{getD-∈, ∈-getD, getD-map, greatest-≤, take-map}
+use Rattle.order.specs.TestLaws.{decide, ∈→has, hasAll→∈, greatest-≥, not-eqb}
 use Rattle.order.specs.KeyOrder.{less-total}
 use Rattle.order.specs.ListingLaws.{Stuck, ready-fresh, ready-needs, complete-stuck, stuck-complete}
 use Rattle.order.specs.Places.{below, after-take, listing-at, listing-apart, ready-at}
 use Rattle.order.specs.InPlace.{InPlace, first-in-place, in-place-first}
-use Rattle.laws.specs.SetLaws.{not-eqb, ascending-names}
+use Rattle.laws.specs.SetLaws.{ascending-names}
 use Rattle.laws.specs.LogLaws.{keys-differ, log-complete}
 use Rattle.table.specs.Table.{deltasAt}
 use Rattle.table.specs.PlaceLaws.{one-place}
@@ -40,11 +40,6 @@ use Rattle.log.specs.Checking.{Inside, Checking}
 
 last-or : (q k : ℕ) → q < k + 1 → (q ≡ k) ⊎ (q < k)
 last-or q k h = ⊎-elim (λ t. inl (eqb→eq q k t)) (λ t. inr (let other : q ≡ k → ⊥ = not-eqb q k t in omega arith)) (decide (eqb q k))
-
-take-map : {A B : Type 0} (n : ℕ) (f : A → B) (l : List A) → take n (map f l) ≡ map f (take n l)
-take-map zero f l = refl
-take-map (suc n) f [] = refl
-take-map {A} {B} (suc n) f (a ∷ l) = ap (λ (k : List B). f a ∷ k) (take-map n f l)
 
 module _ (S : State) (right : RightSet (S .deltas)) (places : List ℕ) (within : Inside S places) where
   -- the deltas at the places, and how they are taken one after the other

@@ -10,8 +10,7 @@ use lib.Seq.{getD-set-same, getD-set-other}
 use lib.Dec.{T, eqb, eqb→eq}
 use Rattle.model.specs.Message.{Message}
 use Rattle.model.specs.Order.{State, RightSet, keyWith}
-use Rattle.order.specs.TestLaws.{decide}
-use Rattle.laws.specs.SetLaws.{not-eqb}
+use Rattle.order.specs.TestLaws.{decide, not-eqb}
 use Rattle.key.specs.declared.Key.{Key}
 use Rattle.key.specs.Key.{keyNumbers, noKey}
 use Rattle.needs.specs.Rows.{RowsRight}

@@ -1,3 +1,2 @@
 pub mod LogOrder
-pub mod CommonLaws
 pub mod LogOrderLaws

@@ -9,8 +9,7 @@ use native.Mathlib.Nat.{le-of-suc-le-suc}
 use lib.ListN.{length, getD}
 use lib.Dec.{T, eqb, eqb→eq, ltb, ltb→lt, nltb→le}
 use Rattle.model.specs.Layout.{capacity}
-use Rattle.order.specs.TestLaws.{decide}
-use Rattle.laws.specs.SetLaws.{not-eqb}
+use Rattle.order.specs.TestLaws.{decide, not-eqb}
 use Rattle.needs.specs.Names.{Ascends, missing, indexFrom, indexOf}
 
 abbrev pub Unnamed : List ℕ → ℕ → Type 0

@@ -11,8 +11,7 @@ use lib.Seq.{ext-getD, getD-take, length-take-le, getD-set-same, getD-set-other}
 use lib.Dec.{T, eqb, eqb→eq}
 use Rattle.model.specs.Message.{Message, sequenceOf}
 use Rattle.model.specs.Order.{Ascending, RightSet, sequencesOf}
-use Rattle.order.specs.TestLaws.{decide}
-use Rattle.laws.specs.SetLaws.{not-eqb}
+use Rattle.order.specs.TestLaws.{decide, not-eqb}
 use Rattle.table.specs.PlaceLaws.{ascending-at}
 use Rattle.needs.specs.declared.sequences.Sequences.{Sequences}
 use Rattle.needs.specs.Names.{nameOf, namesIn, Ascends, Searchable, SequencesRight}

@@ -10,8 +10,7 @@ use lib.Dec.{eqb, eqb→eq}
 use Rattle.model.specs.Layout.{capacity}
 use Rattle.model.specs.Message.{Message, sequenceOf, needsOf}
 use Rattle.model.specs.Order.{State, RightSet, sequencesOf, needs}
-use Rattle.order.specs.TestLaws.{decide}
-use Rattle.laws.specs.SetLaws.{not-eqb}
+use Rattle.order.specs.TestLaws.{decide, not-eqb}
 use Rattle.needs.specs.Names.{missing, indexOf}
 use Rattle.needs.specs.IndexLaws.{index-small}
 use Rattle.needs.specs.Rows.{rowSize, rowIn, RowIs, RowsRight, RowFits}

@@ -1,7 +1,9 @@
 pub mod ListLaws
 pub mod TestLaws
+pub mod ScanLaws
 pub mod KeyOrder
 pub mod StepLaws
+pub mod CommonLaws
 pub mod ListingLaws
 pub mod Extension
 pub mod Places

@@ -1,14 +1,11 @@
 -- Laws of lists that every crate uses: items by their places, and the greatest of a list.
-use mathlib.Core.Path.{_≡_, refl, sym, _∙_, ap, ap₂}
-use mathlib.Core.Bool.{Bool, true, _&&_}
-use mathlib.Core.List.{List, [], _∷_, _++_, map, List·Memᴰ·head, List·Memᴰ·tail}
-use Prim.Native.Nat.{ℕ, zero, suc, _+_, _≤_, _<_, zero-le, suc-le-suc, max}
+use mathlib.Core.Path.{_≡_, refl, sym, ap}
+use mathlib.Core.List.{List, [], _∷_, map, List·Memᴰ·head, List·Memᴰ·tail}
+use Prim.Native.Nat.{ℕ, zero, suc, _≤_, _<_, zero-le, suc-le-suc}
 use native.Mathlib.Omega.{arith}
 use native.Mathlib.Nat.{le-of-suc-le-suc}
-use native.Mathlib.Numerals.{add-one}
-use lib.ListN.{length, drop, getD, drop-of-length-le}
-use lib.Seq.{drop-cons}
-use Rattle.model.specs.Lists.{_∈_, every, greatest}
+use lib.ListN.{length, take, getD}
+use Rattle.model.specs.Lists.{_∈_, greatest}
 
 pub getD-∈ : {A : Type 0} (l : List A) (k : ℕ) (d : A) → k < length l → getD l k d ∈ l
 getD-∈ [] k d h = let z : ⊥ = omega arith in absurd z
@@ -32,15 +29,7 @@ pub map-map : {A B C : Type 0} (g : B → C) (f : A → B) (l : List A) → map 
 map-map g f [] = refl
 map-map g f (a ∷ l) = ap (λ (k : List _). g (f a) ∷ k) (map-map g f l)
 
--- one more item is looked at, or none is left
-pub every-drop : {A : Type 0} (p : A → Bool) (l : List A) (k : ℕ) (d : A) → k < length l → every p (drop k l) ≡ p (getD l k d) && every p (drop (k + 1) l)
-every-drop p l k d h = rw (add-one, drop-cons l k d)
-
-pub greatest-drop : {A : Type 0} (f : A → ℕ) (l : List A) (k : ℕ) (d : A) → k < length l → greatest f (drop k l) ≡ max (f (getD l k d)) (greatest f (drop (k + 1) l))
-greatest-drop f l k d h = rw (add-one, drop-cons l k d)
-
-pub every-end : {A : Type 0} (p : A → Bool) (l : List A) (k : ℕ) → length l ≤ k → every p (drop k l) ≡ true
-every-end p l k h = rw (drop-of-length-le l h)
-
-pub greatest-end : {A : Type 0} (f : A → ℕ) (l : List A) (k : ℕ) → length l ≤ k → greatest f (drop k l) ≡ 0
-greatest-end f l k h = rw (drop-of-length-le l h)
+pub take-map : {A B : Type 0} (n : ℕ) (f : A → B) (l : List A) → take n (map f l) ≡ map f (take n l)
+take-map zero f l = refl
+take-map (suc n) f [] = refl
+take-map {A} {B} (suc n) f (a ∷ l) = ap (λ (k : List B). f a ∷ k) (take-map n f l)

@@ -13,16 +13,12 @@ use lib.ListN.{length}
 use lib.Dec.{T, eqb, eqb-refl, T-not, not-T}
 use Rattle.model.specs.Lists.{_∈_, has, hasAll, keep}
 use Rattle.model.specs.Listing as L
-use Rattle.order.specs.TestLaws.{and-l, and-r, and-i, or-l, decide, has→∈, ∈→has, hasAll→∈, ∈→hasAll, keep-∈, ∈-keep, keep-length, keep-loses, Same}
+use Rattle.order.specs.TestLaws.{and-l, and-r, and-i, or-l, nor-r, decide, has→∈, ∈→has, hasAll→∈, ∈→hasAll, keep-∈, ∈-keep, keep-length, keep-loses, Same}
 use Rattle.order.specs.KeyOrder.{Total}
 
 not-mem-of-length-zero : {A : Type 0} (l : List A) → length l ≤ 0 → {a : A} → a ∈ l → ⊥
 not-mem-of-length-zero [] h m = List·Memᴰ·not-nil m
 not-mem-of-length-zero (x ∷ l) h m = omega arith
-
-nor-r : (a b : Bool) → T (not (a || b)) → T (not b)
-nor-r true b t = absurd t
-nor-r false b t = t
 
 -- ---- the names that are placed
 module _ {A : Type 0} (name : A → ℕ) where

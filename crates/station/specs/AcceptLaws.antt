@@ -20,7 +20,7 @@ use Rattle.table.specs.PlaceLaws.{ascending-at}
 use Rattle.table.specs.InsertLaws.{length-insert}
 use Rattle.log.specs.declared.«log_order».LogOrder.{LogOrder}
 use Rattle.log.specs.LogOrder.{oldOf, placesOf, OrderRight}
-use Rattle.log.specs.CommonLaws.{common-named}
+use Rattle.order.specs.CommonLaws.{common-named}
 use Rattle.steps.specs.Names.{Within, shifted}
 use Rattle.steps.specs.NameLaws.{delta-shifted, within-shifted}
 use Rattle.station.specs.declared.answer.Delivery.the-variants as delivery

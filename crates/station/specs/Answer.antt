@@ -3,8 +3,8 @@ use mathlib.Core.Bool.{Bool, true, false}
 use mathlib.Core.List.{List}
 use Prim.Native.Nat.{ℕ}
 use Rattle.model.specs.Calls.{Emptied, Delivered}
-use Rattle.message.specs.declared.parse.Parsed.{Parsed}
-use Rattle.message.specs.declared.parse.Parsed.the-variants as parsed
+use Rattle.parse.specs.declared.Parsed.{Parsed}
+use Rattle.parse.specs.declared.Parsed.the-variants as parsed
 use Rattle.station.specs.declared.answer.Delivery.{Delivery}
 use Rattle.station.specs.declared.answer.Delivery.the-variants as delivery
 use Rattle.station.specs.declared.answer.Emptying.{Emptying}

@@ -1,6 +1,6 @@
 -- The cases of deliver at a judged station, for a message that passes 3 to 6: its sequence is there, or new.
 use mathlib.Core.Path.{_≡_, refl, sym, _∙_, ap, ap₂, subst}
-use mathlib.Core.Bool.{Bool, true, false, cond, not, _&&_, _||_}
+use mathlib.Core.Bool.{Bool, true, false, not, _&&_, _||_}
 use mathlib.Core.List.{List, []}
 use Prim.Native.Nat.{ℕ, _≤_, _<_}
 use native.Mathlib.Omega.{arith}
@@ -10,12 +10,13 @@ use lib.Dec.{T, eqb, ltb, leb, le→leb, eqb-refl}
 use borrow.Author.Tests.{eq-eqb, le-ltb, le-leb, lt-leb}
 use Rattle.model.specs.Lists.{has, same}
 use Rattle.model.specs.Layout.{imageSize, stepRoom, capacity}
-use Rattle.model.specs.Message.{Message, sequenceOf, layoutRight, numbersRight, dependenciesRight, contentRight, passes}
+use Rattle.model.specs.Message.{Message, sequenceOf, passes}
 use Rattle.model.specs.Order.{State, add, find}
 use Rattle.model.specs.Image.{stateIn}
-use Rattle.model.specs.Codes.{lowestCode, messageConditions, wrongSize, smallSteps, present, conflicts, full}
+use Rattle.model.specs.Codes.{wrongSize, smallSteps, present, conflicts, full}
 use Rattle.model.specs.Calls.{Delivered, acceptedAnswer, deliverCode, deliver}
 use Rattle.order.specs.TestLaws.{and-l, and-r}
+use Rattle.parse.specs.ParsedLaws.{passes-code}
 use Rattle.table.specs.Table.{startsOf, messageFrom, deltasOf, setIn}
 use Rattle.table.specs.Places.{IsPresent, IsAbsent}
 use Rattle.table.specs.PlaceLaws.{delta-at}
@@ -25,18 +26,6 @@ use Rattle.station.specs.declared.answer.Delivery.the-variants as delive
 use Rattle.station.specs.Answer.{deliveredBy, repeatOf}
 use Rattle.station.specs.Reading.{IsStation}
 use Rattle.station.specs.DeliverCases.{code-conflict, code-full, code-accepted, refused-is, accepted-is, repeat-is}
-
--- a message that passes meets none of 3 to 6
-pub passes-code : (m : Message) → T (passes m) → lowestCode (messageConditions m) ≡ 0
-unfolding passes
-passes-code m t = go (layoutRight m) (numbersRight m) (dependenciesRight m) (contentRight m) t
-  where
-    go : (l n d c : Bool) → T (l && n && d && c) → _≡_ {A = ℕ} (cond (not l) 3 (cond (not n) 4 (cond (not d) 5 (cond (not c) 6 0)))) 0
-    go true true true true t = refl
-    go true true true false t = absurd t
-    go true true false c t = absurd t
-    go true false d c t = absurd t
-    go false n d c t = absurd t
 
 -- right sizes
 pub sizes-right : (b : List ℕ) (room : ℕ) → length b ≡ imageSize → stepRoom ≤ room → T (not (wrongSize b || smallSteps room))

@@ -13,9 +13,9 @@ use Rattle.model.specs.Codes.{wrongSize, smallSteps}
 use Rattle.model.specs.Calls.{Delivered, deliver}
 use Rattle.message.specs.declared.checks.Check.{Check}
 use Rattle.message.specs.declared.checks.Check.the-variants.{Right, Wrong}
-use Rattle.message.specs.declared.parse.Parsed.{Parsed}
-use Rattle.message.specs.declared.parse.Parsed.the-variants as parsed
-use Rattle.message.specs.Parsed.{parsedCode, Parses}
+use Rattle.parse.specs.declared.Parsed.{Parsed}
+use Rattle.parse.specs.declared.Parsed.the-variants as parsed
+use Rattle.parse.specs.Parsed.{parsedCode, Parses}
 use Rattle.table.specs.declared.Table.{Table}
 use Rattle.station.specs.declared.reading.Station.{Station}
 use Rattle.station.specs.Answer.{refusal, deliveredBy, refusalOf}

@@ -6,7 +6,7 @@ use buffer::get_u16;
 use buffer::same;
 use layout::LENGTH_AT;
 use message::checks::Check;
-use message::parse::Parsed;
+use parse::Parsed;
 ghost use mathlib.Core.Path.{_≡_};
 ghost use mathlib.Core.Bool.{not};
 ghost use lib.Dec.{eqb};

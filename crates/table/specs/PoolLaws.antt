@@ -1,10 +1,10 @@
 -- Two pools that agree on their first n bytes have the same messages there: what stands behind them makes no difference.
 use mathlib.Core.Path.{_≡_, refl, sym, _∙_, ap, ap₂, subst}
 use mathlib.Core.List.{List, [], _∷_, _++_, List·Memᴰ·head, List·Memᴰ·tail, Memᴰ·map}
-use Prim.Native.Nat.{ℕ, zero, suc, _+_, _≤_}
+use Prim.Native.Nat.{ℕ, _+_, _≤_}
 use native.Mathlib.Omega.{arith}
 use lib.ListN.{length, take, drop}
-use lib.Seq.{take-take, take-append-seam, take-length}
+use lib.Seq.{take-append-seam, take-length}
 use lib.Dec.{T}
 use Rattle.model.specs.Lists.{_∈_}
 use Rattle.model.specs.Bytes.{number, field}
@@ -12,7 +12,7 @@ use Rattle.model.specs.Layout.{lengthAt}
 use Rattle.model.specs.Message.{Message, passes}
 use Rattle.model.specs.Order.{stateOf}
 use Rattle.model.specs.Image.{Valid}
-use Rattle.wire_laws.specs.BytesLaws.{field-part}
+use Rattle.wire_laws.specs.BytesLaws.{take-drop-take, field-part}
 use Rattle.wire_laws.specs.MessageLaws.{Sized, passes-sized, sized-range}
 use Rattle.table.specs.Table.{messageFrom, deltasOf, Holds}
 use Rattle.table.specs.TableLaws.{Lies, passes-lies}
@@ -20,12 +20,6 @@ use Rattle.table.specs.TableLaws.{Lies, passes-lies}
 -- a message ends within the first n bytes
 abbrev pub Within : List ℕ → ℕ → ℕ → Type 0
 Within pool n at = at + field pool (at + lengthAt) 2 ≤ n
-
-take-drop-take : (n i size : ℕ) (b : List ℕ) → i + size ≤ n → take size (drop i (take n b)) ≡ take size (drop i b)
-take-drop-take n zero size b h = take-take size n b (omega arith)
-take-drop-take zero (suc i) size b h = let z : ⊥ = omega arith in absurd z
-take-drop-take (suc n) (suc i) size [] h = refl
-take-drop-take (suc n) (suc i) size (x ∷ b) h = take-drop-take n i size b (omega arith)
 
 module _ (a b : List ℕ) (n : ℕ) (agree : take n a ≡ take n b) where
   part-agrees : (i size : ℕ) → i + size ≤ n → take size (drop i b) ≡ take size (drop i a)

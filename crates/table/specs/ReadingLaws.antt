@@ -15,11 +15,10 @@ use Rattle.model.specs.Layout.{lengthAt, messagesStart, capacity}
 use Rattle.model.specs.Message.{Message, sequenceOf, passes}
 use Rattle.model.specs.Order.{stateOf, insert, sequencesOf}
 use Rattle.model.specs.Image.{cut, logCount, heldCount, messagesIn, stateIn, isImage}
-use Rattle.order.specs.TestLaws.{Same, has→∈, ∈→has}
+use Rattle.order.specs.TestLaws.{Same, false-of, true-T, has→∈, ∈→has}
 use Rattle.laws.specs.SetLaws.{insert-from, insert-keeps, insert-has, setOf-same}
 use Rattle.message.specs.declared.checks.Check.{Check}
 use Rattle.message.specs.declared.checks.Check.the-variants.{Right, Wrong}
-use Rattle.sequence.specs.Decisions.{true-T, T-false}
 use Rattle.table.specs.declared.Table.{Table}
 use Rattle.table.specs.declared.reading.Reading.{Reading}
 use Rattle.table.specs.Reading.{known, IsTaken, TakesIn, IsTable, ReadsTable}
@@ -91,10 +90,10 @@ module _ (b : List ℕ) (i at : ℕ) (starts : List ℕ) (w : Walked b i at star
 
   -- ---- refused
   pub walk-refused : passes (messageFrom b at) ≡ false → isImage b ≡ false
-  walk-refused e = T-false (isImage b) (λ t. false-not e (image-messages b t .pass (messageFrom b at) next-member))
+  walk-refused e = false-of (isImage b) (λ t. false-not e (image-messages b t .pass (messageFrom b at) next-member))
 
   pub walk-twice : has (sequenceOf (messageFrom b at)) (sequencesOf (deltasOf b starts)) ≡ true → isImage b ≡ false
-  walk-twice e = T-false (isImage b) (λ t.
+  walk-twice e = false-of (isImage b) (λ t.
       let s : ℕ = sequenceOf (messageFrom b at) in
       let r = Memᴰ·of-map sequenceOf (deltasOf b starts) (has→∈ s (sequencesOf (deltasOf b starts)) (true-T (has s (sequencesOf (deltasOf b starts))) e)) in
       distinct-places (take i (messagesIn b)) (messageFrom b at) left (rw next-split at (image-messages b t .distinct)) (r .0) (w .taken (r .0) .1 (r .1)) (r .2))
@@ -143,4 +142,4 @@ pub wrong-reads : (b : List ℕ) (r : Reading) → r .check ≡ Wrong → isImag
 wrong-reads b r e h = subst (λ (k : Check). ReadsTable b (record { check = k; table = r .table })) (sym e) h
 
 pub too-many : (b : List ℕ) → capacity < countIn b → isImage b ≡ false
-too-many b h = T-false (isImage b) (λ t. let z : ⊥ = omega (arith, image-messages b t .fits) in z)
+too-many b h = false-of (isImage b) (λ t. let z : ⊥ = omega (arith, image-messages b t .fits) in z)

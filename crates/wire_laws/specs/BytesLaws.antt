@@ -5,10 +5,10 @@ use mathlib.Core.Bool.{Bool, true, false, cond, not, _&&_}
 use mathlib.Core.List.{List, [], _∷_, _++_, map, List·Memᴰ·head, List·Memᴰ·tail, append-assoc}
 use Prim.Native.Nat.{ℕ, zero, suc, _+_, _*_, _-_, _/_, _%_, _^_, _≤_, _<_, min}
 use native.Mathlib.Omega.{arith}
-use native.Mathlib.Nat.{mod-eq-of-lt, pow-suc, mul-assoc, mul-comm, one-le-pow, pow-le-pow-right, lt-of-lt-of-le}
+use native.Mathlib.Nat.{mod-eq-of-lt, pow-suc, mul-zero, mul-suc, mul-assoc, mul-comm, le-of-suc-le-suc, one-le-pow, pow-le-pow-right, lt-of-lt-of-le}
 use lib.Dec.{T, ltb, lit<, lit≤, ltb→lt, lt→ltb, nltb→le}
 use lib.Arith.{mod-mul}
-use lib.ListN.{length, take, drop, length-append, length-drop, length-take}
+use lib.ListN.{length, take, drop, getD, length-append, length-drop, length-take}
 use lib.Seq.{take-at, drop-at, take-append-le, drop-append-le, take-take, drop-drop}
 use lib.IntN.{ℤ, pos, negsuc, subℕ}
 use lib.Signed.{mag}
@@ -85,7 +85,7 @@ field-append a b at size h =
     ap number (ap (take size) (drop-append-le at a b (omega arith)) ∙ take-append-le size (drop at a) b (omega (arith, length-drop at a)))
 
 -- a field of a part is a field of the whole
-take-drop-take : (n i size : ℕ) (b : List ℕ) → i + size ≤ n → take size (drop i (take n b)) ≡ take size (drop i b)
+pub take-drop-take : (n i size : ℕ) (b : List ℕ) → i + size ≤ n → take size (drop i (take n b)) ≡ take size (drop i b)
 take-drop-take n zero size b h = take-take size n b (omega arith)
 take-drop-take zero (suc i) size b h = let z : ⊥ = omega arith in absurd z
 take-drop-take (suc n) (suc i) size [] h = refl
@@ -94,7 +94,21 @@ take-drop-take (suc n) (suc i) size (x ∷ b) h = take-drop-take n i size b (ome
 pub field-part : (b : List ℕ) (at n i size : ℕ) → i + size ≤ n → field (take n (drop at b)) i size ≡ field b (at + i) size
 field-part b at n i size h = ap number (take-drop-take n i size (drop at b) h ∙ ap (take size) (drop-drop i at b))
 
+pub field-part-start : (b : List ℕ) (at n size : ℕ) → size ≤ n → field (take n (drop at b)) 0 size ≡ field b at size
+field-part-start b at n size h = ap number (take-take size n (drop at b) h)
+
 -- ---- parts of equal size, end to end
+pub length-parts : (n size : ℕ) (b : List ℕ) → length (parts n size b) ≡ n
+length-parts zero size b = refl
+length-parts (suc n) size b = ap suc (length-parts n size (drop size b))
+
+pub parts-at : (n size : ℕ) (b : List ℕ) (k : ℕ) → k < n → getD (parts n size b) k [] ≡ take size (drop (size * k) b)
+parts-at zero size b k h = let z : ⊥ = omega arith in absurd z
+parts-at (suc n) size b zero h = rw mul-zero
+parts-at (suc n) size b (suc k) h =
+    parts-at n size (drop size b) k (le-of-suc-le-suc h)
+    ∙ ap (take size) (drop-drop (size * k) size b ∙ ap (λ (x : ℕ). drop x b) {x = size + size * k} {y = size * suc k} (omega (arith, mul-suc size k)))
+
 pub parts-join : (size : ℕ) (l : List (List ℕ)) (rest : List ℕ) → ((b : List ℕ) → b ∈ l → length b ≡ size) → parts (length l) size (join l ++ rest) ≡ l
 parts-join size [] rest h = refl
 parts-join size (b ∷ l) rest h =

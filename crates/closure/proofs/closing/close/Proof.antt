@@ -7,7 +7,7 @@ use lib.ListN.{length, length-map}
 use lib.Dec.{T, eqb, eqb→eq}
 use native.Mathlib.Omega.{arith}
 use borrow.Author.Tests.{not-true, not-false, eqb-true}
-use Rattle.laws.specs.SetLaws.{not-eqb}
+use Rattle.order.specs.TestLaws.{not-eqb}
 use Rattle.table.specs.Table.{messageFrom, deltasOf, setIn}
 use Rattle.closure.specs.Ready.{readyIn}
 use Rattle.closure.specs.Closing.{Closing}

@@ -10,9 +10,8 @@ use native.Mathlib.Omega.{arith}
 use borrow.Author.Needs.{needs}
 use borrow.Author.Tests.{not-true, not-false}
 use Rattle.model.specs.Order.{less}
-use Rattle.order.specs.TestLaws.{decide}
+use Rattle.order.specs.TestLaws.{decide, not-eqb}
 use Rattle.order.specs.KeyOrder.{less-total}
-use Rattle.laws.specs.SetLaws.{not-eqb}
 use Rattle.key.specs.declared.Key.{Key}
 use Rattle.log.specs.Above.{keyAt, Comparable}
 use Rattle.log.proofs.above.above.Statement.{statement}

@@ -1,24 +1,16 @@
-use mathlib.Core.Path.{_≡_, refl, sym, _∙_, ap, subst}
-use mathlib.Core.Logic.{⊎-elim}
+use mathlib.Core.Path.{_≡_, sym, _∙_, ap, subst}
 use mathlib.Core.Bool.{true, not, _||_}
-use mathlib.Core.List.{[], _∷_}
-use native.Mathlib.Omega.{arith}
 use lib.ListN.{length}
 use lib.Dec.{T, eqb}
-use types.Run.{OneOf}
-use denote.Enum.Declared.{tagOf}
 use borrow.Author.Tests.{eqb-true}
 use Rattle.model.specs.Layout.{imageSize}
 use Rattle.model.specs.Codes.{wrongSize, smallSteps}
-use Rattle.sequence.specs.Sequence.{sequenceNumber}
-use Rattle.message.proofs.parse.Parsed.{the-type}
-use Rattle.message.specs.declared.parse.Parsed.{Parsed}
-use Rattle.message.specs.declared.parse.Parsed.the-variants as parsed
-use Rattle.message.specs.declared.header.Header.{Header}
+use Rattle.parse.specs.declared.Parsed.{Parsed}
+use Rattle.parse.specs.declared.Parsed.the-variants as parsed
 use Rattle.message.specs.Check.{right}
-use Rattle.message.specs.Parsed.{parsedCode, Parses}
-use Rattle.message.specs.ParsedLaws.{parses-passes}
-use Rattle.message.specs.HeaderLaws.{header-describes}
+use Rattle.parse.specs.Parsed.{Parses}
+use Rattle.parse.specs.ParsedLaws.{parsed-accepted}
+use Rattle.parse.proofs.ParsedTags.{no-message}
 use Rattle.station.specs.declared.answer.Delivery.{Delivery}
 use Rattle.station.specs.Answer.{deliveredBy}
 use Rattle.station.specs.Reading.{IsStation}
@@ -42,14 +34,6 @@ station-is : (c : tie.After-enum-told5) → IsStation (c .before .before .before
 station-is c =
     let r = c .before .before .read-station .result in
     judges-right (c .before .before .before .before .before .before .before .before .before .before .before .before .before .args .image .now) (r .check) (r .table) (r .places) (r .logged) (c .before .before .read-station .ensures) (c .enum-told5 .given .1)
-
--- a tag past the first is no message's
-no-message : (r : Parsed) → OneOf (1 ∷ 2 ∷ 3 ∷ 4 ∷ []) (tagOf the-type r) → parsedCode r ≡ 0 → ⊥
-no-message (parsed.Message h) k e = ⊎-elim (λ z. omega arith) (λ j. ⊎-elim (λ z. omega arith) (λ i. ⊎-elim (λ z. omega arith) (λ z. omega arith) i) j) k
-no-message parsed.WrongLayout k e = omega arith
-no-message parsed.WrongNumber k e = omega arith
-no-message parsed.WrongDependencies k e = omega arith
-no-message parsed.WrongContent k e = omega arith
 
 check-image-size-requires : tie.Need-check-image-size-requires
 check-image-size-requires c κs = search needs
@@ -120,13 +104,14 @@ take-in-requires c κs =
     let a = c .before .before .before .before .before .before .before .before .before .before .before .before .before .before .before .before .before .before .before .before .args in
     let h = c .before .before .before .before .parsed .given .0 .0 in
     let p : Parses (a .message .now) (parsed.Message h) = subst (λ (r : Parsed). Parses (a .message .now) r) (c .before .before .before .before .parsed .given .1) (c .before .before .before .before .before .before .parse .ensures) in
+    let m = parsed-accepted (a .message .now) h p in
     let told = c .before .before .before .before .before .before .before .before .before .before .before in
     record {
       size = eqb-true (length (a .image .now)) 16384 (sym (sized (c .before .before .before .before .before .before .before .before .before .before .before .before .before .before)));
       steps-room = roomy-room (length (a .steps .now)) (roomy told);
       judged = station-is (c .before .before .before .before .before .before .before);
-      right = parses-passes (a .message .now) h p;
-      sequence = ap (λ (x : Header). sequenceNumber (x .sequence)) (p .header h refl) ∙ header-describes (a .message .now) .sequence;
+      right = m .pass;
+      sequence = m .sequence;
     }
 
 same-length-3 : tie.Need-same-length-3

@@ -1,20 +1,17 @@
 -- The message is cut by its length field; what does not fit, or does not parse, fails 3 to 6.
 use mathlib.Core.Path.{_≡_, subst}
-use mathlib.Core.Logic.{⊎-elim}
-use mathlib.Core.List.{[], _∷_}
 use Prim.Native.Nat.{ℕ, _+_, _-_}
 use native.Mathlib.Omega.{arith}
 use lib.ListN.{take, drop}
-use types.Run.{OneOf}
-use denote.Enum.Declared.{tagOf}
-use Rattle.message.proofs.parse.Parsed.{the-type}
-use Rattle.message.specs.declared.parse.Parsed.{Parsed}
-use Rattle.message.specs.declared.parse.Parsed.the-variants as parsed
+use Rattle.parse.specs.declared.Parsed.{Parsed}
+use Rattle.parse.specs.declared.Parsed.the-variants as parsed
 use Rattle.model.specs.Bytes.{field}
 use Rattle.model.specs.Message.{Message}
-use Rattle.message.specs.Parsed.{parsedCode, Parses}
+use Rattle.parse.specs.Parsed.{Parses}
+use Rattle.parse.specs.ParsedLaws.{refused-fails, parsed-accepted}
+use Rattle.parse.proofs.ParsedTags.{no-message}
 use Rattle.table.specs.Table.{messageFrom}
-use Rattle.table.specs.RefusalLaws.{short-fails, past-end-fails, refused-fails, parsed-accepted}
+use Rattle.table.specs.RefusalLaws.{short-fails, past-end-fails}
 use borrow.Author.Needs.{needs}
 use Rattle.table.proofs.reading.read_message.Statement.{statement}
 use Rattle.table.proofs.reading.read_message.Tie as tie
@@ -66,14 +63,6 @@ parsed-here c =
     let n = c .before .before .before .get-u16 in
     let e : a .at + n .result - a .at ≡ field (a .b .now) (a .at + 4) 2 = omega arith in
     subst (λ (x : ℕ). Parses (take x (drop (a .at) (a .b .now))) (c .parse .result)) e (c .parse .ensures)
-
--- a tag past the first is no message's
-no-message : (r : Parsed) → OneOf (1 ∷ 2 ∷ 3 ∷ 4 ∷ []) (tagOf the-type r) → parsedCode r ≡ 0 → ⊥
-no-message (parsed.Message h) k e = ⊎-elim (λ z. omega arith) (λ j. ⊎-elim (λ z. omega arith) (λ i. ⊎-elim (λ z. omega arith) (λ z. omega arith) i) j) k
-no-message parsed.WrongLayout k e = omega arith
-no-message parsed.WrongNumber k e = omega arith
-no-message parsed.WrongDependencies k e = omega arith
-no-message parsed.WrongContent k e = omega arith
 
 returns-3 : tie.Need-returns-3
 returns-3 c =
