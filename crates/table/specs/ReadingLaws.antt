@@ -11,12 +11,13 @@ use lib.Seq.{take-all, take-suc, drop-cons, drop-drop}
 use lib.Dec.{T}
 use Rattle.model.specs.Lists.{_∈_, has}
 use Rattle.model.specs.Bytes.{number, field}
-use Rattle.model.specs.Layout.{lengthAt, messagesStart, capacity}
+use Rattle.model.specs.Layout.{lengthAt, imageSize, capacity}
 use Rattle.model.specs.Message.{Message, sequenceOf, passes}
 use Rattle.model.specs.Order.{stateOf, insert, sequencesOf}
-use Rattle.model.specs.Image.{cut, logCount, heldCount, messagesIn, stateIn, isImage}
+use Rattle.model.specs.Image.{cut, logCount, heldCount, messagesStartIn, messagesIn, stateIn, isImage}
 use Rattle.order.specs.TestLaws.{Same, has→∈, ∈→has}
 use Rattle.laws.specs.SetLaws.{insert-from, insert-keeps, insert-has, setOf-same}
+use Rattle.laws.specs.ImageLaws.{start-inside}
 use Rattle.message.specs.declared.checks.Check.{Check}
 use Rattle.message.specs.declared.checks.Check.the-variants.{Right, Wrong}
 use Rattle.sequence.specs.Decisions.{true-T, T-false}
@@ -47,17 +48,17 @@ pub record Walked (b : List ℕ) (i at : ℕ) (starts : List ℕ) : Type 0 where
   pub holds : Holds b starts
   pub inside : at ≤ length b
 
-pub walk-start : (b : List ℕ) → messagesStart ≤ length b → Walked b 0 messagesStart []
+pub walk-start : (b : List ℕ) → length b ≡ imageSize → Walked b 0 (messagesStartIn b) []
 walk-start b h = record {
-  rest = ap (λ (n : ℕ). cut n (drop messagesStart b)) {x = countIn b} {y = countIn b - 0} (omega arith);
+  rest = ap (λ (n : ℕ). cut n (drop (messagesStartIn b) b)) {x = countIn b} {y = countIn b - 0} (omega arith);
   taken = λ a. (λ k. k, λ k. k);
   holds = record { ascends = tt; fits = omega arith; pass = λ m k. absurd (List·Memᴰ·not-nil k) };
-  inside = h;
+  inside = start-inside b h;
 }
 
 pub walk-end : (b : List ℕ) (i at : ℕ) (starts : List ℕ) → Walked b i at starts → countIn b ≤ i → setIn b starts ≡ stateIn b
 walk-end b i at starts w h =
-    let whole : take i (messagesIn b) ≡ messagesIn b = take-all i (messagesIn b) (omega (arith, length-cut (countIn b) (drop messagesStart b))) in
+    let whole : take i (messagesIn b) ≡ messagesIn b = take-all i (messagesIn b) (omega (arith, length-cut (countIn b) (drop (messagesStartIn b) b))) in
     sym (ap stateOf (setOf-same (deltasOf b starts) (messagesIn b) (w .holds .ascends) (subst (λ (l : List Message). Same l (deltasOf b starts)) whole (w .taken))))
 
 module _ (b : List ℕ) (i at : ℕ) (starts : List ℕ) (w : Walked b i at starts) (more : i < countIn b) where
@@ -70,7 +71,7 @@ module _ (b : List ℕ) (i at : ℕ) (starts : List ℕ) (w : Walked b i at star
   next-first = w .rest ∙ ap (λ (n : ℕ). cut n (drop at b)) {x = countIn b - i} {y = suc (countIn b - (i + 1))} (omega arith) ∙ cut-next (countIn b - (i + 1)) b at
 
   here : i < length (messagesIn b)
-  here = omega (arith, length-cut (countIn b) (drop messagesStart b))
+  here = omega (arith, length-cut (countIn b) (drop (messagesStartIn b) b))
 
   next-split : messagesIn b ≡ take i (messagesIn b) ++ messageFrom b at ∷ left
   next-split = sym (take-append-drop i (messagesIn b)) ∙ ap (λ (l : List Message). take i (messagesIn b) ++ l) next-first

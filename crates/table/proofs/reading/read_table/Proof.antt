@@ -5,6 +5,7 @@ use Prim.Native.Nat.{ℕ, _+_, _-_, _≤_}
 use native.Mathlib.Omega.{arith}
 use borrow.Author.Needs.{needs}
 use Rattle.model.specs.Bytes.{field}
+use Rattle.model.specs.Image.{messagesStartIn}
 use Rattle.table.specs.declared.reading.Cut.{Cut}
 use Rattle.table.specs.declared.reading.Cut.the-variants as cut
 use Rattle.table.specs.Table.{startsOf}
@@ -41,7 +42,13 @@ loop-holds c =
     let counted = c .before .before in
     let b = counted .before .before .args .b .now in
     let n = c .before .new in
-    (omega arith, counted .count-messages .ensures, omega arith, n .ensures .1, subst (λ (l : List ℕ). Walked b 0 272 l) (sym (n .ensures .0)) (walk-start b (omega arith)))
+    (
+      omega arith,
+      counted .count-messages .ensures,
+      omega arith,
+      n .ensures .1,
+      subst (λ (at : ℕ). Walked b 0 at (startsOf (n .result))) (sym (c .messages-start .ensures .1 b)) (subst (Walked b 0 (messagesStartIn b)) (sym (n .ensures .0)) (walk-start b (counted .before .before .pre))),
+    )
 
 read-message-requires : tie.Need-read-message-requires Inv-loop μ-loop
 read-message-requires c κs = c .before .loop .inv .4 .inside
