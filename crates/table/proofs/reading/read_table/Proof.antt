@@ -21,10 +21,17 @@ Inv-loop b total table₀ at₀ i₀ table at i = (i ≤ total) × (total ≡ co
 abbrev μ-loop : tie.MeasureT-loop
 μ-loop b total table₀ at₀ i₀ table at i = total - i
 
--- the call as it began, from the head of the loop; and the head of the loop, from where the message's length is known
-abbrev start : tie.At-loop Inv-loop μ-loop → tie.Start Inv-loop μ-loop
-start h = h .before .before .before .before .before
+-- where the new table is made, the call as it began, and the same from the head of the loop
+abbrev made : tie.After-messages-start Inv-loop μ-loop → tie.After-new Inv-loop μ-loop
+made c = c .before .before
 
+abbrev begun : tie.After-messages-start Inv-loop μ-loop → tie.Start Inv-loop μ-loop
+begun c = made c .before .before .before
+
+abbrev start : tie.At-loop Inv-loop μ-loop → tie.Start Inv-loop μ-loop
+start h = begun (h .before)
+
+-- the head of the loop, from where the message's length is known
 abbrev head : tie.After-known-told Inv-loop μ-loop → tie.At-loop Inv-loop μ-loop
 head k = k .before .before .before .before .before
 
@@ -39,16 +46,19 @@ returns c = too-many (c .before .before .before .before .args .b .now) (omega ar
 
 loop-holds : tie.Need-loop-holds Inv-loop μ-loop
 loop-holds c =
-    let counted = c .before .before in
-    let b = counted .before .before .args .b .now in
-    let n = c .before .new in
+    let b = begun c .args .b .now in
+    let n = made c .new in
     (
       omega arith,
-      counted .count-messages .ensures,
+      made c .before .count-messages .ensures,
       omega arith,
       n .ensures .1,
-      subst (λ (at : ℕ). Walked b 0 at (startsOf (n .result))) (sym (c .messages-start .ensures .1 b)) (subst (Walked b 0 (messagesStartIn b)) (sym (n .ensures .0)) (walk-start b (counted .before .before .pre))),
+      subst (λ (at : ℕ). Walked b 0 at (startsOf (n .result))) (sym (c .messages-start .ensures .1 b))
+          (subst (Walked b 0 (messagesStartIn b)) (sym (n .ensures .0)) (walk-start b (begun c .pre))),
     )
+
+messages-start-requires : tie.Need-messages-start-requires Inv-loop μ-loop
+messages-start-requires c κs = search needs
 
 read-message-requires : tie.Need-read-message-requires Inv-loop μ-loop
 read-message-requires c κs = c .before .loop .inv .4 .inside
@@ -137,6 +147,7 @@ read-table-spec =
     count-messages-requires
     new-requires
     returns
+    messages-start-requires
     loop-holds
     read-message-requires
     enum-known-cut
