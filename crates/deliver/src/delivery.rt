@@ -1,12 +1,12 @@
 // Deliver: a message arrives at a station.
 use crate::accepting::accept;
 use crate::answer::Delivery;
-use judged::judging::Station;
-use judged::judging::read_station;
 use crate::refusing::check_image_size;
 use crate::refusing::check_step_room;
 use crate::refusing::judge_repeat;
 use crate::refusing::refuse;
+use judged::judging::Station;
+use judged::judging::read_station;
 use layout::CAPACITY;
 use message::checks::Check;
 use parse::Parsed;
