@@ -1,6 +1,5 @@
 -- The invariant: the table has the first i messages, and the next one starts at `at`.
 use mathlib.Core.Path.{_≡_, sym, _∙_, ap, subst}
-use mathlib.Core.List.{List}
 use Prim.Native.Nat.{ℕ, _+_, _-_, _≤_}
 use native.Mathlib.Omega.{arith}
 use borrow.Author.Needs.{needs}
@@ -47,8 +46,7 @@ returns c = too-many (c .before .before .before .before .args .b .now) (omega ar
 loop-holds : tie.Need-loop-holds Inv-loop μ-loop
 loop-holds c =
     let b = begun c .args .b .now in
-    let n = made c .new in
-    (
+    let n = made c .new in (
       omega arith,
       made c .before .count-messages .ensures,
       omega arith,
