@@ -33,7 +33,7 @@ use Rattle.laws.specs.LogLaws.{Logged, keys-differ, log-received}
 use Rattle.laws.specs.EffectiveLaws.{keys-agree}
 use Rattle.wire_laws.specs.MessageLaws.{sequence-range}
 use Rattle.wire_laws.specs.BytesLaws.{number-range}
-use Rattle.laws.specs.ImageLaws.{image-declared, image-state}
+use Rattle.laws.specs.ImageLaws.{image-own, own-valid}
 use Rattle.laws.specs.DeliverLaws.{code-zero, receive-accepted}
 use Rattle.run_laws.specs.RunLaws.{CallFacts, call-facts}
 use Rattle.compose_laws.specs.ComposedMessage.{Parts, made-passes, made-sequence, made-dependencies}
@@ -124,7 +124,7 @@ module _ (b line commands : List ℕ) (flag priority room : ℕ) (g : Granted b 
   message = composed S (number line) commands (eqb flag 1) priority
 
   valid : Valid S
-  valid = subst Valid (image-state b (image-declared b .0 (g .image))) (image-declared b .0 (g .image) .valid)
+  valid = own-valid b (g .image)
 
   priority-fits : priority ≤ fieldLimit
   priority-fits =
@@ -254,7 +254,7 @@ granted-promise b line commands flag priority room g = record {
     m = composed S′ (number line) commands (eqb flag 1) priority
 
     is : b ≡ imageOf S′
-    is = image-declared b .0 (g .image) .image ∙ ap imageOf (image-state b (image-declared b .0 (g .image)))
+    is = image-own b (g .image)
 
     facts : (steps : List ℕ) → CallFacts S′ (receive S′ m (length steps)) (delivery m steps) (deliver b m steps)
     facts steps = call-facts S′ (valid b line commands flag priority room g) (delivery m steps) (deliver b m steps) (ap (λ (i : List ℕ). deliver i m steps) is)

@@ -17,7 +17,7 @@ use Rattle.model.specs.PlainStation.{receive}
 use Rattle.model.specs.Run.{delivery}
 use Rattle.order.specs.TestLaws.{decide, is-false}
 use Rattle.laws.specs.LogLaws.{log-length}
-use Rattle.laws.specs.ImageLaws.{image-declared, image-state}
+use Rattle.laws.specs.ImageLaws.{image-own, own-valid}
 use Rattle.laws.specs.DeliverLaws.{receive-valid}
 use Rattle.run_laws.specs.RunLaws.{CallFacts, call-facts}
 use Rattle.deliver.specs.DeliverCases.{code-size, code-no-image, refused-is}
@@ -47,10 +47,10 @@ accepted-counts b m steps image = record {
     S = stateIn b
 
     valid : Valid S
-    valid = subst Valid (image-state b (image-declared b .0 image)) (image-declared b .0 image .valid)
+    valid = own-valid b image
 
     is : b ≡ imageOf S
-    is = image-declared b .0 image .image ∙ ap imageOf (image-state b (image-declared b .0 image))
+    is = image-own b image
 
     facts : CallFacts S (receive S m (length steps)) (delivery m steps) (deliver b m steps)
     facts = call-facts S valid (delivery m steps) (deliver b m steps) (ap (λ (i : List ℕ). deliver i m steps) is)

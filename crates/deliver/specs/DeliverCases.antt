@@ -17,7 +17,7 @@ use Rattle.model.specs.Codes.{Conditions, lowestCode, messageConditions, wrongS
 use Rattle.model.specs.Steps.{Step, stepsBytes}
 use Rattle.model.specs.Calls.{Delivered, written, acceptedAnswer, deliverAnswer, deliverCode, deliver}
 use Rattle.order.specs.TestLaws.{is-true, is-false, has→∈}
-use Rattle.laws.specs.ImageLaws.{image-declared, image-state}
+use Rattle.laws.specs.ImageLaws.{image-own, own-valid}
 use Rattle.laws.specs.SetLaws.{insert-present}
 use Rattle.run_laws.specs.RunLaws.{undos-self, steps-self}
 
@@ -110,10 +110,10 @@ repeat-is b m steps image t e = accepted-is b m steps e ∙ ap (λ (R : State). 
     old = sequencesOf (logOf S)
 
     is : b ≡ imageOf S
-    is = image-declared b .0 image .image ∙ ap imageOf (image-state b (image-declared b .0 image))
+    is = image-own b image
 
     valid : Valid S
-    valid = subst Valid (image-state b (image-declared b .0 image)) (image-declared b .0 image .valid)
+    valid = own-valid b image
 
     same-state : add m S ≡ S
     same-state = ap stateOf (insert-present m (S .deltas) (valid .ascends) (has→∈ (sequenceOf m) (sequencesOf (S .deltas)) t))

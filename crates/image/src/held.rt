@@ -4,7 +4,7 @@ ghost use mathlib.Core.Path.{_≡_};
 ghost use Prim.Native.Nat.{_≤_};
 ghost use Rattle.model.specs.Layout.{capacity};
 ghost use Rattle.model.specs.Lists.{has};
-ghost use Rattle.image.specs.Places.{HeldBelow};
+ghost use Rattle.image.specs.LogPlaces.{HeldBelow};
 
 // Places in ascending order: the first `count` of the array.
 pub struct Held {

@@ -1,4 +1,5 @@
--- The effective block: that the computed one is the paper's, and that a new delta leaves those of logged deltas and their keys.
+-- The effective block: that the computed one is the paper's and no other is, and that a new delta leaves those of
+-- logged deltas and their keys.
 use mathlib.Core.Path.{_≡_, refl, sym, _∙_, ap, subst}
 use mathlib.Core.Logic.{_⊎_, inl, inr, ⊎-elim}
 use mathlib.Core.List.{List, [], _∷_, _++_, List·Memᴰ·head, List·Memᴰ·tail, List·Memᴰ·not-nil, List·Memᴰ·cases-cons, Memᴰ·append-left}
@@ -15,7 +16,7 @@ use Rattle.model.specs.Order.{State, Ascending, add, find, needs, placedBy, rea
 use Rattle.order.specs.TestLaws.{hasAll→∈, greatest-cong}
 use Rattle.order.specs.ListingLaws.{ready-needs, after-from, listing-length, listing-last}
 use Rattle.laws.specs.SetLaws.{find-here, find-insert}
-use Rattle.laws.specs.LogLaws.{Logged, log-received, log-closed}
+use Rattle.laws.specs.LogLaws.{Logged, log-complete, log-executable, log-received, log-closed}
 
 -- along ways of n needs or more the block is the same
 abbrev Rest : State → ℕ → ℕ → Type 0
@@ -76,6 +77,36 @@ module _ (S : State) (ascends : Ascending (S .deltas)) where
           each s j =
               let rest : Rest S (0 + length p) s = listing-rest p [] 0 (λ t i. absurd (List·Memᴰ·not-nil i)) (ends .0) of s (there s j) in
               rest n (omega arith) ∙ sym (rest (suc n) (omega arith)) ∙ ap (blockAlong S (suc n)) (sym (same s (after-from sequenceOf p [] (there s j))))
+
+-- ---- and that equation has no other solution on executable deltas
+module _ (S : State) (ascends : Ascending (S .deltas)) (small : length (S .deltas) ≤ capacity) (f : Message → ℕ)
+    (equation : (m : Message) → m ∈ S .deltas → Executable S m → f m ≡ max (blockOf m) (greatest (λ s. f (find (S .deltas) s)) (needs S m))) where
+  -- along a listing, where it agrees for the sequences placed before
+  agrees : (l : List Message) (done : List ℕ) → ((s : ℕ) → s ∈ done → f (find (S .deltas) s) ≡ effectiveBlock S (find (S .deltas) s))
+      → Listing S done l → ((b : Message) → b ∈ l → (b ∈ S .deltas) × Executable S b) → (b : Message) → b ∈ l → f b ≡ effectiveBlock S b
+  agrees [] done h g all b k = absurd (List·Memᴰ·not-nil k)
+  agrees (a ∷ l) done h g all b k =
+      ⊎-elim (λ e. subst (λ (x : Message). f x ≡ effectiveBlock S x) (sym e) here)
+      (λ j. agrees l (sequenceOf a ∷ done) more (g .1) (λ c i. all c (List·Memᴰ·tail i)) b j) (List·Memᴰ·cases-cons k)
+    where
+      of : (a ∈ S .deltas) × Executable S a
+      of = all a (List·Memᴰ·head refl)
+
+      here : f a ≡ effectiveBlock S a
+      here =
+          equation a (of .0) (of .1)
+          ∙ ap (max (blockOf a)) (greatest-cong (λ s. f (find (S .deltas) s)) (λ s. effectiveBlock S (find (S .deltas) s)) (needs S a)
+          (λ s j. h s (hasAll→∈ (needs S a) done (ready-needs sequenceOf (needs S) done a (g .0)) s j)))
+          ∙ sym (effective-is S ascends small a (of .0) (of .1))
+
+      more : (s : ℕ) → s ∈ sequenceOf a ∷ done → f (find (S .deltas) s) ≡ effectiveBlock S (find (S .deltas) s)
+      more s j = ⊎-elim
+          (λ e. subst (λ (x : Message). f x ≡ effectiveBlock S x) (sym (ap (find (S .deltas)) e ∙ find-here (S .deltas) ascends a (of .0))) here)
+          (λ i. h s i) (List·Memᴰ·cases-cons j)
+
+  pub effective-only : (m : Message) → m ∈ S .deltas → Executable S m → f m ≡ effectiveBlock S m
+  effective-only m k e =
+      agrees (logOf S) [] (λ s j. absurd (List·Memᴰ·not-nil j)) (log-complete S ascends .listing) (λ b j. log-complete S ascends .sound b j) m (log-executable S ascends m k .1 e)
 
 -- ---- a delta of a new sequence changes neither block nor key of a logged one
 module _ (S : State) (ascends : Ascending (S .deltas)) (m : Message) (fresh : (a : Message) → a ∈ S .deltas → sequenceOf m ≡ sequenceOf a → ⊥) where

@@ -197,3 +197,13 @@ image-declared b = (image-computed b, λ i. subst (λ (x : List ℕ). T (isImage
 -- an image is the image of one state
 pub image-state : (b : List ℕ) (i : IsImage b) → i .state ≡ stateIn b
 image-state b i = sym (state-back (i .state) (i .valid)) ∙ ap stateIn (sym (i .image))
+
+-- and that of its own state, which is valid, and whose log it has
+pub image-own : (b : List ℕ) → T (isImage b) → b ≡ imageOf (stateIn b)
+image-own b t = image-declared b .0 t .image ∙ ap imageOf (image-state b (image-declared b .0 t))
+
+pub own-valid : (b : List ℕ) → T (isImage b) → Valid (stateIn b)
+own-valid b t = subst Valid (image-state b (image-declared b .0 t)) (image-declared b .0 t .valid)
+
+pub own-log : (b : List ℕ) → T (isImage b) → logIn b ≡ logOf (stateIn b)
+own-log b t = ap logIn (image-own b t) ∙ log-back (stateIn b) (own-valid b t)

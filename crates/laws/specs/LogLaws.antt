@@ -11,10 +11,11 @@ use lib.Dec.{T, T-not, not-T}
 use Rattle.model.specs.Lists.{_∈_, has, keep}
 use Rattle.model.specs.Message.{Message, sequenceOf}
 use Rattle.model.specs.Listing as L
-use Rattle.model.specs.Order.{State, stateOf, Ascending, sequencesOf, needs, placedBy, Executable, executablesOf, heldOf, keyOf, less, IsLog, logOf}
+use Rattle.model.specs.Order.{State, stateOf, Ascending, sequencesOf, needs, placedBy, Executable, Grounded, executablesOf, heldOf, keyOf, less, IsLog, logOf}
 use Rattle.order.specs.TestLaws.{Same, decide, same-test, has→∈, ∈→has, keep-∈, ∈-keep, keep-length, keep-fewer, keep-cong}
 use Rattle.order.specs.KeyOrder.{Total, less-total}
 use Rattle.order.specs.ListingLaws.{fresh, any-chooses, grow-complete, complete-items, first-is, first-unique, after-from, listing-length, listing-room, listing-closed}
+use Rattle.order.specs.Reach.{grounded↔executable}
 use Rattle.laws.specs.SetLaws.{ascending-names, ascending-unique}
 
 -- ---- the key is a strict total order on every set: keys are under one, and tell the deltas of a set apart
@@ -59,6 +60,12 @@ module _ (S : State) (ascends : Ascending (S .deltas)) where
   -- a received delta is in the log exactly if it is executable
   pub log-executable : (m : Message) → m ∈ S .deltas → (m ∈ logOf S) ↔ Executable S m
   log-executable m k = (λ j. log-complete .sound m j .1, λ e. log-complete .complete m k e)
+
+  -- and executable exactly if it is grounded
+  pub log-grounded : (m : Message) → m ∈ S .deltas → (m ∈ logOf S) ↔ Grounded S m
+  log-grounded m k =
+      let g = grounded↔executable sequenceOf (needs S) (S .deltas) (ascending-names (S .deltas) ascends) m k in
+      (λ j. g .1 (log-executable m k .0 j), λ e. log-executable m k .1 (g .0 e))
 
   -- the log has the executable deltas
   pub log-executables : Same (logOf S) (executablesOf S)

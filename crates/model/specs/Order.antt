@@ -62,6 +62,10 @@ Listing S = L.Listing sequenceOf (needs S)
 abbrev pub Executable : State → Message → Type 0
 Executable S m = L.Executable sequenceOf (needs S) (S .deltas) m
 
+-- "all it needs, step by step back, has been received and contains no ring"
+abbrev pub Grounded : State → Message → Type 0
+Grounded S m = L.Grounded sequenceOf (needs S) (S .deltas) m
+
 -- The executable deltas, each after its needs.
 unfoldable pub executablesOf : State → List Message
 executablesOf S = L.closureOf sequenceOf (needs S) (S .deltas)

@@ -8,12 +8,12 @@ use denote.Ref.{now, RefT}
 use contract.Lifetimes.{Lfts}
 use Rattle.model.specs.Lists.{_∈_}
 use Rattle.model.specs.Message.{Message}
-use Rattle.model.specs.Order.{State, Executable, IsLog, logOf}
+use Rattle.model.specs.Order.{State, Executable, Grounded, IsLog, logOf}
 use Rattle.model.specs.Image.{imageOf, logIn}
 use Rattle.model.specs.Calls as model
 use Rattle.model.specs.Calls.{Delivered, deliver}
 use Rattle.model.specs.Run.{Given, Call, delivery, Event, imageAfter, Run, stateAfter, Agreement, Begins, Answers}
-use Rattle.laws.specs.LogLaws.{log-is, log-executable}
+use Rattle.laws.specs.LogLaws.{log-is, log-executable, log-grounded}
 use Rattle.laws.specs.ImageLaws.{log-back}
 use Rattle.run_laws.specs.RunLaws.{agreement-of, state-valid}
 use Rattle.deliver.specs.declared.answer.Delivery.{Delivery}
@@ -71,16 +71,19 @@ answers b (delivery m steps) a d =
 pub agreement : Agreement Emptied Called
 agreement = agreement-of Emptied Called begins answers
 
--- DEMAND 2 after every call: the image's log is the first of all listings, and a received delta is in it exactly if it is executable.
+-- DEMAND 2 after every call: the image's log is the first of all listings, and a received delta is in it exactly if
+-- it is executable, which is to say that all it needs, step by step back, was received and contains no ring.
 pub record InOrder (image : List ℕ) (S : State) : Type 0 where
   pub first : IsLog S (logIn image)
   pub executed : (m : Message) → m ∈ S .deltas → (m ∈ logIn image) ↔ Executable S m
+  pub grounded : (m : Message) → m ∈ S .deltas → (m ∈ logIn image) ↔ Grounded S m
 
 pub order-after : (given : Given) (b : List ℕ) → Emptied given b → (events : List Event) → Run Called b events
     → InOrder (imageAfter b events) (stateAfter given events)
 order-after given b begun events run = record {
   first = subst (IsLog S) (sym same) (log-is S (state-valid given events .ascends));
   executed = λ m k. subst (λ (l : List Message). (m ∈ l) ↔ Executable S m) (sym same) (log-executable S (state-valid given events .ascends) m k);
+  grounded = λ m k. subst (λ (l : List Message). (m ∈ l) ↔ Grounded S m) (sym same) (log-grounded S (state-valid given events .ascends) m k);
 }
   where
     S : State

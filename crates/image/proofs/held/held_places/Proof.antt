@@ -9,20 +9,21 @@ use lib.ListN.{length, take, length-set, length-append}
 use lib.Seq.{take-suc-set}
 use borrow.Author.Needs.{needs}
 use borrow.Author.Tests.{not-true, not-false}
-use Rattle.image.specs.Places.{othersBelow}
+use Rattle.model.specs.Layout.{capacity}
+use Rattle.image.specs.LogPlaces.{othersBelow}
 use Rattle.image.specs.HeldLaws.{others-skip, others-take, others-length}
 use Rattle.image.proofs.held.held_places.Statement.{statement}
 use Rattle.image.proofs.held.held_places.Tie as tie
 
 abbrev Inv-loop : tie.InvT-loop
 Inv-loop count places held₀ n₀ i₀ held n i =
-    (i ≤ count) × ((n ≡ length (othersBelow i places)) × ((take n held ≡ othersBelow i places) × (length held ≡ 64)))
+    (i ≤ count) × ((n ≡ length (othersBelow i places)) × ((take n held ≡ othersBelow i places) × (length held ≡ capacity)))
 
 abbrev μ-loop : tie.MeasureT-loop
 μ-loop count places held₀ n₀ i₀ held n i = count - i
 
 -- there is room for one more
-free : (l : tie.At-loop Inv-loop μ-loop) → l .loop .i < l .before .before .args .count → l .loop .n < 64
+free : (l : tie.At-loop Inv-loop μ-loop) → l .loop .i < l .before .before .args .count → l .loop .n < capacity
 free l h = omega (arith, l .before .before .pre, l .loop .inv .1 .0, others-length (l .loop .i) (l .before .before .args .places .now))
 
 loop-holds : tie.Need-loop-holds Inv-loop μ-loop
