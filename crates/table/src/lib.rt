@@ -2,6 +2,7 @@
 pub mod entry;
 pub mod places;
 pub mod reading;
+pub mod shifting;
 
 use layout::CAPACITY;
 ghost use mathlib.Core.Path.{_≡_};
