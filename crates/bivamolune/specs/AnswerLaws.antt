@@ -5,12 +5,12 @@ use Prim.Native.Nat.{ℕ}
 use Rattle.model.specs.Message.{Message}
 use Rattle.model.specs.Calls as model
 use Rattle.steps.specs.Answer.{packed}
-use Rattle.station.specs.declared.answer.Delivery.{Delivery}
-use Rattle.station.specs.declared.answer.Delivery.the-variants as delivery
-use Rattle.station.specs.declared.answer.Emptying.{Emptying}
-use Rattle.station.specs.declared.answer.Emptying.the-variants as emptying
-use Rattle.station.specs.Answer.{deliveredBy, emptiedBy}
-use Rattle.station.specs.CountLaws.{Counted, deliver-counted}
+use Rattle.deliver.specs.declared.answer.Delivery.{Delivery}
+use Rattle.deliver.specs.declared.answer.Delivery.the-variants as delivery
+use Rattle.deliver.specs.declared.answer.Emptying.{Emptying}
+use Rattle.deliver.specs.declared.answer.Emptying.the-variants as emptying
+use Rattle.deliver.specs.Answer.{deliveredBy, emptiedBy}
+use Rattle.deliver.specs.CountLaws.{Counted, deliver-counted}
 use Rattle.bivamolune.specs.Answers.{Empties, Delivers, Small, packedBy, codeBy}
 
 -- the number of an answer is that of its parts

@@ -6,10 +6,10 @@ use Rattle.model.specs.Layout.{capacity}
 use Rattle.model.specs.Message.{Message}
 use Rattle.model.specs.Calls.{empty, deliver}
 use Rattle.steps.specs.Answer.{packed}
-use Rattle.station.specs.declared.answer.Delivery.{Delivery}
-use Rattle.station.specs.declared.answer.Delivery.the-variants as delivery
-use Rattle.station.specs.declared.answer.Emptying.{Emptying}
-use Rattle.station.specs.declared.answer.Emptying.the-variants as emptying
+use Rattle.deliver.specs.declared.answer.Delivery.{Delivery}
+use Rattle.deliver.specs.declared.answer.Delivery.the-variants as delivery
+use Rattle.deliver.specs.declared.answer.Emptying.{Emptying}
+use Rattle.deliver.specs.declared.answer.Emptying.the-variants as emptying
 
 pub record Empties (entry : List ℕ) (r : ℕ) (exit : List ℕ) : Type 0 where
   pub code : r ≡ empty entry .code

@@ -85,9 +85,8 @@ pub const USED_AT: usize = 8;
 
 pub const ZEROS_AT: usize = 10;
 
+// past the header; where the messages start, `messages_start` of the table says
 pub const SETPOINTS_START: usize = 16;
-
-pub const MESSAGES_START: usize = 272;
 
 // the most deltas that an image holds
 pub const CAPACITY: usize = 64;

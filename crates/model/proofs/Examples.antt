@@ -12,7 +12,7 @@ use Rattle.model.specs.Layout.{imageSize, stepRoom, messageRoom}
 use Rattle.model.specs.Message.{Message, sequenceOf, layoutRight, numbersRight, dependenciesRight, contentRight, commandRight, passes}
 use Rattle.model.specs.Order.{sequencesOf, needs, executablesOf, logOf, heldOf}
 use Rattle.model.specs.Setpoints.{startValues, stop, raise, operate, changeOf, apply, runCommand, runDelta, setpointsOf}
-use Rattle.model.specs.Image.{messagesOf, usedOf, imageOf, logIn, stateIn, isImage}
+use Rattle.model.specs.Image.{messagesStart, messagesOf, valuesOf, headerOf, sectionsOf, usedOf, imageOf, messagesStartIn, logIn, stateIn, isImage}
 use Rattle.model.specs.Steps.{Step, undo, execute, readSteps}
 use Rattle.model.specs.Compose.{messageOf, newDependencies, composed}
 use Rattle.model.specs.Calls.{empty, Delivered, deliver, deliverCode, compose, composeCode, setpoint}
@@ -175,7 +175,7 @@ examples =
 
 -- Every example has the outcome that stands beside it.
 examples-hold : map (λ e. outcomeOf (e .0)) examples ≡ map (λ e. e .1) examples
-unfolding examples empty deliver deliverCode compose composeCode setpoint composed newDependencies isImage imageOf usedOf messagesOf setpointsOf startValues logOf heldOf executablesOf needs runDelta runCommand apply changeOf operate raise stop passes layoutRight numbersRight dependenciesRight contentRight commandRight
+unfolding examples empty deliver deliverCode compose composeCode setpoint composed newDependencies isImage imageOf usedOf sectionsOf headerOf valuesOf messagesOf messagesStart messagesStartIn setpointsOf startValues logOf heldOf executablesOf needs runDelta runCommand apply changeOf operate raise stop passes layoutRight numbersRight dependenciesRight contentRight commandRight
 examples-hold = refl
 
 -- A change: 20 more on 999990 at tag 1, of which 10 are left by the stop.

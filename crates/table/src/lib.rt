@@ -3,6 +3,7 @@ pub mod entry;
 pub mod places;
 pub mod reading;
 pub mod shifting;
+pub mod start;
 
 use layout::CAPACITY;
 ghost use mathlib.Core.Path.{_≡_};

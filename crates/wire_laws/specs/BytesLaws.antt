@@ -9,7 +9,7 @@ use native.Mathlib.Nat.{mod-eq-of-lt, pow-suc, mul-zero, mul-suc, mul-assoc, mul
 use lib.Dec.{T, ltb, lit<, lit≤, ltb→lt, lt→ltb, nltb→le}
 use lib.Arith.{mod-mul}
 use lib.ListN.{length, take, drop, getD, length-append, length-drop, length-take}
-use lib.Seq.{take-at, drop-at, take-append-le, drop-append-le, take-take, drop-drop}
+use lib.Seq.{take-at, drop-at, take-append-le, drop-append-le, drop-append-add, take-take, drop-drop}
 use lib.IntN.{ℤ, pos, negsuc, subℕ}
 use lib.Signed.{mag}
 use mir.Syntax.{w32}
@@ -123,6 +123,15 @@ length-join size (b ∷ l) h =
 pub join-append : (l k : List (List ℕ)) → join l ++ join k ≡ join (l ++ k)
 join-append [] k = refl
 join-append (b ∷ l) k = append-assoc b (join l) (join k) ∙ ap (λ (x : List ℕ). b ++ x) (join-append l k)
+
+-- where a section lies: past those before it stands the n-th, and then those behind it
+pub section-at : (l : List (List ℕ)) (n : ℕ) (rest : List ℕ) → n < length l
+    → drop (length (join (take n l))) (join l ++ rest) ≡ getD l n [] ++ (join (drop (suc n) l) ++ rest)
+section-at [] n rest h = let z : ⊥ = omega arith in absurd z
+section-at (b ∷ l) zero rest h = append-assoc b (join l) rest
+section-at (b ∷ l) (suc n) rest h =
+    ap₂ drop (length-append b (join (take n l))) (append-assoc b (join l) rest)
+    ∙ drop-append-add b (join l ++ rest) (length (join (take n l))) ∙ section-at l n rest (le-of-suc-le-suc h)
 
 -- ---- integers
 -- the language's own reading of a 32-bit number as signed, and its bits

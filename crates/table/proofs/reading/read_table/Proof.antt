@@ -5,12 +5,13 @@ use Prim.Native.Nat.{ℕ, _+_, _-_, _≤_}
 use native.Mathlib.Omega.{arith}
 use borrow.Author.Needs.{needs}
 use Rattle.model.specs.Bytes.{field}
+use Rattle.model.specs.Image.{messagesStartIn}
 use Rattle.table.specs.declared.reading.Cut.{Cut}
 use Rattle.table.specs.declared.reading.Cut.the-variants as cut
 use Rattle.table.specs.Table.{startsOf}
 use Rattle.table.specs.TableLaws.{passes-lies}
 use Rattle.table.specs.Reading.{IsMessage, Cuts}
-use Rattle.table.specs.ReadingLaws.{countIn, Walked, walk-start, walk-next, walk-end, walk-refused, walk-twice, too-many, taken-right, taken-wrong, wrong-reads}
+use Rattle.table.specs.ReadingLaws.{countIn, Walked, walk-start, walk-next, walk-end, walk-all, walk-refused, walk-twice, too-many, taken-right, taken-wrong, wrong-reads}
 use Rattle.table.proofs.reading.read_table.Statement.{statement}
 use Rattle.table.proofs.reading.read_table.Tie as tie
 
@@ -20,10 +21,17 @@ Inv-loop b total table₀ at₀ i₀ table at i = (i ≤ total) × (total ≡ co
 abbrev μ-loop : tie.MeasureT-loop
 μ-loop b total table₀ at₀ i₀ table at i = total - i
 
--- the call as it began, from the head of the loop; and the head of the loop, from where the message's length is known
-abbrev start : tie.At-loop Inv-loop μ-loop → tie.Start Inv-loop μ-loop
-start h = h .before .before .before .before .before
+-- where the new table is made, the call as it began, and the same from the head of the loop
+abbrev made : tie.After-messages-start Inv-loop μ-loop → tie.After-new Inv-loop μ-loop
+made c = c .before .before
 
+abbrev begun : tie.After-messages-start Inv-loop μ-loop → tie.Start Inv-loop μ-loop
+begun c = made c .before .before .before
+
+abbrev start : tie.At-loop Inv-loop μ-loop → tie.Start Inv-loop μ-loop
+start h = begun (h .before)
+
+-- the head of the loop, from where the message's length is known
 abbrev head : tie.After-known-told Inv-loop μ-loop → tie.At-loop Inv-loop μ-loop
 head k = k .before .before .before .before .before
 
@@ -38,13 +46,22 @@ returns c = too-many (c .before .before .before .before .args .b .now) (omega ar
 
 loop-holds : tie.Need-loop-holds Inv-loop μ-loop
 loop-holds c =
-    let counted = c .before .before in
-    let b = counted .before .before .args .b .now in
-    let n = c .before .new in
-    (omega arith, counted .count-messages .ensures, omega arith, n .ensures .1, subst (λ (l : List ℕ). Walked b 0 272 l) (sym (n .ensures .0)) (walk-start b (omega arith)))
+    let b = begun c .args .b .now in
+    let n = made c .new in
+    (
+      omega arith,
+      made c .before .count-messages .ensures,
+      omega arith,
+      n .ensures .1,
+      subst (λ (at : ℕ). Walked b 0 at (startsOf (n .result))) (sym (c .messages-start .ensures .1 b))
+          (subst (Walked b 0 (messagesStartIn b)) (sym (n .ensures .0)) (walk-start b (begun c .pre))),
+    )
+
+messages-start-requires : tie.Need-messages-start-requires Inv-loop μ-loop
+messages-start-requires c κs = search needs
 
 read-message-requires : tie.Need-read-message-requires Inv-loop μ-loop
-read-message-requires c κs = c .before .loop .inv .4 .inside
+read-message-requires c κs = c .before .loop .inv .4 .walk .inside
 
 enum-known-cut : tie.Need-enum-known-cut Inv-loop μ-loop
 enum-known-cut c = search needs
@@ -69,7 +86,7 @@ read k =
     subst (λ (r : Cut). Cuts b (head k .loop .at) r) (k .before .cut .given .1) (k .before .before .before .read-message .ensures)
 
 cast-take-in : tie.Need-cast-take-in Inv-loop μ-loop
-cast-take-in c = omega (arith, head c .loop .inv .4 .inside, start (head c) .pre)
+cast-take-in c = omega (arith, head c .loop .inv .4 .walk .inside, start (head c) .pre)
 
 take-in-requires : tie.Need-take-in-requires Inv-loop μ-loop
 take-in-requires c κs = (head c .loop .inv .4 .holds, omega arith, read c .0)
@@ -119,7 +136,7 @@ returns-4 : tie.Need-returns-4 Inv-loop μ-loop
 returns-4 c =
     let b = start (c .before) .args .b .now in
     let l = c .before .loop in
-    record { holds = l .inv .4 .holds; set = walk-end b (l .i) (l .at) (startsOf (l .table)) (l .inv .4) (omega arith); count = omega arith; fits = omega arith }
+    record { holds = l .inv .4 .holds; messages = walk-all b (l .i) (l .at) (startsOf (l .table)) (l .inv .4) (omega arith); set = walk-end b (l .i) (l .at) (startsOf (l .table)) (l .inv .4) (omega arith); count = omega arith; fits = omega arith }
 
 pub read-table-spec : {M : Type 1} → statement M
 read-table-spec =
@@ -130,6 +147,7 @@ read-table-spec =
     count-messages-requires
     new-requires
     returns
+    messages-start-requires
     loop-holds
     read-message-requires
     enum-known-cut

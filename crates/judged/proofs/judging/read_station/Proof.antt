@@ -1,0 +1,30 @@
+use Rattle.judged.specs.JudgingLaws.{read-wrong, read-right}
+use borrow.Author.Needs.{needs}
+use Rattle.judged.proofs.judging.read_station.Statement.{statement}
+use Rattle.judged.proofs.judging.read_station.Tie as tie
+
+read-table-requires : tie.Need-read-table-requires
+read-table-requires c κs = search needs
+
+enum-told : tie.Need-enum-told
+enum-told c = search needs
+
+enum-told-2 : tie.Need-enum-told-2
+enum-told-2 c = search needs
+
+returns : tie.Need-returns
+returns c =
+    let r = c .before .before .before .read-table .result in
+    read-wrong (c .before .before .before .before .before .args .b .now) (r .check) (r .table) (c .before .before .before .read-table .ensures) (c .enum-told2 .given .1)
+
+judge-requires : tie.Need-judge-requires
+judge-requires c κs =
+    let r = c .before .before .before .read-table .result in
+    (c .before .before .before .before .before .pre, read-right (c .before .before .before .before .before .args .b .now) (r .check) (r .table) (c .before .before .before .read-table .ensures) (c .enum-told .given .1))
+
+returns-2 : tie.Need-returns-2
+returns-2 c = search needs
+
+pub read-station-spec : {M : Type 1} → statement M
+read-station-spec =
+    tie.close (tie.spec read-table-requires enum-told enum-told-2 returns judge-requires returns-2)
