@@ -1,5 +1,5 @@
 -- The offsets, sizes and limits of document 01, in bytes unless said otherwise.
-use Prim.Native.Nat.{ℕ, _*_}
+use Prim.Native.Nat.{ℕ, _+_, _*_, _-_}
 use lib.IntN.{ℤ, pos, negsuc}
 
 -- ---- a delta on the wire: the header's fields
@@ -140,8 +140,12 @@ stepSize = 16
 abbrev pub stepSequenceAt : ℕ
 stepSequenceAt = 4
 
+-- the most steps of a delivery: the log that is undone lacks the new delta, the one that is executed may have it
+abbrev pub mostSteps : ℕ
+mostSteps = (capacity - 1) + capacity
+
 abbrev pub stepRoom : ℕ
-stepRoom = 2032
+stepRoom = stepSize * mostSteps
 
 abbrev pub messageRoom : ℕ
 messageRoom = 200
