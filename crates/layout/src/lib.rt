@@ -72,8 +72,9 @@ pub const LOWEST_VALUE_WORD: u32 = (LOWEST_VALUE as i64 + 4294967296) as u32;
 pub const HIGHEST_VALUE_WORD: u32 = HIGHEST_VALUE as u32;
 
 // the longest message
-pub const LONGEST_MESSAGE: usize =
-    HEADER_SIZE + SEQUENCE_SIZE * MOST_DEPENDENCIES + COMMAND_SIZE * MOST_COMMANDS;
+pub const LONGEST_MESSAGE: usize = HEADER_SIZE
+    + SEQUENCE_SIZE * MOST_DEPENDENCIES
+    + COMMAND_SIZE * MOST_COMMANDS;
 
 // ---- the station image
 pub const IMAGE_SIZE: usize = 16384;

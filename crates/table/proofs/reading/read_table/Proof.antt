@@ -47,8 +47,7 @@ returns c = too-many (c .before .before .before .before .args .b .now) (omega ar
 loop-holds : tie.Need-loop-holds Inv-loop μ-loop
 loop-holds c =
     let b = begun c .args .b .now in
-    let n = made c .new in
-    (
+    let n = made c .new in (
       omega arith,
       made c .before .count-messages .ensures,
       omega arith,
