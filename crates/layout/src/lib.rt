@@ -107,7 +107,7 @@ pub const STEP_SIZE: usize = 16;
 // where a step's sequence stands
 pub const STEP_SEQUENCE_AT: usize = 4;
 
-// the most steps of a delivery: the log that is undone lacks the new delta, the one that is executed may have it
+// the most steps of a delivery: 63 undos, since the old log lacks the new delta, and 64 executions
 pub const MOST_STEPS: usize = (CAPACITY - 1) + CAPACITY;
 
 // a step buffer, at least

@@ -22,7 +22,7 @@ use Rattle.message.specs.declared.checks.Check.{Check}
 use Rattle.message.specs.declared.checks.Check.the-variants.{Right, Wrong}
 use Rattle.table.specs.declared.Table.{Table}
 use Rattle.table.specs.declared.reading.Reading.{Reading}
-use Rattle.table.specs.Reading.{known, IsTaken, TakesIn, IsTable, ReadsTable}
+use Rattle.table.specs.Reading.{known, IsTaken, TakesIn, ReadsTable}
 use Rattle.table.specs.Table.{messageFrom, deltasOf, setIn, Holds}
 use Rattle.table.specs.TableLaws.{passes-lies}
 use Rattle.table.specs.ImageSetLaws.{image-messages, distinct-places, length-cut}

@@ -1,7 +1,7 @@
 -- The invariant: the first i places are moved.
 use mathlib.Core.Path.{_≡_, refl, subst}
 use mathlib.Core.List.{map}
-use Prim.Native.Nat.{ℕ, _-_, _≤_, _<_}
+use Prim.Native.Nat.{ℕ, _-_, _≤_}
 use native.Mathlib.Omega.{arith}
 use lib.ListN.{length, take, length-set}
 use lib.Seq.{length-take-le, getD-take}
