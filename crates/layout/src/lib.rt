@@ -72,8 +72,9 @@ pub const LOWEST_VALUE_WORD: u32 = (LOWEST_VALUE as i64 + 4294967296) as u32;
 pub const HIGHEST_VALUE_WORD: u32 = HIGHEST_VALUE as u32;
 
 // the longest message
-pub const LONGEST_MESSAGE: usize =
-    HEADER_SIZE + SEQUENCE_SIZE * MOST_DEPENDENCIES + COMMAND_SIZE * MOST_COMMANDS;
+pub const LONGEST_MESSAGE: usize = HEADER_SIZE
+    + SEQUENCE_SIZE * MOST_DEPENDENCIES
+    + COMMAND_SIZE * MOST_COMMANDS;
 
 // ---- the station image
 pub const IMAGE_SIZE: usize = 16384;
@@ -106,7 +107,7 @@ pub const STEP_SIZE: usize = 16;
 // where a step's sequence stands
 pub const STEP_SEQUENCE_AT: usize = 4;
 
-// the most steps of a delivery: the log that is undone lacks the new delta, the one that is executed may have it
+// the most steps of a delivery: 63 undos, since the old log lacks the new delta, and 64 executions
 pub const MOST_STEPS: usize = (CAPACITY - 1) + CAPACITY;
 
 // a step buffer, at least

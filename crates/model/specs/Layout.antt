@@ -140,7 +140,7 @@ stepSize = 16
 abbrev pub stepSequenceAt : ℕ
 stepSequenceAt = 4
 
--- the most steps of a delivery: the log that is undone lacks the new delta, the one that is executed may have it
+-- the most steps of a delivery: 63 undos, since the old log lacks the new delta, and 64 executions
 abbrev pub mostSteps : ℕ
 mostSteps = (capacity - 1) + capacity
 

@@ -1,6 +1,6 @@
-pub mod Answer
 pub mod Names
 pub mod NameLaws
+pub mod LogPlaces
 pub mod Room
 pub mod RoomLaws
 pub mod Step

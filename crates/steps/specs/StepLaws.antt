@@ -7,33 +7,35 @@ use native.Mathlib.Numerals.{add-one}
 use lib.ListN.{length, drop, getD, length-append, length-map, length-reverse, length-drop}
 use lib.Seq.{paste, paste-zero, drop-cons, take-all}
 use Rattle.model.specs.Bytes.{bytes, join}
-use Rattle.model.specs.Layout.{stepSize}
+use Rattle.model.specs.Layout.{sequenceSize, stepSize, stepSequenceAt}
 use Rattle.model.specs.Steps.{Step, undo, execute, common, stepsOf, stepBytes, stepsBytes}
 use Rattle.model.specs.Calls.{written}
 use Rattle.wire_laws.specs.BytesLaws.{join-append}
 use Rattle.wire_laws.specs.StepBytesLaws.{length-steps-bytes}
+use Rattle.sequence.specs.declared.Sequence.{Sequence}
+use Rattle.sequence.specs.Sequence.{sequenceNumber}
 use Rattle.buffer.specs.FieldLaws.{bytes-split, bytes-low}
 use Rattle.buffer.specs.PasteLaws.{paste-paste}
 use Rattle.steps.specs.Room.{stepsAt}
 
--- ---- the twelve bytes of a sequence are its eight high ones and its four low ones
-pub sequence-bytes : (high low : ℕ) → low < 4294967296 → bytes 12 (high * 4294967296 + low) ≡ bytes 8 high ++ bytes 4 low
-sequence-bytes high low h =
-    let n = high * 4294967296 + low in
-    let top : n / 4294967296 ≡ high = omega arith in
-    let rest : n % 4294967296 ≡ low = omega arith in
+-- ---- the bytes of a sequence are its eight high ones and its four low ones
+sequence-bytes : (s : Sequence) → s .low < 4294967296 → bytes sequenceSize (sequenceNumber s) ≡ bytes 8 (s .high) ++ bytes 4 (s .low)
+sequence-bytes s h =
+    let n = sequenceNumber s in
+    let top : n / 4294967296 ≡ s .high = omega arith in
+    let rest : n % 4294967296 ≡ s .low = omega arith in
     bytes-split 8 4 n ∙ ap₂ (λ (x y : List ℕ). x ++ y) (ap (bytes 8) top) (sym (bytes-low 4 0 n) ∙ ap (bytes 4) rest)
 
 -- a record is written in three parts
-pub record-bytes : (b : List ℕ) (at kind high low : ℕ) → at + stepSize ≤ length b → low < 4294967296
-    → paste (paste (paste b at (bytes 4 kind) 4) (at + 4) (bytes 8 high) 8) (at + 4 + 8) (bytes 4 low) 4
-    ≡ paste b at (bytes 4 kind ++ bytes 12 (high * 4294967296 + low)) stepSize
-record-bytes b at kind high low h k =
-    ap₂ (λ (d : List ℕ) (n : ℕ). paste d n (bytes 4 low) 4) {u = at + 4 + 8} {v = at + 12}
-    (paste-paste b at (bytes 4 kind) (bytes 8 high) 4 8 (omega arith) refl)
+pub record-bytes : (b : List ℕ) (at kind : ℕ) (s : Sequence) → at + stepSize ≤ length b → s .low < 4294967296
+    → paste (paste (paste b at (bytes 4 kind) 4) (at + stepSequenceAt) (bytes 8 (s .high)) 8) (at + stepSequenceAt + 8) (bytes 4 (s .low)) 4
+    ≡ paste b at (bytes stepSequenceAt kind ++ bytes sequenceSize (sequenceNumber s)) stepSize
+record-bytes b at kind s h k =
+    ap₂ (λ (d : List ℕ) (n : ℕ). paste d n (bytes 4 (s .low)) 4) {u = at + stepSequenceAt + 8} {v = at + (stepSequenceAt + 8)}
+    (paste-paste b at (bytes 4 kind) (bytes 8 (s .high)) 4 8 (omega arith) refl)
     (omega arith)
-    ∙ paste-paste b at (bytes 4 kind ++ bytes 8 high) (bytes 4 low) 12 4 (omega arith) refl
-    ∙ ap (λ (x : List ℕ). paste b at (bytes 4 kind ++ x) stepSize) (sym (sequence-bytes high low k))
+    ∙ paste-paste b at (bytes 4 kind ++ bytes 8 (s .high)) (bytes 4 (s .low)) (stepSequenceAt + 8) 4 (omega arith) refl
+    ∙ ap (λ (x : List ℕ). paste b at (bytes 4 kind ++ x) stepSize) (sym (sequence-bytes s k))
 
 -- ---- steps one after the other
 pub put-more : (b : List ℕ) (at : ℕ) (l k : List Step) → at + stepSize * length l ≤ length b

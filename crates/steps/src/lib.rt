@@ -1,13 +1,11 @@
 // The steps of a delivery: written into the step buffer from the old log and the new one, as places of a table.
-pub mod answer;
 pub mod limits;
-pub mod places;
 pub mod step;
 
-use crate::places::sequence_at;
 use crate::step::Step;
 use crate::step::put_step;
 use layout::STEP_SIZE;
+use table::entry::sequence_at;
 ghost use mathlib.Core.Path.{_≡_};
 ghost use mathlib.Core.List.{map, reverse};
 ghost use lib.ListN.{length, drop};
@@ -25,7 +23,7 @@ fn put_undos(steps: &mut [u8], at: usize, pool: &[u8], starts: &[u16], old: &[u8
     let mut i = old.len();
     while kept < i {
         i -= 1;
-        let s = sequence_at(pool, starts, old[i]);
+        let s = sequence_at(pool, starts, old[i] as usize);
         put_step(steps, to, Step::Undo(s));
         to += STEP_SIZE;
     }
@@ -39,7 +37,7 @@ fn put_executions(steps: &mut [u8], at: usize, pool: &[u8], starts: &[u16], new:
     let mut to = at;
     let mut i = kept;
     while i < new.len() {
-        let s = sequence_at(pool, starts, new[i]);
+        let s = sequence_at(pool, starts, new[i] as usize);
         put_step(steps, to, Step::Execute(s));
         to += STEP_SIZE;
         i += 1;

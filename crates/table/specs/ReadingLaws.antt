@@ -22,7 +22,7 @@ use Rattle.message.specs.declared.checks.Check.{Check}
 use Rattle.message.specs.declared.checks.Check.the-variants.{Right, Wrong}
 use Rattle.table.specs.declared.Table.{Table}
 use Rattle.table.specs.declared.reading.Reading.{Reading}
-use Rattle.table.specs.Reading.{known, IsTaken, TakesIn, IsTable, ReadsTable}
+use Rattle.table.specs.Reading.{known, IsTaken, TakesIn, ReadsTable}
 use Rattle.table.specs.Table.{messageFrom, deltasOf, setIn, Holds}
 use Rattle.table.specs.TableLaws.{passes-lies}
 use Rattle.table.specs.ImageSetLaws.{image-messages, distinct-places, length-cut}
@@ -145,12 +145,6 @@ taken-right b t at r e h = subst (λ (k : Check). TakesIn b t at (record { check
 
 pub taken-wrong : (b : List ℕ) (t : Table) (at : ℕ) (r : Reading) → r .check ≡ Wrong → TakesIn b t at r → known b t at ≡ true
 taken-wrong b t at r e h = subst (λ (k : Check). TakesIn b t at (record { check = k; table = r .table })) e h
-
-pub reads-right : (b : List ℕ) (r : Reading) → r .check ≡ Right → ReadsTable b r → IsTable b (r .table)
-reads-right b r e h = subst (λ (k : Check). ReadsTable b (record { check = k; table = r .table })) e h
-
-pub reads-wrong : (b : List ℕ) (r : Reading) → r .check ≡ Wrong → ReadsTable b r → isImage b ≡ false
-reads-wrong b r e h = subst (λ (k : Check). ReadsTable b (record { check = k; table = r .table })) e h
 
 pub wrong-reads : (b : List ℕ) (r : Reading) → r .check ≡ Wrong → isImage b ≡ false → ReadsTable b r
 wrong-reads b r e h = subst (λ (k : Check). ReadsTable b (record { check = k; table = r .table })) (sym e) h

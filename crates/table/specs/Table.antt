@@ -31,9 +31,9 @@ setIn pool starts = stateOf (deltasOf pool starts)
 abbrev pub Holds : List ℕ → List ℕ → Type 0
 Holds pool starts = Valid (setIn pool starts)
 
--- A start put in at a place.
-abbrev pub insertAt : ℕ → ℕ → List ℕ → List ℕ
-insertAt p at starts = take p starts ++ at ∷ drop p starts
+-- An item put in at a place.
+abbrev pub insertAt : {A : Type 0} → ℕ → A → List A → List A
+insertAt p a l = take p l ++ a ∷ drop p l
 
 pub record Inserts (t : Table) (p at : ℕ) (r : Table) : Type 0 where
   pub starts : startsOf r ≡ insertAt p at (startsOf t)

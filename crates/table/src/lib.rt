@@ -2,6 +2,7 @@
 pub mod entry;
 pub mod places;
 pub mod reading;
+pub mod shifting;
 pub mod start;
 
 use layout::CAPACITY;

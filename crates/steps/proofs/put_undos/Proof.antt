@@ -9,6 +9,7 @@ use borrow.Author.Needs.{needs}
 use Rattle.model.specs.Layout.{stepSize}
 use Rattle.model.specs.Steps.{undo, stepBytes}
 use Rattle.sequence.specs.Sequence.{sequenceNumber}
+use Rattle.table.specs.PlaceLaws.{below-at}
 use Rattle.steps.specs.Names.{namesOf}
 use Rattle.steps.specs.NameLaws.{length-names, names-at}
 use Rattle.steps.specs.Room.{stepsAt}
@@ -29,6 +30,10 @@ abbrev μ-loop : tie.MeasureT-loop
 -- the call as it began
 abbrev start : tie.At-loop Inv-loop μ-loop → tie.Start Inv-loop μ-loop
 start h = h .before .before .before .before .before
+
+-- the head of the loop, from where the place was read
+abbrev turn : tie.After-shared-slice-known4 Inv-loop μ-loop → tie.At-loop Inv-loop μ-loop
+turn r = r .before .before
 
 loop-holds : tie.Need-loop-holds Inv-loop μ-loop
 loop-holds c =
@@ -55,12 +60,14 @@ sub-i c = omega arith
 shared-slice-read-sequence-at : tie.Need-shared-slice-read-sequence-at Inv-loop μ-loop
 shared-slice-read-sequence-at c = omega arith
 
+cast-sequence-at : tie.Need-cast-sequence-at Inv-loop μ-loop
+cast-sequence-at c = omega (arith, c .shared-slice-known4 .given (turn c .loop .i - 1))
+
 sequence-at-requires : tie.Need-sequence-at-requires Inv-loop μ-loop
 sequence-at-requires c κs =
-    let h = c .before .before in
-    let l = h .loop in
-    let s = start h in
-    (s .pre .holds, s .pre .places (l .i - 1) (omega arith))
+    let l = turn c .loop in
+    let s = start (turn c) in
+    (s .pre .holds, below-at (length (s .args .starts .now)) (s .args .old .now) (s .pre .places) (l .i - 1) (omega arith))
 
 put-step-requires : tie.Need-put-step-requires Inv-loop μ-loop
 put-step-requires c κs = omega arith
@@ -75,7 +82,7 @@ loop-again : tie.Need-loop-again Inv-loop μ-loop
 loop-again c =
     let put = c .before .before in
     let read = put .before .before in
-    let h = read .before .before .before in
+    let h = turn (read .before) in
     let l = h .loop in
     let a = start h .args in
     let names : List ℕ = namesOf (a .pool .now) (a .starts .now) (a .old .now) in
@@ -119,6 +126,7 @@ put-undos-spec =
     loop-holds
     sub-i
     shared-slice-read-sequence-at
+    cast-sequence-at
     sequence-at-requires
     put-step-requires
     add-to

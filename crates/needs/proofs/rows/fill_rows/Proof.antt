@@ -11,7 +11,7 @@ use Rattle.model.specs.Layout.{capacity}
 use Rattle.model.specs.Message.{Message, needsOf, passes}
 use Rattle.model.specs.Order.{sequencesOf}
 use Rattle.table.specs.Table.{messageFrom, deltasOf, setIn}
-use Rattle.table.specs.PlaceLaws.{at-member}
+use Rattle.order.specs.ListLaws.{getD-∈}
 use Rattle.needs.specs.Names.{Searchable, indexOf}
 use Rattle.needs.specs.NameLaws.{names-read, set-searchable}
 use Rattle.needs.specs.Rows.{rowSize, RowIs}
@@ -67,7 +67,7 @@ pass : (c : tie.After-rows Inv-loop μ-loop) → T (passes (now (c .before .mess
 pass c =
     let s = start (turn c) in
     let m = getD (deltas s) (turn c .loop .i) [] in
-    subst (λ (b : Message). T (passes b)) (sym (here c)) (s .pre .pass m (at-member (deltas s) (turn c .loop .i) (omega (arith, size s))))
+    subst (λ (b : Message). T (passes b)) (sym (here c)) (s .pre .pass m (getD-∈ (deltas s) (turn c .loop .i) [] (omega (arith, size s))))
 
 -- what was written is the delta's row
 written : (c : tie.After-rows2 Inv-loop μ-loop)

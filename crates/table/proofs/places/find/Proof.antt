@@ -34,12 +34,15 @@ mul-at c = omega arith
 shared-slice-read-at : tie.Need-shared-slice-read-at Inv-loop μ-loop
 shared-slice-read-at c = omega arith
 
--- the call as it began, from where the start in the middle is read; and that start's place
+-- the head of the loop, from where the start in the middle is read; the call as it began; and the middle
+abbrev head : tie.After-shared-slice-known3 Inv-loop μ-loop → tie.At-loop Inv-loop μ-loop
+head m = m .before .before
+
 abbrev start : tie.After-shared-slice-known3 Inv-loop μ-loop → tie.Start Inv-loop μ-loop
-start m = m .before .before .before .before .before
+start m = head m .before .before .before
 
 abbrev place : tie.After-shared-slice-known3 Inv-loop μ-loop → ℕ
-place m = let l = m .before .before .loop in l .low + (l .high - l .low) / 2
+place m = let l = head m .loop in l .low + (l .high - l .low) / 2
 
 cast-at : tie.Need-cast-at Inv-loop μ-loop
 cast-at c = omega (arith, c .shared-slice-known3 .given (place c))
@@ -86,7 +89,7 @@ loop-again c =
     let n : ℕ = sequenceNumber (r .read-sequence .result) in
     let inside : place m < length (a .starts .now) = omega arith in
     let lower : n < s = ltb-true n s (sym (c .before .less .ensures) ∙ c .if2 .taken) in
-    (omega arith, omega arith, lower-before (a .pool .now) (a .starts .now) (start m .pre) s (place m) inside (omega (arith, read r)), m .before .before .loop .inv .3)
+    (omega arith, omega arith, lower-before (a .pool .now) (a .starts .now) (start m .pre) s (place m) inside (omega (arith, read r)), head m .loop .inv .3)
 
 loop-less-2 : tie.Need-loop-less-2 Inv-loop μ-loop
 loop-less-2 c = omega arith
@@ -101,7 +104,7 @@ loop-again-2 c =
     let inside : place m < length (a .starts .now) = omega arith in
     let other : n ≡ s → ⊥ = eqb-false n s (sym (c .before .before .before .equal .ensures) ∙ c .before .before .if1 .left) in
     let least : s ≤ n = ltb-false n s (sym (c .before .less .ensures) ∙ c .if2 .left) in
-    (omega arith, omega arith, m .before .before .loop .inv .2, higher-after (a .pool .now) (a .starts .now) (start m .pre) s (place m) inside (omega (arith, read r)))
+    (omega arith, omega arith, head m .loop .inv .2, higher-after (a .pool .now) (a .starts .now) (start m .pre) s (place m) inside (omega (arith, read r)))
 
 returns-2 : tie.Need-returns-2 Inv-loop μ-loop
 returns-2 c =

@@ -6,7 +6,7 @@ use lib.ListN.{take, drop}
 use Rattle.parse.specs.declared.Parsed.{Parsed}
 use Rattle.parse.specs.declared.Parsed.the-variants as parsed
 use Rattle.model.specs.Bytes.{field}
-use Rattle.model.specs.Message.{Message}
+use Rattle.model.specs.Layout.{lengthAt}
 use Rattle.parse.specs.Parsed.{Parses}
 use Rattle.parse.specs.ParsedLaws.{refused-fails, parsed-accepted}
 use Rattle.parse.proofs.ParsedTags.{no-message}
@@ -16,11 +16,15 @@ use borrow.Author.Needs.{needs}
 use Rattle.table.proofs.reading.read_message.Statement.{statement}
 use Rattle.table.proofs.reading.read_message.Tie as tie
 
+-- the call as it began, from where the length field was read
+abbrev begun : tie.After-get-u16 → tie.Start
+begun u = u .before .before .before
+
 sub-left : tie.Need-sub-left
 sub-left c = search needs
 
 returns : tie.Need-returns
-returns c = short-fails (c .before .before .args .b .now) (c .before .before .args .at) (omega arith)
+returns c = let a = c .before .before .args in short-fails (a .b .now) (a .at) (omega arith)
 
 add-get-u16 : tie.Need-add-get-u16
 add-get-u16 c = search needs
@@ -32,7 +36,7 @@ cast-size : tie.Need-cast-size
 cast-size c = search needs
 
 returns-2 : tie.Need-returns-2
-returns-2 c = past-end-fails (c .before .before .before .before .args .b .now) (c .before .before .before .before .args .at) (omega arith)
+returns-2 c = let a = begun (c .before) .args in past-end-fails (a .b .now) (a .at) (omega arith)
 
 add-end : tie.Need-add-end
 add-end c = search needs
@@ -52,16 +56,19 @@ parse-requires c κs = search needs
 enum-known-parsed : tie.Need-enum-known-parsed
 enum-known-parsed c = search needs
 
--- the call as it began
+-- where the length field was read, from where the message is parsed; and the call as it began
+abbrev sized : tie.After-parse → tie.After-get-u16
+sized p = p .before .before .before
+
 abbrev start : tie.After-parse → tie.Start
-start p = p .before .before .before .before .before .before
+start p = begun (sized p)
 
 -- what was parsed is the message that starts at the place
 parsed-here : (c : tie.After-parse) → Parses (messageFrom (start c .args .b .now) (start c .args .at)) (c .parse .result)
 parsed-here c =
     let a = start c .args in
-    let n = c .before .before .before .get-u16 in
-    let e : a .at + n .result - a .at ≡ field (a .b .now) (a .at + 4) 2 = omega arith in
+    let n = sized c .get-u16 in
+    let e : a .at + n .result - a .at ≡ field (a .b .now) (a .at + lengthAt) 2 = omega arith in
     subst (λ (x : ℕ). Parses (take x (drop (a .at) (a .b .now))) (c .parse .result)) e (c .parse .ensures)
 
 returns-3 : tie.Need-returns-3
@@ -71,12 +78,13 @@ returns-3 c =
 
 returns-4 : tie.Need-returns-4
 returns-4 c =
-    let q = c .before .before .before .before in
+    let known = c .before .before in
+    let q = known .before .before in
     let a = start q .args in
-    let h = c .before .before .parsed .given .0 .0 in
-    let p : Parses (messageFrom (a .b .now) (a .at)) (parsed.Message h) = subst (λ (r : Parsed). Parses (messageFrom (a .b .now) (a .at)) r) (c .before .before .parsed .given .1) (parsed-here q) in
+    let h = known .parsed .given .0 .0 in
+    let p : Parses (messageFrom (a .b .now) (a .at)) (parsed.Message h) = subst (λ (r : Parsed). Parses (messageFrom (a .b .now) (a .at)) r) (known .parsed .given .1) (parsed-here q) in
     let m = parsed-accepted (messageFrom (a .b .now) (a .at)) h p in
-    (record { pass = m .pass; sequence = m .sequence }, q .before .before .before .get-u16 .ensures .0)
+    (record { pass = m .pass; sequence = m .sequence }, sized q .get-u16 .ensures .0)
 
 pub read-message-spec : {M : Type 1} → statement M
 read-message-spec =

@@ -4,9 +4,9 @@ use Prim.Native.Nat.{ℕ, _+_, _-_, _≤_}
 use native.Mathlib.Omega.{arith}
 use borrow.Author.Needs.{needs}
 use Rattle.model.specs.Bytes.{field}
+use Rattle.model.specs.Layout.{lengthAt, capacity}
 use Rattle.model.specs.Image.{messagesStartIn}
 use Rattle.table.specs.declared.reading.Cut.{Cut}
-use Rattle.table.specs.declared.reading.Cut.the-variants as cut
 use Rattle.table.specs.Table.{startsOf}
 use Rattle.table.specs.TableLaws.{passes-lies}
 use Rattle.table.specs.Reading.{IsMessage, Cuts}
@@ -15,7 +15,7 @@ use Rattle.table.proofs.reading.read_table.Statement.{statement}
 use Rattle.table.proofs.reading.read_table.Tie as tie
 
 abbrev Inv-loop : tie.InvT-loop
-Inv-loop b total table₀ at₀ i₀ table at i = (i ≤ total) × (total ≡ countIn b) × (total ≤ 64) × (table .count ≡ i) × Walked b i at (startsOf table)
+Inv-loop b total table₀ at₀ i₀ table at i = (i ≤ total) × (total ≡ countIn b) × (total ≤ capacity) × (table .count ≡ i) × Walked b i at (startsOf table)
 
 abbrev μ-loop : tie.MeasureT-loop
 μ-loop b total table₀ at₀ i₀ table at i = total - i
@@ -78,7 +78,7 @@ returns-2 c =
 -- the message that was read
 read : (k : tie.After-known-told Inv-loop μ-loop)
     → IsMessage (start (head k) .args .b .now) (head k .loop .at) (k .before .cut .given .0 .0)
-    × (k .before .cut .given .0 .1 .0 ≡ field (start (head k) .args .b .now) (head k .loop .at + 4) 2)
+    × (k .before .cut .given .0 .1 .0 ≡ field (start (head k) .args .b .now) (head k .loop .at + lengthAt) 2)
 read k =
     let b = start (head k) .args .b .now in
     subst (λ (r : Cut). Cuts b (head k .loop .at) r) (k .before .cut .given .1) (k .before .before .before .read-message .ensures)

@@ -6,6 +6,7 @@ use native.Mathlib.Omega.{arith}
 use borrow.Author.Needs.{needs}
 use lib.ListN.{length}
 use lib.Seq.{length-take-le}
+use Rattle.model.specs.Layout.{capacity}
 use Rattle.model.specs.Message.{sequenceOf}
 use Rattle.table.specs.declared.places.Place.{Place}
 use Rattle.table.specs.Table.{startsOf, messageFrom, deltasOf, insertAt, Holds}
@@ -23,13 +24,13 @@ abbrev sought : tie.After-known-told → tie.After-find
 sought k = k .before .before .before
 
 array-share-prefix-starts : tie.Need-array-share-prefix-starts
-array-share-prefix-starts c = let e : length (c .before .before .args .table .starts) ≡ 64 = search needs in omega arith
+array-share-prefix-starts c = let e : length (c .before .before .args .table .starts) ≡ capacity = search needs in omega arith
 
 -- the places in use are as many as the table says
 used : (s : tie.Start) → length (startsOf (s .args .table)) ≡ s .args .table .count
 used s =
     let t = s .args .table in
-    let e : length (t .starts) ≡ 64 = search needs in
+    let e : length (t .starts) ≡ capacity = search needs in
     length-take-le (t .count) (t .starts) (omega arith)
 
 slice-aggregate-find : tie.Need-slice-aggregate-find

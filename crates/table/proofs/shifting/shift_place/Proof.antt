@@ -2,8 +2,8 @@
 use borrow.Author.Tests.{le-leb, lt-leb}
 use native.Mathlib.Numerals.{add-one}
 use borrow.Author.Needs.{needs}
-use Rattle.steps.proofs.places.shift_place.Statement.{statement}
-use Rattle.steps.proofs.places.shift_place.Tie as tie
+use Rattle.table.proofs.shifting.shift_place.Statement.{statement}
+use Rattle.table.proofs.shifting.shift_place.Tie as tie
 
 add-result : tie.Need-add-result
 add-result c = search needs

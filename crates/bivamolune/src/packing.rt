@@ -1,9 +1,11 @@
 // The answer of a delivery as one number, for callers in C.
-use crate::limits::EXECUTIONS_UNIT;
-use crate::limits::UNDOS_UNIT;
 ghost use mathlib.Core.Path.{_≡_};
-ghost use Prim.Native.Nat.{_<_, _≤_};
-ghost use Rattle.steps.specs.Answer.{packed, AnswerFits};
+ghost use Rattle.bivamolune.specs.Packing.{packed, AnswerFits};
+
+// what an answer's counts are multiplied by
+const UNDOS_UNIT: u32 = 256;
+
+const EXECUTIONS_UNIT: u32 = 65536;
 
 // A code and the counts of undos and executions in one number.
 pub fn pack_answer(code: u32, undos: usize, executions: usize) -> u32
