@@ -4,7 +4,7 @@ use mathlib.Core.List.{List}
 use Prim.Native.Nat.{ℕ, _≤_, _<_}
 use lib.ListN.{length, take}
 use lib.Dec.{T}
-use Rattle.model.specs.Layout.{imageSize, stepRoom}
+use Rattle.model.specs.Layout.{imageSize, stepRoom, capacity}
 use Rattle.model.specs.Message.{Message, sequenceOf, passes}
 use Rattle.model.specs.Order.{State}
 use Rattle.model.specs.Calls.{Delivered, acceptedAnswer}
@@ -12,16 +12,16 @@ use Rattle.table.specs.declared.Table.{Table}
 use Rattle.table.specs.Table.{startsOf, setIn, Holds}
 use Rattle.table.specs.Places.{IsAbsent}
 use Rattle.judged.specs.declared.judging.Station.{Station}
-use Rattle.deliver.specs.AcceptLaws.{IsLogOf}
 use Rattle.judged.specs.Judging.{IsStation}
+use Rattle.steps.specs.LogPlaces.{IsLogOf}
 
--- An image and a step buffer can be written for a table, from an old log of at most 63 deltas.
+-- An image and a step buffer can be written for a table, from an old log that lacks one delta at least.
 pub record Updatable (image : List ℕ) (room : ℕ) (pool : List ℕ) (t : Table) (old : List ℕ) (logged : ℕ) : Type 0 where
   pub size : length image ≡ imageSize
   pub steps-room : stepRoom ≤ room
   pub holds : Holds pool (startsOf t)
-  pub fits : t .count ≤ 64
-  pub few : logged < 64
+  pub fits : t .count ≤ capacity
+  pub few : logged < capacity
   pub old-state : State
   pub before : IsLogOf pool (startsOf t) (take logged old) old-state
 
@@ -34,6 +34,6 @@ pub record Acceptable (b : List ℕ) (m : Message) (room : ℕ) (station : Stati
   pub size : length b ≡ imageSize
   pub steps-room : stepRoom ≤ room
   pub judged : IsStation b station
-  pub few : station .table .count < 64
+  pub few : station .table .count < capacity
   pub right : T (passes m)
   pub absent : IsAbsent b (startsOf (station .table)) (sequenceOf m) p

@@ -3,8 +3,6 @@ pub mod EmptyCases
 pub mod DeliverCases
 pub mod AcceptLaws
 pub mod Ordering
-pub mod Reading
-pub mod ReadLaws
 pub mod RefuseLaws
 pub mod RefuseCases
 pub mod PoolLaws

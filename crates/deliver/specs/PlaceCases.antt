@@ -75,7 +75,7 @@ module _ (b : List ℕ) (m : Message) (steps : List ℕ) (station : Station) (si
     no-conflict : conflicts (stateIn b) m ≡ false
     no-conflict = ap (λ (t : Bool). t && not (same (find (stateIn b .deltas) (sequenceOf m)) m)) new
 
-    count-is : length (station .table .starts) ≡ 64 → station .table .count ≤ 64 → length (stateIn b .deltas) ≡ station .table .count
+    count-is : length (station .table .starts) ≡ capacity → station .table .count ≤ capacity → length (stateIn b .deltas) ≡ station .table .count
     count-is e h =
         ap (λ (R : State). length (R .deltas)) (sym set-is) ∙ length-map starts (messageFrom b)
         ∙ length-take-le (station .table .count) (station .table .starts) (omega arith)
@@ -87,13 +87,13 @@ module _ (b : List ℕ) (m : Message) (steps : List ℕ) (station : Station) (si
         go true = refl
         go false = refl
 
-    pub full-case : length (station .table .starts) ≡ 64 → 64 ≤ station .table .count → deliveredBy delivery.Full b steps ≡ deliver b m steps
+    pub full-case : length (station .table .starts) ≡ capacity → capacity ≤ station .table .count → deliveredBy delivery.Full b steps ≡ deliver b m steps
     full-case e h =
-        let most : station .table .count ≤ 64 = judged .table .fits in
+        let most : station .table .count ≤ capacity = judged .table .fits in
         let c : length (stateIn b .deltas) ≡ station .table .count = count-is e most in
         sym (refused-is b m steps 7 (code-full b m (length steps) sized (judged .image) (passes-code m right) no-conflict (full-is true (le-leb capacity (length (stateIn b .deltas)) (omega arith)))))
 
-    pub new-case : length (station .table .starts) ≡ 64 → station .table .count < 64 → deliver b m steps ≡ acceptedAnswer (stateIn b) (add m (stateIn b)) steps
+    pub new-case : length (station .table .starts) ≡ capacity → station .table .count < capacity → deliver b m steps ≡ acceptedAnswer (stateIn b) (add m (stateIn b)) steps
     new-case e h =
         let c : length (stateIn b .deltas) ≡ station .table .count = count-is e (omega arith) in
         accepted-is b m steps (code-accepted b m (length steps) sized (judged .image) (passes-code m right) no-conflict (full-is false (lt-leb capacity (length (stateIn b .deltas)) (omega arith))))

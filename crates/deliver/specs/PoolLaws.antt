@@ -7,6 +7,7 @@ use native.Mathlib.Nat.{zero-add}
 use lib.ListN.{length, take, drop, getD}
 use lib.Seq.{paste, take-paste, length-paste, take-all, take-take, take-add, take-at}
 use lib.Dec.{T}
+use Rattle.model.specs.Layout.{capacity}
 use Rattle.model.specs.Message.{Message, sequenceOf, passes}
 use Rattle.model.specs.Order.{State, stateOf, add, insert}
 use Rattle.model.specs.Image.{stateIn}
@@ -43,7 +44,7 @@ module _ (buffer b : List ℕ) (m : Message) (room : length b + length m ≤ len
       (ap (λ (l : List ℕ). l ++ take (length m) (drop (length b) (poolOf buffer b m))) (sym pool-front) ∙ sym (take-add (length b) (length m) (poolOf buffer b m)) ∙ both)
 
   -- ---- the set with the message in it
-  module _ (starts : List ℕ) (holds : Holds b starts) (right : T (passes m)) (p : ℕ) (absent : IsAbsent b starts (sequenceOf m) p) (few : length starts < 64) where
+  module _ (starts : List ℕ) (holds : Holds b starts) (right : T (passes m)) (p : ℕ) (absent : IsAbsent b starts (sequenceOf m) p) (few : length starts < capacity) where
     abbrev pool : List ℕ
     pool = poolOf buffer b m
 

@@ -11,15 +11,10 @@ use Rattle.model.specs.Message.{Message}
 use Rattle.model.specs.Image.{isImage}
 use Rattle.model.specs.Codes.{wrongSize, smallSteps}
 use Rattle.model.specs.Calls.{Delivered, deliver}
-use Rattle.message.specs.declared.checks.Check.{Check}
-use Rattle.message.specs.declared.checks.Check.the-variants.{Right, Wrong}
 use Rattle.parse.specs.declared.Parsed.{Parsed}
 use Rattle.parse.specs.declared.Parsed.the-variants as parsed
 use Rattle.parse.specs.Parsed.{parsedCode, Parses}
-use Rattle.table.specs.declared.Table.{Table}
-use Rattle.judged.specs.declared.judging.Station.{Station}
 use Rattle.deliver.specs.Answer.{refusal, deliveredBy, refusalOf}
-use Rattle.judged.specs.Judging.{IsStation, Judges}
 use Rattle.deliver.specs.DeliverCases.{code-size, code-no-image, code-message, refused-is}
 
 module _ (b : List ℕ) (m : Message) (steps : List ℕ) where
@@ -50,13 +45,3 @@ module _ (b : List ℕ) (m : Message) (steps : List ℕ) where
 -- a step buffer that is not too small has its room
 pub roomy-room : (n : ℕ) → true ≡ not (smallSteps n) → stepRoom ≤ n
 roomy-room n e = ltb-false n stepRoom (not-true (smallSteps n) (sym e))
-
--- ---- by the answer of the judgement
-pub judges-wrong : (b : List ℕ) (k : Check) (t : Table) (places : List ℕ) (logged : ℕ) → Judges b (record { check = k; table = t; places = places; logged = logged }) → k ≡ Wrong → isImage b ≡ false
-judges-wrong b k t places logged h e = subst (λ (x : Check). Judges b (record { check = x; table = t; places = places; logged = logged })) e h
-
--- a judged station is one, whatever stands in its check
-pub judges-right : (b : List ℕ) (k : Check) (t : Table) (places : List ℕ) (logged : ℕ) → Judges b (record { check = k; table = t; places = places; logged = logged }) → k ≡ Right
-    → IsStation b (record { check = k; table = t; places = places; logged = logged })
-judges-right b k t places logged h e = subst (λ (x : Check). IsStation b (record { check = x; table = t; places = places; logged = logged })) (sym e)
-    (subst (λ (x : Check). Judges b (record { check = x; table = t; places = places; logged = logged })) e h)

@@ -1,15 +1,15 @@
 // A new message joins the station.
 use crate::answer::Delivery;
-use crate::limits::IMAGE_SIZE;
-use crate::limits::POOL_SIZE;
 use crate::ordering::order_table;
 use crate::ordering::write_change;
 use crate::ordering::write_table;
 use buffer::copy_at;
 use judged::judging::Station;
 use layout::CAPACITY;
-use steps::places::shift_places;
+use layout::IMAGE_SIZE;
+use layout::POOL_SIZE;
 use table::Table;
+use table::shifting::shift_places;
 ghost use mathlib.Core.Path.{_≡_};
 ghost use Prim.Native.Nat.{_+_, _≤_};
 ghost use lib.ListN.{length};

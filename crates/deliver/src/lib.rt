@@ -3,7 +3,5 @@ pub mod accepting;
 pub mod answer;
 pub mod delivery;
 pub mod emptying;
-pub mod limits;
 pub mod ordering;
-pub mod reading;
 pub mod refusing;

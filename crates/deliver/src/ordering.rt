@@ -2,6 +2,7 @@
 use image::write_image;
 use layout::CAPACITY;
 use log::listing::order;
+use log::preparing::prepare;
 use log_order::LogOrder;
 use steps::write_steps;
 use table::Table;
@@ -13,7 +14,7 @@ ghost use Rattle.model.specs.Calls.{written};
 ghost use Rattle.table.specs.Table.{startsOf, setIn};
 ghost use Rattle.log_order.specs.LogOrder.{oldOf, placesOf};
 ghost use Rattle.steps.specs.Names.{namesOf};
-ghost use Rattle.deliver.specs.Ordering.{Orderable, IsChange, Writable, Changeable};
+ghost use Rattle.deliver.specs.Ordering.{Orderable, IsChange, ImageWritable, Changeable};
 
 // The log of a table's set beside the old log, whose places are given.
 pub fn order_table(pool: &[u8], table: Table, old: [u8; CAPACITY], old_count: usize) -> LogOrder
@@ -23,12 +24,13 @@ pub fn order_table(pool: &[u8], table: Table, old: [u8; CAPACITY], old_count: us
     let starts = table.starts;
     let count = table.count;
     let begun = LogOrder::begin(old, old_count);
-    order(pool, &starts[..count], begun)
+    let prepared = prepare(pool, &starts[..count]);
+    order(pool, &starts[..count], prepared, begun)
 }
 
 // Writes the image of a table's set, whose log is at the given places.
 pub fn write_table(out: &mut [u8], pool: &[u8], table: Table, places: [u8; CAPACITY], logged: usize)
-    requires { ⌜ Writable (now out) (now pool) table places logged ⌝ }
+    requires { ⌜ ImageWritable (now out) (now pool) table places logged ⌝ }
     ensures { λ _. ⌜ now (out .exit) ≡ imageOf (setIn (now (pool .entry)) (startsOf table)) ⌝ }
 {
     let starts = table.starts;

@@ -1,10 +1,10 @@
 // The checks of deliver that need neither table nor log: sizes, the message's refusal, and a sequence that is there already.
 use crate::answer::Delivery;
-use crate::limits::IMAGE_SIZE;
-use crate::limits::STEP_ROOM;
 use buffer::get_u16;
 use buffer::same;
+use layout::IMAGE_SIZE;
 use layout::LENGTH_AT;
+use layout::STEP_ROOM;
 use message::checks::Check;
 use parse::Parsed;
 ghost use mathlib.Core.Path.{_≡_};

@@ -3,15 +3,16 @@ use mathlib.Core.Path.{_≡_, refl}
 use native.Mathlib.Omega.{arith}
 use lib.ListN.{length}
 use Rattle.deliver.specs.AcceptedLaws.{message-fits, place-fits, places-within, updatable, accepted-answer}
+use Rattle.model.specs.Layout.{capacity}
 use borrow.Author.Needs.{needs}
 use Rattle.deliver.proofs.accepting.accept.Statement.{statement}
 use Rattle.deliver.proofs.accepting.accept.Tie as tie
 
 -- the arrays' lengths
-starts-size : (s : tie.Start) → length (s .args .station .table .starts) ≡ 64
+starts-size : (s : tie.Start) → length (s .args .station .table .starts) ≡ capacity
 starts-size s = search needs
 
-places-size : (s : tie.Start) → length (s .args .station .places) ≡ 64
+places-size : (s : tie.Start) → length (s .args .station .places) ≡ capacity
 places-size s = search needs
 
 -- the call as it began, the pool filled, the start inserted, from where the places are shifted

@@ -3,7 +3,8 @@ use mathlib.Core.List.{List}
 use Prim.Native.Nat.{ℕ}
 use Rattle.table.specs.Table.{startsOf, setIn}
 use Rattle.log_order.specs.LogOrder.{oldOf, placesOf}
-use Rattle.deliver.specs.AcceptLaws.{IsLogOf, accepted-by, steps-room}
+use Rattle.steps.specs.LogPlaces.{IsLogOf}
+use Rattle.deliver.specs.AcceptLaws.{accepted-by, steps-room}
 use borrow.Author.Needs.{needs}
 use Rattle.deliver.proofs.accepting.update.Statement.{statement}
 use Rattle.deliver.proofs.accepting.update.Tie as tie

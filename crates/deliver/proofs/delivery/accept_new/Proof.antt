@@ -1,12 +1,13 @@
 use mathlib.Core.Path.{_≡_, sym, _∙_}
 use lib.ListN.{length}
 use Rattle.deliver.specs.PlaceCases.{full-case, new-case}
+use Rattle.model.specs.Layout.{capacity}
 use borrow.Author.Needs.{needs}
 use Rattle.deliver.proofs.delivery.accept_new.Statement.{statement}
 use Rattle.deliver.proofs.delivery.accept_new.Tie as tie
 
 -- the array's length
-starts-size : (c : tie.Start) → length (c .args .station .table .starts) ≡ 64
+starts-size : (c : tie.Start) → length (c .args .station .table .starts) ≡ capacity
 starts-size c = search needs
 
 returns : tie.Need-returns

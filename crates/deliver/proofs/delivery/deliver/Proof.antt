@@ -14,7 +14,8 @@ use Rattle.parse.proofs.ParsedTags.{no-message}
 use Rattle.deliver.specs.declared.answer.Delivery.{Delivery}
 use Rattle.deliver.specs.Answer.{deliveredBy}
 use Rattle.judged.specs.Judging.{IsStation}
-use Rattle.deliver.specs.RefuseCases.{size-case, room-case, sizes-case, image-case, message-case, roomy-room, judges-wrong, judges-right}
+use Rattle.judged.specs.JudgingLaws.{judges-wrong, judges-right}
+use Rattle.deliver.specs.RefuseCases.{size-case, room-case, sizes-case, image-case, message-case, roomy-room}
 use borrow.Author.Needs.{needs}
 use Rattle.deliver.proofs.delivery.deliver.Statement.{statement}
 use Rattle.deliver.proofs.delivery.deliver.Tie as tie
@@ -33,7 +34,7 @@ sizes c = sizes-case (c .before .before .before .before .before .before .before 
 station-is : (c : tie.After-enum-told5) → IsStation (c .before .before .before .before .before .before .before .before .before .before .before .before .before .args .image .now) (c .before .before .read-station .result)
 station-is c =
     let r = c .before .before .read-station .result in
-    judges-right (c .before .before .before .before .before .before .before .before .before .before .before .before .before .args .image .now) (r .check) (r .table) (r .places) (r .logged) (c .before .before .read-station .ensures) (c .enum-told5 .given .1)
+    judges-right (c .before .before .before .before .before .before .before .before .before .before .before .before .before .args .image .now) r (c .before .before .read-station .ensures) (c .enum-told5 .given .1)
 
 check-image-size-requires : tie.Need-check-image-size-requires
 check-image-size-requires c κs = search needs
@@ -64,7 +65,7 @@ returns-2 c =
     room-case (a .image .now) (a .message .now) (a .steps .now) (sized (c .before .before .before)) (sym (ap right (c .enum-told4 .given .1)) ∙ c .before .before .check-step-room .ensures)
 
 read-station-requires : tie.Need-read-station-requires
-read-station-requires c κs = eqb-true (length (c .before .before .before .before .before .before .before .before .before .before .args .image .now)) 16384 (sym (sized (c .before .before .before .before)))
+read-station-requires c κs = eqb-true (length (c .before .before .before .before .before .before .before .before .before .before .args .image .now)) imageSize (sym (sized (c .before .before .before .before)))
 
 enum-told-5 : tie.Need-enum-told-5
 enum-told-5 c = search needs
@@ -79,7 +80,7 @@ returns-3 : tie.Need-returns-3
 returns-3 c =
     let a = c .before .before .before .before .before .before .before .before .before .before .before .before .before .args in
     let r = c .before .before .read-station .result in
-    image-case (a .image .now) (a .message .now) (a .steps .now) (sizes (c .before .before .before .before)) (judges-wrong (a .image .now) (r .check) (r .table) (r .places) (r .logged) (c .before .before .read-station .ensures) (c .enum-told6 .given .1))
+    image-case (a .image .now) (a .message .now) (a .steps .now) (sizes (c .before .before .before .before)) (judges-wrong (a .image .now) r (c .before .before .read-station .ensures) (c .enum-told6 .given .1))
 
 parse-requires : tie.Need-parse-requires
 parse-requires c κs = search needs
@@ -107,7 +108,7 @@ take-in-requires c κs =
     let m = parsed-accepted (a .message .now) h p in
     let told = c .before .before .before .before .before .before .before .before .before .before .before in
     record {
-      size = eqb-true (length (a .image .now)) 16384 (sym (sized (c .before .before .before .before .before .before .before .before .before .before .before .before .before .before)));
+      size = eqb-true (length (a .image .now)) imageSize (sym (sized (c .before .before .before .before .before .before .before .before .before .before .before .before .before .before)));
       steps-room = roomy-room (length (a .steps .now)) (roomy told);
       judged = station-is (c .before .before .before .before .before .before .before);
       right = m .pass;

@@ -14,20 +14,21 @@ use Rattle.table.specs.PlaceLaws.{stands}
 use Rattle.deliver.specs.declared.answer.Delivery.{Delivery}
 use Rattle.deliver.specs.Answer.{deliveredBy, repeatOf}
 use Rattle.deliver.specs.PlaceCases.{present-case}
+use Rattle.model.specs.Layout.{imageSize, capacity}
 use borrow.Author.Needs.{needs}
 use Rattle.deliver.proofs.delivery.take_in.Statement.{statement}
 use Rattle.deliver.proofs.delivery.take_in.Tie as tie
 
 -- the array's length
-starts-size : (c : tie.Start) → length (c .args .station .table .starts) ≡ 64
+starts-size : (c : tie.Start) → length (c .args .station .table .starts) ≡ capacity
 starts-size c = search needs
 
 -- the places in use are as many as the table says
 used : (c : tie.Start) → length (startsOf (c .args .station .table)) ≡ c .args .station .table .count
 used c =
     let t = c .args .station .table in
-    let e : length (t .starts) ≡ 64 = starts-size c in
-    let f : t .count ≤ 64 = c .pre .judged .table .fits in
+    let e : length (t .starts) ≡ capacity = starts-size c in
+    let f : t .count ≤ capacity = c .pre .judged .table .fits in
     length-take-le (t .count) (t .starts) (omega arith)
 
 -- the call as it began, from where the place is found; and what was found, from where its place is known
@@ -54,10 +55,10 @@ below : (k : tie.After-known-told) → k .before .place .given .0 .0 < start (so
 below k = omega (arith, present k .inside, used (start (sought k)))
 
 -- so it is one of the array, and what starts there is the table's
-inside : (k : tie.After-known-told) → k .before .place .given .0 .0 < 64
+inside : (k : tie.After-known-told) → k .before .place .given .0 .0 < capacity
 inside k =
     let s = start (sought k) in
-    let f : s .args .station .table .count ≤ 64 = s .pre .judged .table .fits in
+    let f : s .args .station .table .count ≤ capacity = s .pre .judged .table .fits in
     omega (arith, below k)
 
 start-at : (k : tie.After-known-told) → getD (startsOf (start (sought k) .args .station .table)) (k .before .place .given .0 .0) 0 ≡ getD (start (sought k) .args .station .table .starts) (k .before .place .given .0 .0) 0
@@ -76,8 +77,8 @@ lies k =
 array-share-prefix-starts : tie.Need-array-share-prefix-starts
 array-share-prefix-starts c =
     let s = c .before .before .before .before .before .before in
-    let e : length (s .args .station .table .starts) ≡ 64 = starts-size s in
-    let f : s .args .station .table .count ≤ 64 = s .pre .judged .table .fits in
+    let e : length (s .args .station .table .starts) ≡ capacity = starts-size s in
+    let f : s .args .station .table .count ≤ capacity = s .pre .judged .table .fits in
     omega arith
 
 slice-aggregate-find : tie.Need-slice-aggregate-find
@@ -98,7 +99,7 @@ array-read-judge-repeat c = omega (arith, inside (c .before))
 cast-judge-repeat : tie.Need-cast-judge-repeat
 cast-judge-repeat c =
     let s = start (sought (c .before)) in
-    let h : getD (s .args .station .table .starts) (c .before .before .place .given .0 .0) 0 ≤ 16384 = omega (arith, lies (c .before) .inside, s .pre .size) in
+    let h : getD (s .args .station .table .starts) (c .before .before .place .given .0 .0) 0 ≤ imageSize = omega (arith, lies (c .before) .inside, s .pre .size) in
     omega (arith, h)
 
 judge-repeat-requires : tie.Need-judge-repeat-requires

@@ -3,6 +3,7 @@ use lib.ListN.{length}
 use borrow.Author.Tests.{eqb-true}
 use Rattle.message.specs.Check.{right}
 use Rattle.deliver.specs.EmptyCases.{empty-wrong, empty-done}
+use Rattle.model.specs.Layout.{imageSize}
 use borrow.Author.Needs.{needs}
 use Rattle.deliver.proofs.emptying.empty.Statement.{statement}
 use Rattle.deliver.proofs.emptying.empty.Tie as tie
@@ -24,7 +25,7 @@ returns c =
 put-empty-requires : tie.Need-put-empty-requires
 put-empty-requires c κs =
     let sized = sym (ap right (c .before .enum-told .given .1)) ∙ c .before .before .before .check-image-size .ensures in
-    eqb-true (length (c .before .before .before .before .before .args .image .now)) 16384 (sym sized)
+    eqb-true (length (c .before .before .before .before .before .args .image .now)) imageSize (sym sized)
 
 same-length : tie.Need-same-length
 same-length c = search needs

@@ -2,8 +2,7 @@ use mathlib.Core.Path.{_≡_, sym, _∙_}
 use native.Mathlib.Omega.{arith}
 use lib.ListN.{length}
 use lib.Seq.{length-take-le}
-use Rattle.log_order.specs.LogOrder.{placesOf}
-use Rattle.steps.specs.NameLaws.{getD-in}
+use Rattle.model.specs.Layout.{capacity}
 use borrow.Author.Needs.{needs}
 use Rattle.deliver.proofs.ordering.order_table.Statement.{statement}
 use Rattle.deliver.proofs.ordering.order_table.Tie as tie
@@ -14,13 +13,13 @@ begin-requires c κs = search needs
 array-share-prefix-starts : tie.Need-array-share-prefix-starts
 array-share-prefix-starts c =
     let t = c .before .before .before .args .table in
-    let e : length (t .starts) ≡ 64 = search needs in
+    let e : length (t .starts) ≡ capacity = search needs in
     omega arith
 
 slice-aggregate-order : tie.Need-slice-aggregate-order
 slice-aggregate-order c =
     let t = c .before .before .before .before .args .table in
-    let e : length (t .starts) ≡ 64 = search needs in
+    let e : length (t .starts) ≡ capacity = search needs in
     sym (length-take-le (t .count) (t .starts) (omega arith))
 
 order-requires : tie.Need-order-requires

@@ -2,7 +2,8 @@ use mathlib.Core.Path.{_≡_, sym, _∙_}
 use native.Mathlib.Omega.{arith}
 use lib.ListN.{length}
 use lib.Seq.{length-take-le}
-use Rattle.deliver.specs.AcceptLaws.{common-places}
+use Rattle.steps.specs.LogPlaces.{common-places}
+use Rattle.model.specs.Layout.{capacity}
 use borrow.Author.Needs.{needs}
 use Rattle.deliver.proofs.ordering.write_change.Statement.{statement}
 use Rattle.deliver.proofs.ordering.write_change.Tie as tie
@@ -10,37 +11,37 @@ use Rattle.deliver.proofs.ordering.write_change.Tie as tie
 array-share-prefix-starts : tie.Need-array-share-prefix-starts
 array-share-prefix-starts c =
     let t = c .before .before .before .before .before .before .args .table in
-    let e : length (t .starts) ≡ 64 = search needs in
+    let e : length (t .starts) ≡ capacity = search needs in
     omega arith
 
 slice-aggregate-write-steps : tie.Need-slice-aggregate-write-steps
 slice-aggregate-write-steps c =
     let t = c .before .before .before .before .before .before .before .args .table in
-    let e : length (t .starts) ≡ 64 = search needs in
+    let e : length (t .starts) ≡ capacity = search needs in
     sym (length-take-le (t .count) (t .starts) (omega arith))
 
 array-share-prefix-old : tie.Need-array-share-prefix-old
 array-share-prefix-old c =
     let o = c .before .before .before .before .before .before .before .args .order in
-    let e : length (o .old) ≡ 64 = search needs in
+    let e : length (o .old) ≡ capacity = search needs in
     omega arith
 
 slice-aggregate-write-steps-2 : tie.Need-slice-aggregate-write-steps-2
 slice-aggregate-write-steps-2 c =
     let o = c .before .before .before .before .before .before .before .before .args .order in
-    let e : length (o .old) ≡ 64 = search needs in
+    let e : length (o .old) ≡ capacity = search needs in
     sym (length-take-le (o .«old_count») (o .old) (omega arith))
 
 array-share-prefix-places : tie.Need-array-share-prefix-places
 array-share-prefix-places c =
     let o = c .before .before .before .before .before .before .before .before .args .order in
-    let e : length (o .places) ≡ 64 = search needs in
+    let e : length (o .places) ≡ capacity = search needs in
     omega arith
 
 slice-aggregate-write-steps-3 : tie.Need-slice-aggregate-write-steps-3
 slice-aggregate-write-steps-3 c =
     let o = c .before .before .before .before .before .before .before .before .before .args .order in
-    let e : length (o .places) ≡ 64 = search needs in
+    let e : length (o .places) ≡ capacity = search needs in
     sym (length-take-le (o .count) (o .places) (omega arith))
 
 write-steps-requires : tie.Need-write-steps-requires
