@@ -1,12 +1,23 @@
-use mathlib.Core.Path.{sym, ap, _∙_}
+-- A buffer of the right size becomes the image of no deltas; another is the definitions' refusal.
+use mathlib.Core.Path.{_≡_, sym, ap, _∙_}
+use mathlib.Core.Bool.{true}
 use lib.ListN.{length}
+use lib.Dec.{eqb}
 use borrow.Author.Tests.{eqb-true}
+use Rattle.model.specs.Layout.{imageSize}
 use Rattle.message.specs.Check.{right}
 use Rattle.deliver.specs.EmptyCases.{empty-wrong, empty-done}
-use Rattle.model.specs.Layout.{imageSize}
 use borrow.Author.Needs.{needs}
 use Rattle.deliver.proofs.emptying.empty.Statement.{statement}
 use Rattle.deliver.proofs.emptying.empty.Tie as tie
+
+-- where the call began, from where the size is checked
+abbrev began : tie.After-check-image-size → tie.Start
+began c = c .before .before
+
+-- what the check told
+sized : (c : tie.After-enum-told) → true ≡ eqb (length (began (c .before .before) .args .image .now)) imageSize
+sized c = sym (ap right (c .enum-told .given .1)) ∙ c .before .before .check-image-size .ensures
 
 check-image-size-requires : tie.Need-check-image-size-requires
 check-image-size-requires c κs = search needs
@@ -19,21 +30,20 @@ enum-told-2 c = search needs
 
 returns : tie.Need-returns
 returns c =
-    let wrong = sym (ap right (c .enum-told2 .given .1)) ∙ c .before .before .check-image-size .ensures in
-    empty-wrong (c .before .before .before .before .args .image .now) wrong
+    let m = c .before .before in
+    empty-wrong (began m .args .image .now) (sym (ap right (c .enum-told2 .given .1)) ∙ m .check-image-size .ensures)
 
 put-empty-requires : tie.Need-put-empty-requires
-put-empty-requires c κs =
-    let sized = sym (ap right (c .before .enum-told .given .1)) ∙ c .before .before .before .check-image-size .ensures in
-    eqb-true (length (c .before .before .before .before .before .args .image .now)) imageSize (sym sized)
+put-empty-requires c κs = eqb-true (length (began (c .before .before .before) .args .image .now)) imageSize (sym (sized (c .before)))
 
 same-length : tie.Need-same-length
 same-length c = search needs
 
 returns-2 : tie.Need-returns-2
 returns-2 c =
-    let sized = sym (ap right (c .before .before .before .before .enum-told .given .1)) ∙ c .before .before .before .before .before .before .check-image-size .ensures in
-    empty-done (c .before .before .before .before .before .before .before .before .args .image .now) (c .before .before .put-empty .last .0) sized (c .before .before .put-empty .ensures)
+    let put = c .before .before in
+    let t = put .before .before in
+    empty-done (began (t .before .before) .args .image .now) (put .put-empty .last .0) (sized t) (put .put-empty .ensures)
 
 pub empty-spec : {M : Type 1} → statement M
 empty-spec =

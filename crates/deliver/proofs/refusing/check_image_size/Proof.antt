@@ -1,3 +1,4 @@
+-- The test of the sizes is the definition's.
 use borrow.Author.Tests.{eq-eqb, ne-eqb}
 use Rattle.deliver.proofs.refusing.check_image_size.Statement.{statement}
 use Rattle.deliver.proofs.refusing.check_image_size.Tie as tie

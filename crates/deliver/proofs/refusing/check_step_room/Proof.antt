@@ -1,3 +1,4 @@
+-- The test of the sizes is the definition's.
 use borrow.Author.Tests.{lt-ltb, le-ltb}
 use Rattle.deliver.proofs.refusing.check_step_room.Statement.{statement}
 use Rattle.deliver.proofs.refusing.check_step_room.Tie as tie

@@ -1,3 +1,4 @@
+-- The part that is compared is the message of the length that stands in it.
 use native.Mathlib.Omega.{arith}
 use Rattle.deliver.specs.RefuseLaws.{repeat-answer}
 use borrow.Author.Needs.{needs}
