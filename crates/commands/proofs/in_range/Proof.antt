@@ -6,7 +6,7 @@ use Rattle.commands.proofs.in_range.Statement.{statement}
 use Rattle.commands.proofs.in_range.Tie as tie
 
 returns : tie.Need-returns
-returns c = sym (value-high (c .before .args .value) (c .if1 .taken))
+returns c = sym (value-high (c .before .args .value) (omega arith))
 
 returns-2 : tie.Need-returns-2
 returns-2 c = sym (value-low (c .before .args .value) (omega arith) (c .if1 .left))

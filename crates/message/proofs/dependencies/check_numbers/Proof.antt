@@ -72,7 +72,7 @@ number-of-requires : tie.Need-number-of-requires Inv-loop μ-loop
 number-of-requires c κs = search needs
 
 returns : tie.Need-returns Inv-loop μ-loop
-returns c = let o = c .before in sym (by-own o (is-zero (sequenceOf (bytes o)) (own-number o) (c .if1 .taken)))
+returns c = let o = c .before in sym (by-own o (is-zero (sequenceOf (bytes o)) (own-number o) (omega arith)))
 
 byte-requires : tie.Need-byte-requires Inv-loop μ-loop
 byte-requires c κs = omega arith
