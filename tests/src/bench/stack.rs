@@ -126,6 +126,8 @@ impl Probe {
         buffers: &mut Buffers,
         pattern: u8,
     ) -> io::Result<usize> {
+        // What is called must not become a part of this frame, which is not painted.
+        let calls = black_box(calls);
         let mark = 0_u8;
         let top = black_box(&mark) as *const u8 as usize;
         let painted = paint(pattern);
