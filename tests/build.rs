@@ -15,6 +15,8 @@ fn main() {
             "run `rt staticlib bivamolune`, or set BIVAMOLUNE_LIB_DIR",
         );
         link(&folder, "bivamolune");
+        let archive = folder.join(ARCHIVE);
+        println!("cargo:rustc-env=BIVAMOLUNE_ARCHIVE={}", archive.display());
     }
     if env::var_os("CARGO_FEATURE_EARLIER").is_some() {
         let folder = folder_of("BIVAMOLUNE_EARLIER_DIR").unwrap_or_default();

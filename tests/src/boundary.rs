@@ -40,6 +40,17 @@ impl Calls for Reference {
     }
 }
 
+/// The functions of the static library that a comparison calls in this build. The rest of
+/// `Calls` is answered by the second implementation, and compared with itself.
+pub const COMPARED: &[&str] = &[
+    #[cfg(feature = "library-empty")]
+    "bivamolune_empty",
+    #[cfg(feature = "library-deliver")]
+    "bivamolune_deliver",
+    #[cfg(feature = "library-compose")]
+    "bivamolune_compose",
+];
+
 /// The code of a packed answer.
 pub fn code(answer: u32) -> u32 {
     answer % 256
@@ -211,5 +222,27 @@ mod library {
         fn compose(&self, image: &[u8], request: &Request, message: &mut [u8]) -> u32 {
             super::Reference.compose(image, request, message)
         }
+    }
+}
+
+#[cfg(all(test, feature = "link"))]
+mod tests {
+    use super::COMPARED;
+    use std::collections::BTreeSet;
+    use std::process::Command;
+
+    /// A function that the archive gains, and that no feature compares, fails here.
+    #[test]
+    fn every_function_of_the_archive_is_compared() {
+        let archive = env!("BIVAMOLUNE_ARCHIVE");
+        let listed = Command::new("nm")
+            .args(["-g", "--defined-only", archive])
+            .output();
+        let listed = String::from_utf8(listed.expect("nm runs").stdout).expect("names");
+        let names = listed
+            .split_whitespace()
+            .filter(|word| word.starts_with("bivamolune_"));
+        let there: BTreeSet<&str> = names.collect();
+        assert_eq!(there, COMPARED.iter().copied().collect());
     }
 }
