@@ -6,7 +6,7 @@
  * What is promised
  * - The lowest code that applies is answered. A refused call changes no byte of any buffer, and its counts are 0.
  * - An accepted call writes what the paper says and leaves every other byte.
- * - A buffer may start at any address. A call takes less than BIVAMOLUNE_STACK bytes of stack.
+ * - A buffer may start at any address. A call takes less than BIVAMOLUNE_STACK bytes of stack (measured, not proved).
  *
  * What the host owes
  * - A pointer has as many readable (and, where it is not const, writable) bytes behind it as the size after it says. With
