@@ -79,9 +79,11 @@ fn no_call_of_a_short_list_can_be_dropped() {
     }
 }
 
-/// Runs the program with these words.
+/// Runs the program with these words. Without the library it asks for `--self`.
 fn long_run(words: &[&str]) -> Output {
+    let itself = !cfg!(feature = "link");
     Command::new(env!("CARGO_BIN_EXE_long_run"))
+        .args(itself.then_some("--self"))
         .args(words)
         .output()
         .expect("the program runs")
