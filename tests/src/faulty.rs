@@ -169,8 +169,9 @@ fn repeat_writes(
 
 /// The steps over both logs whole.
 fn undoes_everything(before: &[u8], image: &[u8], buffer: &mut [u8], answer: u32) -> u32 {
-    let (Ok((_, old)), Ok((_, new))) = (read_sized(before), read_sized(image)) else {
-        return answer;
+    let (old, new) = match (read_sized(before), read_sized(image)) {
+        (Ok((_, old)), Ok((_, new))) => (old, new),
+        _ => return answer,
     };
     let mut undos = old.log_sequences();
     undos.reverse();
@@ -181,8 +182,9 @@ fn undoes_everything(before: &[u8], image: &[u8], buffer: &mut [u8], answer: u32
 }
 
 fn waits_behind_held(before: &[u8], image: &mut [u8], message: &[u8], answer: u32) -> u32 {
-    let (Ok((mut set, old)), Ok(delta)) = (read_sized(before), Delta::check(message)) else {
-        return answer;
+    let (mut set, old, delta) = match (read_sized(before), Delta::check(message)) {
+        (Ok((set, old)), Ok(delta)) => (set, old, delta),
+        _ => return answer,
     };
     if old.held.is_empty() || set.insert(delta.sequence(), delta).is_some() {
         return answer;
@@ -197,8 +199,9 @@ fn waits_behind_held(before: &[u8], image: &mut [u8], message: &[u8], answer: u3
 
 /// Setpoints got from the old ones by taking additions back and executing the rest.
 fn subtracts(before: &[u8], image: &mut [u8], answer: u32) -> u32 {
-    let (Ok((_, old)), Ok((_, new))) = (read_sized(before), read_sized(image)) else {
-        return answer;
+    let (old, new) = match (read_sized(before), read_sized(image)) {
+        (Ok((_, old)), Ok((_, new))) => (old, new),
+        _ => return answer,
     };
     let kept = old.log.len() - undos(answer);
     let undone: Vec<Delta> = old.log[kept..].iter().rev().map(|p| p.delta).collect();
@@ -242,12 +245,14 @@ fn without_tail(image: &mut [u8], message: &[u8], buffer: &mut [u8]) -> u32 {
 }
 
 fn without_setpoints(image: &mut [u8], message: &[u8], buffer: &mut [u8]) -> u32 {
-    let Some(mut right) = rebuilt(image) else {
-        return 2;
-    };
-    let answer = Reference.deliver(&mut right, message, buffer);
-    image.copy_from_slice(&right);
-    answer
+    match rebuilt(image) {
+        Some(mut right) => {
+            let answer = Reference.deliver(&mut right, message, buffer);
+            image.copy_from_slice(&right);
+            answer
+        }
+        None => 2,
+    }
 }
 
 /// The image with its setpoints computed anew, if that makes it one.
