@@ -9,7 +9,9 @@ use bivamolune_tests::reference::compose::Request;
 use bivamolune_tests::reference::reader::Reader;
 use bivamolune_tests::reference::station::{log_message, log_message_code, setpoint};
 use bivamolune_tests::wire::{line, Draft};
-use common::{a1, delta, plain_request, steps, Station, A, B, MESSAGE, PATTERN, STEPS, SUBJECT};
+use common::{
+    a1, delta, plain_request, steps, Station, A, B, IMAGE, MESSAGE, PATTERN, STEPS, SUBJECT,
+};
 
 #[test]
 fn image_sizes() {
@@ -36,6 +38,26 @@ fn a_refused_empty_writes_nothing() {
         let mut image = vec![PATTERN; size];
         assert_eq!(SUBJECT.empty(&mut image), 1);
         assert!(image.iter().all(|byte| *byte == PATTERN));
+    }
+}
+
+/// Bytes of no image, the image of no deltas, and images of a log and of held deltas.
+#[test]
+fn empty_writes_whatever_the_buffer_held() {
+    let mut expected = vec![0; IMAGE];
+    expected[..10].copy_from_slice(&[0, 0, 0, 0, 0, 16, 1, 16, 1, 16]);
+    let lone: Vec<Draft> = (1..=64).map(|last| delta(last, 1)).collect();
+    for held in [
+        vec![0; IMAGE],
+        vec![0xFF; IMAGE],
+        expected.clone(),
+        Station::with(&[a1()]).image,
+        Station::with(&[delta(A, 2)]).image,
+        Station::with(&lone).image,
+    ] {
+        let mut image = held;
+        assert_eq!(SUBJECT.empty(&mut image), 0);
+        assert!(image == expected);
     }
 }
 

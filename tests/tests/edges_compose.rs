@@ -160,11 +160,16 @@ fn the_last_block() {
     assert_eq!(compose(&station, line(A), 0, 0), (0, delta(A, 2).bytes()));
 }
 
+/// Each effective block is the own block of a delta of the log, as needs are in the log
+/// too. So the highest effective block is the highest own one, wherever that stands.
 #[test]
-fn the_effective_block_counts_and_not_the_own() {
+fn the_highest_block_counts_and_not_that_of_the_last() {
     let station = Station::with(&[delta(A, 1).priority(7, 0), delta(A, 2).priority(3, 0)]);
     assert_eq!(station.log(), "A1 A2");
     let expected = delta(A, 3).priority(8, 0);
+    assert_eq!(compose(&station, line(A), 1, 0), (0, expected.bytes()));
+    // The last delta has no block of its own.
+    let station = Station::with(&[delta(A, 1).priority(7, 0), delta(A, 2)]);
     assert_eq!(compose(&station, line(A), 1, 0), (0, expected.bytes()));
 }
 
