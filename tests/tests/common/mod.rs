@@ -5,6 +5,7 @@
 
 use bivamolune_tests::boundary::{code, executions, length, undos, Calls};
 use bivamolune_tests::reference::compose::Request;
+pub use bivamolune_tests::view::{messages, u16_at, u32_at};
 use bivamolune_tests::wire::{add, line, set, Draft, Line};
 
 pub const A: u8 = 0x0A;
@@ -47,30 +48,6 @@ pub fn name(sequence: &[u8]) -> String {
         letter @ 0x0A..=0x0F => format!("{letter:X}{number}"),
         other => format!("{other:02X}.{number}"),
     }
-}
-
-/// The two-byte number at an offset.
-pub fn u16_at(bytes: &[u8], at: usize) -> usize {
-    usize::from(bytes[at]) * 256 + usize::from(bytes[at + 1])
-}
-
-/// The four-byte number at an offset.
-pub fn u32_at(bytes: &[u8], at: usize) -> u32 {
-    bytes[at..at + 4]
-        .iter()
-        .fold(0, |n, b| n * 256 + u32::from(*b))
-}
-
-/// The messages of an image: `skip` are left out, `take` are given.
-pub fn messages(image: &[u8], skip: usize, take: usize) -> Vec<Vec<u8>> {
-    let mut at = 272;
-    let mut all = Vec::new();
-    for _ in 0..skip + take {
-        let length = u16_at(image, at + 4);
-        all.push(image[at..at + length].to_vec());
-        at += length;
-    }
-    all.split_off(skip)
 }
 
 /// Names of messages, with blanks between.

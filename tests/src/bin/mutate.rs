@@ -1,0 +1,266 @@
+//! Leaves out one rule of the second implementation after another, as `mutations.txt` says,
+//! and asks that the tests catch each. It works on a copy of the package under `target`.
+//!
+//! `mutate` runs the whole table; `--from N` and `--to N` run a part of it, places counted
+//! from 1; `--only WORDS` runs the changes whose name has these words. It ends with 1 if a
+//! change is alive, does not build, or is caught though it is named an equivalent.
+
+#![deny(warnings)]
+
+use std::env;
+use std::fs;
+use std::io::{self, Read};
+use std::path::{Path, PathBuf};
+use std::process::{Child, Command, ExitCode, Stdio};
+use std::thread;
+use std::time::{Duration, Instant};
+
+use bivamolune_tests::mutations::{read, Mutation, SUITES};
+
+/// A suite that runs longer counts as caught: a change may never end.
+const LIMIT: Duration = Duration::from_secs(240);
+
+const USAGE: &str = "usage: mutate [--from N] [--to N] [--only WORDS]";
+
+/// What became of a change.
+#[derive(PartialEq)]
+enum Fate {
+    Caught(String),
+    Alive,
+    Unbuilt(String),
+}
+
+/// Which changes are run.
+struct Options {
+    from: usize,
+    to: usize,
+    only: String,
+}
+
+fn main() -> ExitCode {
+    match options().map(|options| run(&options)) {
+        Some(Ok(true)) => ExitCode::SUCCESS,
+        Some(Ok(false)) => ExitCode::FAILURE,
+        Some(Err(error)) => {
+            eprintln!("{error}");
+            ExitCode::from(2)
+        }
+        None => {
+            eprintln!("{USAGE}");
+            ExitCode::from(2)
+        }
+    }
+}
+
+fn options() -> Option<Options> {
+    let mut options = Options {
+        from: 1,
+        to: usize::MAX,
+        only: String::new(),
+    };
+    let mut words = env::args().skip(1);
+    while let Some(word) = words.next() {
+        let value = words.next()?;
+        match word.as_str() {
+            "--from" => options.from = value.parse().ok()?,
+            "--to" => options.to = value.parse().ok()?,
+            "--only" => options.only = value,
+            _ => return None,
+        }
+    }
+    Some(options)
+}
+
+/// Runs the changes and prints what becomes of each; whether all is as it should be.
+fn run(options: &Options) -> Result<bool, String> {
+    let package = Path::new(env!("CARGO_MANIFEST_DIR"));
+    let table = fs::read_to_string(package.join("mutations.txt")).map_err(as_text)?;
+    let mutations = read(&table)?;
+    let bench = Bench::new(package).map_err(as_text)?;
+    match bench.fate() {
+        Fate::Alive => println!("without a change all tests pass"),
+        Fate::Caught(by) => return Err(format!("without a change {by} fails")),
+        Fate::Unbuilt(text) => return Err(text),
+    }
+    let (mut caught, mut equivalent, mut wrong) = (0, 0, 0);
+    for (place, mutation) in (1..).zip(&mutations) {
+        let chosen = mutation.name.contains(&options.only);
+        if !chosen || !(options.from..=options.to).contains(&place) {
+            continue;
+        }
+        let fate = bench.try_change(mutation)?;
+        let (right, text) = judge(&fate, mutation);
+        println!("{place} {}: {text}", mutation.name);
+        match right {
+            true if fate == Fate::Alive => equivalent += 1,
+            true => caught += 1,
+            false => wrong += 1,
+        }
+    }
+    let all = caught + equivalent + wrong;
+    println!(
+        "{all} changes: {caught} caught, {equivalent} equivalent, {wrong} not as they should be"
+    );
+    Ok(wrong == 0)
+}
+
+/// Whether a fate is the one the table asks for, and its text.
+fn judge(fate: &Fate, mutation: &Mutation) -> (bool, String) {
+    match (fate, &mutation.equivalent) {
+        (Fate::Caught(by), None) => (true, format!("caught by {by}")),
+        (Fate::Caught(by), Some(_)) => (false, format!("NOT EQUIVALENT: caught by {by}")),
+        (Fate::Alive, Some(why)) => (true, format!("equivalent: {why}")),
+        (Fate::Alive, None) => (false, "ALIVE".to_string()),
+        (Fate::Unbuilt(text), _) => (false, format!("DOES NOT BUILD\n{text}")),
+    }
+}
+
+fn as_text(error: io::Error) -> String {
+    error.to_string()
+}
+
+/// A copy of the package, with a build folder of its own.
+struct Bench {
+    copy: PathBuf,
+    build: PathBuf,
+}
+
+impl Bench {
+    /// Copies what the tests need.
+    fn new(package: &Path) -> io::Result<Bench> {
+        let folder = package.join("target/mutate");
+        let bench = Bench {
+            copy: folder.join("package"),
+            build: folder.join("build"),
+        };
+        if bench.copy.exists() {
+            fs::remove_dir_all(&bench.copy)?;
+        }
+        fs::create_dir_all(&bench.copy)?;
+        for name in ["Cargo.toml", "Cargo.lock", "build.rs"] {
+            fs::copy(package.join(name), bench.copy.join(name))?;
+        }
+        for name in ["src", "tests"] {
+            copy_folder(&package.join(name), &bench.copy.join(name))?;
+        }
+        Ok(bench)
+    }
+
+    /// Changes a file, runs the tests, and puts the file back.
+    fn try_change(&self, mutation: &Mutation) -> Result<Fate, String> {
+        let file = self.copy.join("src/reference").join(&mutation.file);
+        let source = fs::read_to_string(&file).map_err(as_text)?;
+        let text = mutation.apply(&source);
+        let changed = text.map_err(|why| format!("{}: {why}", mutation.name))?;
+        fs::write(&file, changed).map_err(as_text)?;
+        let fate = self.fate();
+        fs::write(&file, source).map_err(as_text)?;
+        Ok(fate)
+    }
+
+    /// Builds and runs one suite after another, up to one that fails.
+    fn fate(&self) -> Fate {
+        for suite in SUITES {
+            match self.built(suite) {
+                Ok(program) => {
+                    if let Some(test) = failing(&program) {
+                        return Fate::Caught(format!("{suite}: {test}"));
+                    }
+                }
+                Err(text) => return Fate::Unbuilt(text),
+            }
+        }
+        Fate::Alive
+    }
+
+    /// The program of a suite, or what the compiler says.
+    fn built(&self, suite: &str) -> Result<PathBuf, String> {
+        let cargo = env::var_os("CARGO").unwrap_or_else(|| "cargo".into());
+        let words = [
+            "test",
+            "--release",
+            "--offline",
+            "--no-run",
+            "--test",
+            suite,
+        ];
+        let output = Command::new(cargo)
+            .args(words)
+            .current_dir(&self.copy)
+            .env("CARGO_TARGET_DIR", &self.build)
+            .env("CARGO_INCREMENTAL", "1")
+            .env("CARGO_TERM_COLOR", "never")
+            // A change may leave something unused.
+            .env("RUSTFLAGS", "--cap-lints warn")
+            .output()
+            .map_err(as_text)?;
+        let text = String::from_utf8_lossy(&output.stderr).into_owned();
+        let executable = text.lines().rev().find_map(|line| {
+            let rest = line.trim().strip_prefix("Executable")?;
+            rest.rsplit_once('(')?.1.strip_suffix(')')
+        });
+        match (output.status.success(), executable) {
+            (true, Some(program)) => Ok(self.copy.join(program)),
+            _ => Err(text),
+        }
+    }
+}
+
+/// Runs a suite; the first of its tests that fails, or what happened instead.
+fn failing(program: &Path) -> Option<String> {
+    let child = Command::new(program)
+        .stdin(Stdio::null())
+        .stdout(Stdio::piped())
+        .stderr(Stdio::null())
+        .spawn();
+    match child {
+        Ok(child) => outcome(child),
+        Err(error) => Some(error.to_string()),
+    }
+}
+
+/// Waits for a suite, at most as long as a suite may take.
+fn outcome(mut child: Child) -> Option<String> {
+    let stdout = child.stdout.take();
+    let reader = thread::spawn(move || {
+        let mut text = String::new();
+        stdout.map(|mut stdout| stdout.read_to_string(&mut text));
+        text
+    });
+    let begin = Instant::now();
+    let status = loop {
+        match child.try_wait() {
+            Ok(None) if begin.elapsed() < LIMIT => thread::sleep(Duration::from_millis(20)),
+            Ok(Some(status)) => break Some(status),
+            _ => break None,
+        }
+    };
+    if status.is_none() {
+        let _ = child.kill();
+        let _ = child.wait();
+    }
+    let text = reader.join().unwrap_or_default();
+    let failed = text.lines().find(|line| line.ends_with("... FAILED"));
+    let name = failed.and_then(|line| line.split_whitespace().nth(1));
+    match (status.map(|status| status.success()), name) {
+        (Some(true), _) => None,
+        (None, None) => Some("it does not end".to_string()),
+        (_, Some(name)) => Some(name.to_string()),
+        (_, None) => Some("it breaks off".to_string()),
+    }
+}
+
+/// Copies a folder with all that is in it.
+fn copy_folder(from: &Path, to: &Path) -> io::Result<()> {
+    fs::create_dir_all(to)?;
+    for entry in fs::read_dir(from)? {
+        let entry = entry?;
+        let target = to.join(entry.file_name());
+        if entry.file_type()?.is_dir() {
+            copy_folder(&entry.path(), &target)?;
+        } else {
+            fs::copy(entry.path(), target)?;
+        }
+    }
+    Ok(())
+}
