@@ -103,7 +103,7 @@ impl<'a> Plant<'a> {
             match self.random.below(100) {
                 0..=69 => self.arrive()?,
                 70..=77 => self.resend(at),
-                78..=83 => self.from_outside(at),
+                78..=83 => self.stranger_sends(at),
                 84..=91 => self.save(at),
                 92..=95 => self.restart(at),
                 96..=97 => self.part(true),

@@ -72,7 +72,7 @@ impl Plant<'_> {
     }
 
     /// A message from outside comes to a station, right or wrong.
-    pub fn from_outside(&mut self, to: usize) {
+    pub fn stranger_sends(&mut self, to: usize) {
         let right = self.outside.right.len();
         let place = self.random.below(right + self.outside.wrong.len());
         let message = match self.outside.right.get(place) {
