@@ -30,6 +30,8 @@ pub struct Mutation {
     pub file: String,
     pub old: String,
     pub new: String,
+    /// The suite and the test that names the rule, and must fail.
+    pub by: Option<(String, String)>,
     /// Why no call can show it, where that is so.
     pub equivalent: Option<String>,
 }
@@ -55,6 +57,10 @@ impl Mutation {
                 "old" => mutation.old = value,
                 "new" => mutation.new = value,
                 "equivalent" => mutation.equivalent = Some(value),
+                "by" => {
+                    let (suite, test) = value.split_once(' ').unwrap_or((&value, ""));
+                    mutation.by = Some((suite.to_string(), test.to_string()));
+                }
                 _ => return Err(format!("not understood: {line}")),
             }
         }

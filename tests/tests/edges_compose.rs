@@ -220,6 +220,14 @@ fn held_deltas_are_not_named_and_do_not_use() {
 }
 
 #[test]
+fn held_deltas_count_for_neither_group_nor_block() {
+    let held = delta(C, 9).group(50).priority(9, 0);
+    let station = Station::with(&[delta(A, 1).priority(2, 0), held]);
+    let expected = delta(D, 1).priority(3, 7).naming(&[s(A, 1)]);
+    assert_eq!(compose(&station, line(D), 1, 7), (0, expected.bytes()));
+}
+
+#[test]
 fn a_composed_delta_releases_held_ones_after_itself() {
     let waiting = delta(A, 1).group(0).naming(&[s(D, 1)]);
     let mut station = Station::with(&[delta(B, 1), delta(C, 1), waiting]);

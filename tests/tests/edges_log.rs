@@ -100,6 +100,36 @@ fn the_effective_block_comes_through_the_predecessor() {
 }
 
 #[test]
+fn the_effective_block_is_the_greatest_of_several_needs() {
+    // D1 needs B1 of block 1 and C1 of block 3: A1 of block 3 stands before it.
+    let drafts = [
+        delta(B, 1).priority(1, 0),
+        delta(C, 1).priority(3, 5),
+        delta(D, 1).naming(&[s(B, 1), s(C, 1)]),
+        delta(A, 1).priority(3, 0),
+    ];
+    assert_eq!(log(&drafts), "B1 C1 A1 D1");
+}
+
+#[test]
+fn all_needs_stand_before() {
+    // D1 names A1 and C1; B1 and C1 come after A1.
+    let drafts = [
+        delta(D, 1).group(0).naming(&[s(A, 1), s(C, 1)]),
+        delta(A, 1),
+        delta(B, 1),
+        delta(C, 1),
+    ];
+    assert_eq!(log(&drafts), "A1 B1 C1 D1");
+    // Without C1 it is held, though A1 is there.
+    let station = Station::with(&drafts[..3]);
+    assert_eq!(
+        (station.log(), station.held()),
+        ("A1 B1".into(), "D1".into())
+    );
+}
+
+#[test]
 fn an_own_block_below_that_of_a_need() {
     // A2's own block is 1, its effective block 5: D1 of block 5 and priority 1 stands
     // before it, by priority 1 against 0.

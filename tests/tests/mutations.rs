@@ -43,6 +43,20 @@ fn every_change_fits_its_file() {
     assert!(unfit.is_empty(), "{unfit:#?}");
 }
 
+/// The tests that are named for a change are there.
+#[test]
+fn every_named_test_is_there() {
+    let mut missing = Vec::new();
+    for (suite, test) in table().into_iter().filter_map(|m| m.by) {
+        let file = package().join("tests").join(format!("{suite}.rs"));
+        let text = fs::read_to_string(file).unwrap_or_default();
+        if !text.contains(&format!("#[test]\nfn {test}()")) {
+            missing.push(format!("{suite} {test}"));
+        }
+    }
+    assert!(missing.is_empty(), "{missing:#?}");
+}
+
 #[test]
 fn there_are_enough_and_each_once() {
     let all = table();
