@@ -1,12 +1,10 @@
 //! The table of `mutations.txt`: changes of the second implementation, each of which the
 //! tests must catch.
 
-/// The tests that are run on each change, the quick ones first. Those of the differential
-/// runner compare the second implementation with itself and would see nothing.
-pub const SUITES: [&str; 17] = [
+/// The tests that are run on each change first: those of few inputs.
+pub const QUICK: [&str; 11] = [
     "examples",
     "codes",
-    "lowest_code",
     "edges_message",
     "edges_image",
     "edges_log",
@@ -15,6 +13,12 @@ pub const SUITES: [&str; 17] = [
     "published",
     "plant_fault",
     "listing",
+    "lowest_code",
+];
+
+/// The tests that are run after those: of many inputs. The tests of the differential runner
+/// are not among them, as they would compare the second implementation with itself.
+pub const SLOW: [&str; 6] = [
     "accepted",
     "generator",
     "brute_force",

@@ -5,7 +5,7 @@
 //! from 1; `--only WORDS` runs the changes whose name has these words. It ends with 1 if a
 //! change is alive, does not build, is not caught by the test that the table names for it,
 //! or is caught though it is named an equivalent. `--tests yes` turns the question round: it
-//! lists the tests that fail on no change at all.
+//! lists the quick tests that fail on no change at all.
 
 #![deny(warnings)]
 
@@ -18,7 +18,7 @@ use std::process::{Child, Command, ExitCode, Stdio};
 use std::thread;
 use std::time::{Duration, Instant};
 
-use bivamolune_tests::mutations::{read, Mutation, SUITES};
+use bivamolune_tests::mutations::{read, Mutation, QUICK, SLOW};
 
 /// A suite that runs longer counts as caught: a change may never end.
 const LIMIT: Duration = Duration::from_secs(240);
@@ -140,10 +140,11 @@ fn judge(fate: &Fate, mutation: &Mutation) -> (bool, String) {
     }
 }
 
-/// The tests that fail on no change. A suite all of whose tests have failed is not run again.
+/// The quick tests that fail on no change. A suite all of whose tests have failed is not run
+/// again.
 fn idle_tests(bench: &Bench, chosen: &[(usize, &Mutation)]) -> Result<bool, String> {
     let mut idle: BTreeMap<&str, BTreeSet<String>> = BTreeMap::new();
-    for suite in SUITES {
+    for suite in QUICK {
         let program = bench.built(suite)?;
         idle.insert(suite, names(&program)?);
     }
@@ -213,7 +214,7 @@ impl Bench {
 
     /// Builds and runs one suite after another, up to one that fails.
     fn fate(&self) -> Fate {
-        for suite in SUITES {
+        for suite in QUICK.into_iter().chain(SLOW) {
             match self.built(suite).map(|program| failing(&program, None)) {
                 Ok(tests) if tests.is_empty() => {}
                 Ok(tests) => return Fate::Caught(format!("{suite}: {}", tests[0])),
@@ -238,6 +239,8 @@ impl Bench {
     /// The program of a suite, or what the compiler says.
     fn built(&self, suite: &str) -> Result<PathBuf, String> {
         let cargo = env::var_os("CARGO").unwrap_or_else(|| "cargo".into());
+        // Where little is run, most of the time goes into the build.
+        let level = if QUICK.contains(&suite) { "0" } else { "3" };
         let words = [
             "test",
             "--release",
@@ -249,7 +252,8 @@ impl Bench {
         let output = Command::new(cargo)
             .args(words)
             .current_dir(&self.copy)
-            .env("CARGO_TARGET_DIR", &self.build)
+            .env("CARGO_TARGET_DIR", self.build.join(level))
+            .env("CARGO_PROFILE_RELEASE_OPT_LEVEL", level)
             .env("CARGO_INCREMENTAL", "1")
             .env("CARGO_TERM_COLOR", "never")
             // A change may leave something unused.
