@@ -6,7 +6,7 @@ use crate::reference::bytes::{i32_at, u16_at, u8_at};
 use crate::reference::compose::Request;
 use crate::reference::image::{self, read_sized};
 use crate::reference::message::Delta;
-use crate::reference::order::{key, Order};
+use crate::reference::order::{key, order, Order, Set};
 use crate::reference::steps::{self, Steps};
 
 /// What is wrong.
@@ -46,10 +46,20 @@ pub enum Fault {
     ComposeNextGroup,
     /// Compose answers 11 at eight dependencies.
     ComposeAtEight,
+    /// Takes a first delta in and only echoes later ones.
+    EchoesLater,
+    /// Holds every delta.
+    HoldsAll,
+    /// Leaves the image as it was.
+    LeavesImage,
+    /// Has the same log always, that of no deltas.
+    SameLog,
+    /// Refuses every delta.
+    RefusesAll,
 }
 
-/// Every fault.
-pub const FAULTS: [Fault; 17] = [
+/// Every fault. Those that the paper names as programs that come close are among them.
+pub const FAULTS: [Fault; 22] = [
     Fault::FullAt63,
     Fault::KeyAlone,
     Fault::TailNotCleared,
@@ -67,6 +77,11 @@ pub const FAULTS: [Fault; 17] = [
     Fault::ComposeClears,
     Fault::ComposeNextGroup,
     Fault::ComposeAtEight,
+    Fault::EchoesLater,
+    Fault::HoldsAll,
+    Fault::LeavesImage,
+    Fault::SameLog,
+    Fault::RefusesAll,
 ];
 
 /// The second implementation with one fault.
@@ -87,8 +102,14 @@ impl Calls for Faulty {
         if self.0 == Fault::FullAt63 && makes_64(image, message) {
             return if buffer.len() < steps::BUFFER { 1 } else { 8 };
         }
-        let before = image.to_vec();
+        let (before, untouched) = (image.to_vec(), buffer.to_vec());
         let answer = Reference.deliver(image, message, buffer);
+        if code(answer) == 0 {
+            if let Some(other) = self.without_steps(&before, image) {
+                buffer.copy_from_slice(&untouched);
+                return other;
+            }
+        }
         match (self.0, code(answer)) {
             (Fault::KeyAlone, 0) => key_alone(image, answer),
             (Fault::RepeatWrites, 0) => repeat_writes(&before, image, message, buffer, answer),
@@ -108,6 +129,10 @@ impl Calls for Faulty {
             (Fault::RangeBeforeDependencies, 5) if range_is_wrong(message) => 6,
             (Fault::TailUnchecked, 2) => without_tail(image, message, buffer),
             (Fault::SetpointsUnchecked, 2) => without_setpoints(image, message, buffer),
+            (Fault::LeavesImage, 0) => {
+                image.copy_from_slice(&before);
+                answer
+            }
             _ => answer,
         }
     }
@@ -128,6 +153,31 @@ impl Calls for Faulty {
             _ => {}
         }
         answer
+    }
+}
+
+impl Faulty {
+    /// The answer of a fault that writes no steps where a delivery is accepted; the image is
+    /// made to fit.
+    fn without_steps(&self, before: &[u8], image: &mut [u8]) -> Option<u32> {
+        match self.0 {
+            Fault::EchoesLater if count(before) > 0 => image.copy_from_slice(before),
+            Fault::HoldsAll => hold_all(image),
+            Fault::SameLog => image.copy_from_slice(&image::write(&order(&Set::new()))),
+            Fault::RefusesAll => image.copy_from_slice(before),
+            _ => return None,
+        }
+        Some(if self.0 == Fault::RefusesAll { 3 } else { 0 })
+    }
+}
+
+/// Makes all deltas of an image held ones.
+fn hold_all(image: &mut [u8]) {
+    let copy = image.to_vec();
+    if let Ok((set, _)) = read_sized(&copy) {
+        let held = set.values().copied().collect();
+        let log = Vec::new();
+        image.copy_from_slice(&image::write(&Order { log, held }));
     }
 }
 

@@ -104,6 +104,11 @@ fn the_plant_finds_faults() {
         Fault::WaitsBehindHeld,
         Fault::Subtracts,
         Fault::StepsCleared,
+        Fault::EchoesLater,
+        Fault::HoldsAll,
+        Fault::LeavesImage,
+        Fault::SameLog,
+        Fault::RefusesAll,
     ] {
         let found = SEEDS
             .clone()
