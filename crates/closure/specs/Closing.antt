@@ -1,14 +1,12 @@
 -- What holds while deltas are placed, and when no more can be.
 use mathlib.Core.Path.{_≡_}
 use mathlib.Core.Bool.{false}
-use mathlib.Core.List.{List, []}
+use mathlib.Core.List.{List}
 use Prim.Native.Nat.{ℕ, _≤_, _<_}
 use lib.ListN.{length, take}
 use Rattle.model.specs.Lists.{_∈_}
 use Rattle.model.specs.Layout.{capacity}
-use Rattle.model.specs.Message.{Message}
 use Rattle.model.specs.Order.{State, placedBy}
-use Rattle.order.specs.ListingLaws.{Stuck}
 use Rattle.table.specs.Table.{deltasAt}
 use Rattle.closure.specs.declared.closing.Closure.{Closure}
 use Rattle.closure.specs.Ready.{readyIn, Placing, Blocks}

@@ -1,6 +1,6 @@
 -- What is ready, and its effective block, by rows of needs, by marks of what is placed, and by the effective blocks of that.
 use mathlib.Core.Path.{_≡_}
-use mathlib.Core.Bool.{Bool, true, false, not, _&&_}
+use mathlib.Core.Bool.{Bool, false, not, _&&_}
 use mathlib.Core.List.{List, []}
 use Prim.Native.Nat.{ℕ, suc, _<_, max}
 use lib.ListN.{length, getD}

@@ -1,6 +1,6 @@
 -- What rows, marks and blocks say of a delta is what the definitions say: whether it is ready, and its effective block.
 use mathlib.Core.Path.{_≡_, refl, sym, _∙_, ap, ap₂, subst}
-use mathlib.Core.Logic.{_⊎_, ⊎-elim}
+use mathlib.Core.Logic.{⊎-elim}
 use mathlib.Core.Bool.{Bool, true, false, not, _&&_}
 use mathlib.Core.List.{List, [], _∷_, map, List·Memᴰ·head, List·Memᴰ·tail, List·Memᴰ·not-nil, Memᴰ·cast, Memᴰ·map}
 use Prim.Native.Nat.{ℕ, _+_, _*_, _≤_, _<_, max}
@@ -12,7 +12,7 @@ use Rattle.model.specs.Message.{Message, sequenceOf, blockOf}
 use Rattle.model.specs.Order.{State, RightSet, sequencesOf, find, needs, placedBy, ready, effectiveBlock}
 use Rattle.order.specs.ListLaws.{getD-∈, ∈-getD}
 use Rattle.order.specs.ScanLaws.{every-step, every-end, greatest-step, greatest-end}
-use Rattle.order.specs.TestLaws.{is-true, is-false, has→∈, hasAll→∈}
+use Rattle.order.specs.TestLaws.{is-false, has→∈, hasAll→∈}
 use Rattle.order.specs.ListingLaws.{Stuck, ready-needs, ready-executable, after-from}
 use Rattle.laws.specs.SetLaws.{find-here}
 use Rattle.laws.specs.EffectiveLaws.{effective-is}
@@ -21,7 +21,7 @@ use Rattle.needs.specs.IndexLaws.{index-cases}
 use Rattle.needs.specs.NameLaws.{sequence-at}
 use Rattle.needs.specs.Rows.{rowSize, rowIn, RowsRight, RowFits}
 use Rattle.needs.specs.RowLaws.{row-length, row-at}
-use Rattle.closure.specs.Ready.{isPlaced, readyIn, effectiveIn, Marks, Placing, Blocks}
+use Rattle.closure.specs.Ready.{isPlaced, readyIn, effectiveIn, Placing, Blocks}
 
 -- ---- a row, one need after the other
 module _ (rows counts : List ℕ) (i : ℕ) (fits : RowFits rows counts i) where

@@ -3,12 +3,11 @@
 use mathlib.Core.Path.{_≡_, refl, sym, _∙_, ap, subst}
 use mathlib.Core.Logic.{_⊎_, inl, inr, ⊎-elim}
 use mathlib.Core.Bool.{Bool, true, false, cond, not, _&&_}
-use mathlib.Core.List.{List, [], _∷_, _++_, map, List·Memᴰ·head, List·Memᴰ·tail, List·Memᴰ·not-nil, List·Memᴰ·cases-cons, List·Memᴰ·append-cases, List·Memᴰ·eq-of-singleton, Memᴰ·append-left, Memᴰ·append-right, Memᴰ·cast, Memᴰ·map, Memᴰ·of-map}
-use Prim.Native.Nat.{ℕ, zero, suc, _+_, _*_, _-_, _/_, _%_, _^_, _≤_, _<_, max}
+use mathlib.Core.List.{List, [], _∷_, List·Memᴰ·head, List·Memᴰ·tail, List·Memᴰ·not-nil, List·Memᴰ·append-cases, List·Memᴰ·eq-of-singleton, Memᴰ·cast, Memᴰ·map, Memᴰ·of-map}
+use Prim.Native.Nat.{ℕ, suc, _-_, _/_, _≤_, _<_, max}
 use native.Mathlib.Omega.{arith}
 use native.Mathlib.Nat.{not-suc-le-zero}
-use lib.ListN.{length}
-use lib.Dec.{T, eqb, ltb, leb, eqb→eq, eqb-refl, ltb→lt, lt→ltb, nltb→le, leb→le, nleb→lt, T-not, not-T}
+use lib.Dec.{T, eqb, ltb, eqb→eq, eqb-refl, ltb→lt, lt→ltb, nltb→le, T-not, not-T}
 use Rattle.model.specs.Lists.{_∈_, has, every, some?, keep, greatest, ascending}
 use Rattle.model.specs.Layout.{numbersOfLine}
 use Rattle.model.specs.Message.{Message, sequenceOf, lineOf, numberOf, predecessorOf, numbered, numbersRight, dependenciesOf}
@@ -16,7 +15,7 @@ use Rattle.model.specs.Order.{State, Ascending, sequencesOf, needs, logOf, held
 use Rattle.model.specs.Image.{Valid}
 use Rattle.model.specs.Compose.{newNumber, newSequence, unneeded, newDependencies}
 use Rattle.model.specs.Codes.{heldOn}
-use Rattle.order.specs.TestLaws.{and-l, and-r, and-i, decide, has→∈, ∈→has, keep-∈, ∈-keep, ∈-every, every-∈, ∈-some, greatest-≥}
+use Rattle.order.specs.TestLaws.{and-l, and-r, and-i, decide, has→∈, ∈→has, keep-∈, ∈-keep, ∈-every, ∈-some, greatest-≥}
 use Rattle.laws.specs.LogLaws.{Logged, log-received, log-held}
 use Rattle.wire_laws.specs.MessageLaws.{passes-numbers}
 

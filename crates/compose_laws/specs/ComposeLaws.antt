@@ -3,27 +3,27 @@
 use mathlib.Core.Path.{_≡_, refl, sym, _∙_, ap, ap₂, subst}
 use mathlib.Core.Logic.{_⊎_, inl, inr, ⊎-elim}
 use mathlib.Core.Bool.{Bool, true, false, cond, not, _&&_, _||_}
-use mathlib.Core.Option.{Option, some}
-use mathlib.Core.List.{List, [], _∷_, _++_, map, reverse, List·Memᴰ·head, List·Memᴰ·tail, List·Memᴰ·not-nil, List·Memᴰ·cases-cons, List·Memᴰ·append-cases, Memᴰ·append-left, Memᴰ·append-right, Memᴰ·cast, Memᴰ·map, Memᴰ·of-map, map-append}
-use Prim.Native.Nat.{ℕ, zero, suc, _+_, _*_, _-_, _/_, _%_, _^_, _≤_, _<_, max}
+use mathlib.Core.Option.{some}
+use mathlib.Core.List.{List, [], _∷_, _++_, map, List·Memᴰ·append-cases, Memᴰ·append-left, Memᴰ·append-right, Memᴰ·map, Memᴰ·of-map, map-append}
+use Prim.Native.Nat.{ℕ, zero, suc, _+_, _-_, _/_, _^_, _≤_, _<_}
 use native.Mathlib.Omega.{arith}
 use native.Mathlib.Nat.{suc-ne-zero}
-use lib.ListN.{length, length-append, take, drop}
-use lib.Seq.{take-at, drop-length, drop-append-seam}
-use lib.Dec.{T, eqb, ltb, leb, eqb→eq, eqb-refl, ltb→lt, lt→ltb, leb→le, nleb→lt, nltb→le, le→leb, T-not, not-T, lit<}
-use Rattle.model.specs.Lists.{_∈_, has, every, some?, keep, greatest, ascending}
-use Rattle.model.specs.Bytes.{isBytes, number, field, parts}
+use lib.ListN.{length, take, drop}
+use lib.Seq.{take-at}
+use lib.Dec.{T, eqb, ltb, leb, eqb→eq, ltb→lt, leb→le, nleb→lt, nltb→le, le→leb, not-T}
+use Rattle.model.specs.Lists.{_∈_, has, every, some?}
+use Rattle.model.specs.Bytes.{isBytes, number, parts}
 use Rattle.model.specs.Layout.{imageSize, stepRoom, messageRoom, lineSize, sequenceSize, numbersOfLine, commandSize, mostDependencies, fieldLimit, capacity}
-use Rattle.model.specs.Message.{Message, sequenceOf, hasPriority, groupOf, blockOf, priorityOf, lineOf, numberOf, predecessorOf, dependenciesOf, needsOf, numbered, numbersRight, commandRight, blockRight, passes}
+use Rattle.model.specs.Message.{Message, sequenceOf, predecessorOf, dependenciesOf, commandRight, blockRight, passes}
 use Rattle.model.specs.Order.{State, add, insert, Ascending, sequencesOf, needs, placedBy, keyOf, less, logOf}
 use Rattle.model.specs.Image.{imageOf, Valid, stateIn, isImage}
-use Rattle.model.specs.Steps.{Step, undo, execute, common, stepsOf, undosOf, executionsOf, readSteps}
-use Rattle.model.specs.Compose.{messageOf, newNumber, newSequence, unneeded, newDependencies, newGroup, newBlock, composed}
-use Rattle.model.specs.Codes.{lowestCode, commandsSized, composeContent, heldOn, pastLimit, manyDependencies, composeConditions, smallSteps, conflicts, full, present}
-use Rattle.model.specs.Calls.{Composed, composeAnswer, composeCode, compose, Delivered, deliver}
+use Rattle.model.specs.Steps.{Step, execute, common, stepsOf, undosOf, readSteps}
+use Rattle.model.specs.Compose.{newNumber, newSequence, unneeded, newDependencies, newGroup, newBlock, composed}
+use Rattle.model.specs.Codes.{commandsSized, composeContent, heldOn, pastLimit, manyDependencies, smallSteps, conflicts, full, present}
+use Rattle.model.specs.Calls.{Composed, composeAnswer, composeCode, compose, deliver}
 use Rattle.model.specs.PlainStation.{accepts, receive}
 use Rattle.model.specs.Run.{delivery}
-use Rattle.order.specs.TestLaws.{and-l, and-r, and-i, or-l, or-r, or-e, nor-l, nor-r, decide, has→∈, ∈→has, keep-∈, ∈-keep, every-∈, ∈-every, some-∈, ∈-some, greatest-≥, greatest-cong, not-eqb}
+use Rattle.order.specs.TestLaws.{and-l, and-r, and-i, nor-l, nor-r, decide, has→∈, ∈→has, some-∈}
 use Rattle.order.specs.KeyOrder.{less-total}
 use Rattle.order.specs.ListingLaws.{after-has}
 use Rattle.order.specs.Extension.{extends}

@@ -1,14 +1,12 @@
 -- A message made of its parts: its fields are the parts, and it passes 3 to 6 where its parts are right.
 use mathlib.Core.Path.{_≡_, refl, sym, _∙_, ap, ap₂, subst}
-use mathlib.Core.Logic.{_⊎_, inl, inr, ⊎-elim}
-use mathlib.Core.Bool.{Bool, true, false, cond, not, _&&_, _||_}
-use mathlib.Core.List.{List, [], _∷_, _++_, map, List·Memᴰ·head, List·Memᴰ·tail, List·Memᴰ·not-nil, Memᴰ·of-map}
-use Prim.Native.Nat.{ℕ, zero, suc, _+_, _*_, _-_, _/_, _%_, _^_, _≤_, _<_}
+use mathlib.Core.Bool.{Bool, true, false, cond, not, _&&_}
+use mathlib.Core.List.{List, [], _∷_, _++_, map, List·Memᴰ·head, List·Memᴰ·tail, Memᴰ·of-map}
+use Prim.Native.Nat.{ℕ, _+_, _*_, _/_, _%_, _^_, _≤_, _<_}
 use native.Mathlib.Omega.{arith}
-use native.Mathlib.Nat.{div-add-mod'}
-use lib.ListN.{length, length-append, length-map, take, drop}
-use lib.Seq.{drop-drop, drop-at, take-length}
-use lib.Dec.{T, eqb, ltb, leb, eqb→eq, eqb-refl, leb→le, le→leb, lt→ltb, ltb→lt, lit<}
+use lib.ListN.{length, length-append, length-map, drop}
+use lib.Seq.{drop-drop, drop-at}
+use lib.Dec.{T, eqb, ltb, leb, eqb→eq, eqb-refl, leb→le, le→leb, lt→ltb}
 use Rattle.model.specs.Lists.{_∈_, has, every, ascending}
 use Rattle.model.specs.Bytes.{isBytes, number, bytes, field, parts, join}
 use Rattle.model.specs.Layout.{kindAt, priorityFlagAt, lengthAt, dependenciesOffsetAt, commandsOffsetAt, firstZerosAt, lastZerosAt, headerSize, sequenceSize, commandSize, mostDependencies, mostCommands, fieldLimit}
@@ -65,13 +63,13 @@ module _ (flag : Bool) (s group block priority : ℕ) (deps commands : List ℕ)
     made-sequence = number-bytes sequenceSize s (p .sequence-fits)
 
     made-group : groupOf made ≡ group
-    made-group = number-bytes 4 group (let h : group ≤ 2147483647 = p .group-fits in omega arith)
+    made-group = number-bytes 4 group (let h : group ≤ fieldLimit = p .group-fits in omega arith)
 
     made-block : blockOf made ≡ block
-    made-block = number-bytes 4 block (let h : block ≤ 2147483647 = p .block-fits in omega arith)
+    made-block = number-bytes 4 block (let h : block ≤ fieldLimit = p .block-fits in omega arith)
 
     made-priority : priorityOf made ≡ priority
-    made-priority = number-bytes 4 priority (let h : priority ≤ 2147483647 = p .priority-fits in omega arith)
+    made-priority = number-bytes 4 priority (let h : priority ≤ fieldLimit = p .priority-fits in omega arith)
 
     made-dependency-count : dependencyCount made ≡ length deps
     made-dependency-count = one-byte (length deps)

@@ -7,7 +7,7 @@ use lib.ListN.{length, take, getD, length-map}
 use lib.Seq.{length-take-le}
 use Rattle.model.specs.Layout.{imageSize, messageRoom, capacity}
 use Rattle.model.specs.Message.{Message}
-use Rattle.model.specs.Order.{State, add, logOf}
+use Rattle.model.specs.Order.{State, add}
 use Rattle.model.specs.Image.{stateIn}
 use Rattle.model.specs.Calls.{Delivered, acceptedAnswer}
 use Rattle.laws.specs.LogLaws.{log-length}
@@ -18,7 +18,7 @@ use Rattle.table.specs.Places.{AllBelow}
 use Rattle.table.specs.Shifting.{shifted}
 use Rattle.steps.specs.LogPlaces.{IsLogOf, log-shifted}
 use Rattle.judged.specs.declared.judging.Station.{Station}
-use Rattle.judged.specs.Judging.{placesIn, IsStation}
+use Rattle.judged.specs.Judging.{placesIn}
 use Rattle.deliver.specs.PoolLaws.{poolOf, old-deltas, new-holds, new-set}
 use Rattle.deliver.specs.Accepting.{Updatable, Updates, Acceptable}
 

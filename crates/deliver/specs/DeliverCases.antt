@@ -1,21 +1,16 @@
 -- The cases of deliver: which answer the definitions give, by what is known of the image and the message.
-use mathlib.Core.Path.{_≡_, refl, sym, _∙_, ap, ap₂, subst}
-use mathlib.Core.Logic.{_⊎_, inl, inr, ⊎-elim}
-use mathlib.Core.Bool.{Bool, true, false, cond, not, _&&_, _||_}
+use mathlib.Core.Path.{_≡_, refl, sym, _∙_, ap, ap₂}
+use mathlib.Core.Bool.{Bool, true, false, cond, not, _||_}
 use mathlib.Core.List.{List, [], _∷_, _++_}
-use Prim.Native.Nat.{ℕ, zero, suc, _+_, _-_, _≤_, _<_}
-use native.Mathlib.Omega.{arith}
-use native.Mathlib.Nat.{suc-ne-zero}
-use lib.ListN.{length, drop}
+use Prim.Native.Nat.{ℕ, zero, suc}
+use lib.ListN.{length}
 use lib.Dec.{T}
-use Rattle.model.specs.Lists.{_∈_, has, same}
-use Rattle.model.specs.Layout.{imageSize, stepRoom, capacity}
-use Rattle.model.specs.Message.{Message, sequenceOf, passes, layoutRight, numbersRight, dependenciesRight, contentRight}
+use Rattle.model.specs.Message.{Message, sequenceOf, layoutRight, numbersRight, dependenciesRight, contentRight}
 use Rattle.model.specs.Order.{State, stateOf, add, sequencesOf, logOf}
 use Rattle.model.specs.Image.{imageOf, Valid, stateIn, isImage}
 use Rattle.model.specs.Codes.{Conditions, lowestCode, messageConditions, wrongSize, smallSteps, present, conflicts, full}
 use Rattle.model.specs.Steps.{Step, stepsBytes}
-use Rattle.model.specs.Calls.{Delivered, written, acceptedAnswer, deliverAnswer, deliverCode, deliver}
+use Rattle.model.specs.Calls.{written, acceptedAnswer, deliverAnswer, deliverCode, deliver}
 use Rattle.order.specs.TestLaws.{is-true, is-false, has→∈}
 use Rattle.laws.specs.ImageLaws.{image-own, own-valid}
 use Rattle.laws.specs.SetLaws.{insert-present}

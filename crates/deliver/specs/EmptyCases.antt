@@ -1,5 +1,5 @@
 -- The cases of empty.
-use mathlib.Core.Path.{_≡_, sym, _∙_, ap}
+use mathlib.Core.Path.{_≡_, _∙_, ap}
 use mathlib.Core.Bool.{Bool, true, false, not}
 use mathlib.Core.List.{List, [], _∷_}
 use Prim.Native.Nat.{ℕ}
@@ -8,7 +8,7 @@ use lib.Dec.{eqb}
 use Rattle.model.specs.Layout.{imageSize}
 use Rattle.model.specs.Image.{imageOf}
 use Rattle.model.specs.Codes.{lowestCode}
-use Rattle.model.specs.Calls.{Emptied, emptyState, emptyAnswer, empty}
+use Rattle.model.specs.Calls.{emptyState, emptyAnswer, empty}
 
 pub empty-wrong : (b : List ℕ) → false ≡ eqb (length b) imageSize → record { code = 1; image = b } ≡ empty b
 unfolding empty

@@ -1,23 +1,22 @@
 -- The cases of deliver at a judged station, for a message that passes 3 to 6: its sequence is there, or new.
 use mathlib.Core.Path.{_≡_, refl, sym, _∙_, ap, ap₂, subst}
 use mathlib.Core.Bool.{Bool, true, false, not, _&&_, _||_}
-use mathlib.Core.List.{List, []}
+use mathlib.Core.List.{List}
 use Prim.Native.Nat.{ℕ, _≤_, _<_}
 use native.Mathlib.Omega.{arith}
 use lib.ListN.{length, getD, length-map}
 use lib.Seq.{length-take-le}
-use lib.Dec.{T, eqb, ltb, leb, le→leb, eqb-refl}
+use lib.Dec.{T, leb}
 use borrow.Author.Tests.{eq-eqb, le-ltb, le-leb, lt-leb}
-use Rattle.model.specs.Lists.{has, same}
+use Rattle.model.specs.Lists.{same}
 use Rattle.model.specs.Layout.{imageSize, stepRoom, capacity}
 use Rattle.model.specs.Message.{Message, sequenceOf, passes}
 use Rattle.model.specs.Order.{State, add, find}
 use Rattle.model.specs.Image.{stateIn}
 use Rattle.model.specs.Codes.{wrongSize, smallSteps, present, conflicts, full}
-use Rattle.model.specs.Calls.{Delivered, acceptedAnswer, deliverCode, deliver}
-use Rattle.order.specs.TestLaws.{and-l, and-r}
+use Rattle.model.specs.Calls.{acceptedAnswer, deliver}
 use Rattle.parse.specs.ParsedLaws.{passes-code}
-use Rattle.table.specs.Table.{startsOf, messageFrom, deltasOf, setIn}
+use Rattle.table.specs.Table.{startsOf, messageFrom, setIn}
 use Rattle.table.specs.Places.{IsPresent, IsAbsent}
 use Rattle.table.specs.PlaceLaws.{delta-at}
 use Rattle.table.specs.FindLaws.{present-has, present-find, absent-has}

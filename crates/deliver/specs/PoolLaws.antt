@@ -1,7 +1,7 @@
 -- The pool of a delivery: the image, and the delivered message behind it.
 use mathlib.Core.Path.{_≡_, refl, sym, _∙_, ap, ap₂, subst}
-use mathlib.Core.List.{List, [], _∷_, _++_, map, append-cancel-left}
-use Prim.Native.Nat.{ℕ, zero, suc, _+_, _-_, _≤_, _<_}
+use mathlib.Core.List.{List, [], _++_, append-cancel-left}
+use Prim.Native.Nat.{ℕ, _+_, _≤_, _<_}
 use native.Mathlib.Omega.{arith}
 use native.Mathlib.Nat.{zero-add}
 use lib.ListN.{length, take, drop, getD}
@@ -9,10 +9,9 @@ use lib.Seq.{paste, take-paste, length-paste, take-all, take-take, take-add, tak
 use lib.Dec.{T}
 use Rattle.model.specs.Layout.{capacity}
 use Rattle.model.specs.Message.{Message, sequenceOf, passes}
-use Rattle.model.specs.Order.{State, stateOf, add, insert}
-use Rattle.model.specs.Image.{stateIn}
+use Rattle.model.specs.Order.{stateOf, add, insert}
 use Rattle.table.specs.Table.{messageFrom, deltasOf, setIn, Holds, insertAt}
-use Rattle.table.specs.Places.{sequenceIn, IsAbsent}
+use Rattle.table.specs.Places.{IsAbsent}
 use Rattle.table.specs.PoolLaws.{deltas-front, holds-front, message-placed}
 use Rattle.table.specs.InsertLaws.{insert-deltas, insert-holds}
 

@@ -1,5 +1,5 @@
 -- The refusals of deliver by 1 to 6, as its checks tell them.
-use mathlib.Core.Path.{_≡_, refl, sym, _∙_, ap, subst}
+use mathlib.Core.Path.{_≡_, refl, sym, subst}
 use mathlib.Core.Bool.{Bool, true, false, not, _||_}
 use mathlib.Core.List.{List}
 use Prim.Native.Nat.{ℕ, _≤_}
@@ -10,7 +10,7 @@ use Rattle.model.specs.Layout.{imageSize, stepRoom}
 use Rattle.model.specs.Message.{Message}
 use Rattle.model.specs.Image.{isImage}
 use Rattle.model.specs.Codes.{wrongSize, smallSteps}
-use Rattle.model.specs.Calls.{Delivered, deliver}
+use Rattle.model.specs.Calls.{deliver}
 use Rattle.parse.specs.declared.Parsed.{Parsed}
 use Rattle.parse.specs.declared.Parsed.the-variants as parsed
 use Rattle.parse.specs.Parsed.{parsedCode, Parses}

@@ -17,9 +17,6 @@ use table::places::find;
 ghost use mathlib.Core.Path.{_≡_};
 ghost use lib.ListN.{length};
 ghost use Rattle.model.specs.Calls as model;
-ghost use Rattle.sequence.specs.Sequence.{sequenceNumber};
-ghost use Rattle.table.specs.Table.{startsOf};
-ghost use Rattle.table.specs.Places.{IsAbsent};
 ghost use Rattle.deliver.specs.Answer.{deliveredBy};
 ghost use Rattle.deliver.specs.Delivering.{Takeable, Placeable};
 

@@ -1,20 +1,19 @@
 -- A buffer whose messages were read into a table is an image exactly if it is the image of the table's set.
-use mathlib.Core.Path.{_≡_, refl, sym, _∙_, ap, ap₂, subst}
-use mathlib.Core.Bool.{Bool, true, false, _&&_}
+use mathlib.Core.Path.{_≡_, sym, _∙_, ap, ap₂, subst}
+use mathlib.Core.Bool.{Bool, false, _&&_}
 use mathlib.Core.List.{List}
 use Prim.Native.Nat.{ℕ}
 use lib.ListN.{length, take}
-use lib.Dec.{T, leb, le→leb}
+use lib.Dec.{leb, le→leb}
 use Rattle.model.specs.Lists.{every, same}
 use Rattle.model.specs.Layout.{capacity}
 use Rattle.model.specs.Message.{passes}
 use Rattle.model.specs.Order.{State, logOf}
-use Rattle.model.specs.Image.{imageOf, stateIn, isImage}
+use Rattle.model.specs.Image.{imageOf, isImage}
 use Rattle.order.specs.TestLaws.{is-true, false-of, ∈-every}
 use Rattle.laws.specs.ImageLaws.{own-log}
 use Rattle.table.specs.Table.{startsOf, deltasOf, deltasAt, setIn}
 use Rattle.table.specs.declared.Table.{Table}
-use Rattle.table.specs.declared.reading.Reading.{Reading}
 use Rattle.table.specs.Reading.{IsTable, ReadsTable}
 use Rattle.message.specs.declared.checks.Check.{Check}
 use Rattle.message.specs.declared.checks.Check.the-variants.{Right, Wrong}

@@ -12,7 +12,7 @@ use Rattle.model.specs.Lists.{_∈_}
 use Rattle.model.specs.Bytes.{field}
 use Rattle.model.specs.Layout.{lengthAt, capacity}
 use Rattle.model.specs.Message.{Message, sequenceOf, passes}
-use Rattle.model.specs.Image.{cut, logCount, heldCount, logIn, messagesIn, messagesStartIn}
+use Rattle.model.specs.Image.{cut, logCount, heldCount, messagesIn, messagesStartIn}
 use Rattle.order.specs.ListLaws.{getD-∈}
 use Rattle.laws.specs.SetLaws.{ascending-names}
 use Rattle.table.specs.Table.{messageFrom, deltasOf, deltasAt}

@@ -2,17 +2,17 @@
 use mathlib.Core.Path.{_≡_, refl, sym, _∙_, ap, ap₂, subst}
 use mathlib.Core.Logic.{_⊎_, inl, inr, ⊎-elim}
 use mathlib.Core.Bool.{Bool, true, false, cond, not}
-use mathlib.Core.List.{List, [], _∷_, _++_, map, List·Memᴰ·head, List·Memᴰ·tail, List·Memᴰ·not-nil, List·Memᴰ·cases-cons, Memᴰ·cast, Memᴰ·of-map, Memᴰ·map}
-use Prim.Native.Nat.{ℕ, zero, suc, _≤_, _<_}
+use mathlib.Core.List.{List, [], _∷_, map, List·Memᴰ·head, List·Memᴰ·tail, List·Memᴰ·not-nil, List·Memᴰ·cases-cons, Memᴰ·cast, Memᴰ·of-map}
+use Prim.Native.Nat.{ℕ, suc, _≤_, _<_}
 use native.Mathlib.Omega.{arith}
 use native.Mathlib.Nat.{lt-irrefl}
 use lib.ListN.{length}
-use lib.Dec.{T, eqb, ltb, eqb→eq, ltb→lt, nltb→le, eqb-refl, T-not}
-use Rattle.model.specs.Lists.{_∈_, has}
+use lib.Dec.{T, eqb, ltb, eqb→eq, ltb→lt, nltb→le}
+use Rattle.model.specs.Lists.{_∈_}
 use Rattle.model.specs.Message.{Message, sequenceOf}
 use Rattle.model.specs.Order.{Ascending, insert, find}
 use Rattle.model.specs.Image.{setOf}
-use Rattle.order.specs.TestLaws.{Same, decide, not-eqb}
+use Rattle.order.specs.TestLaws.{Same, not-eqb}
 
 pub insert-from : (m : Message) (S : List Message) (a : Message) → a ∈ insert m S → (a ≡ m) ⊎ (a ∈ S)
 insert-from m [] a h = List·Memᴰ·cases-cons h

@@ -2,12 +2,12 @@
 -- none ready, is the log of the set; and the log of the set passes each of these tests.
 use mathlib.Core.Path.{_≡_, refl, sym, _∙_, ap, ap₂, subst}
 use mathlib.Core.Logic.{_⊎_, inl, inr, ⊎-elim}
-use mathlib.Core.Bool.{Bool, true, false, not}
-use mathlib.Core.List.{List, [], _∷_, _++_, map, map-append, List·Memᴰ·not-nil, Memᴰ·cast, Memᴰ·map}
-use Prim.Native.Nat.{ℕ, zero, suc, _+_, _≤_, _<_, max}
+use mathlib.Core.Bool.{true, false}
+use mathlib.Core.List.{List, [], _∷_, _++_, map, map-append}
+use Prim.Native.Nat.{ℕ, _+_, _≤_, _<_, max}
 use native.Mathlib.Omega.{arith}
 use native.Mathlib.Numerals.{add-one}
-use lib.ListN.{length, getD, take, set, replicate, length-map, length-set, length-take, length-replicate}
+use lib.ListN.{length, getD, take, set, replicate, length-map, length-set, length-replicate}
 use lib.Seq.{getD-set-same, getD-set-other, take-suc, take-all}
 use lib.Dec.{T, T-not, eqb, eqb→eq}
 use Rattle.model.specs.Lists.{_∈_, has, greatest}
@@ -15,7 +15,7 @@ use Rattle.model.specs.Layout.{capacity}
 use Rattle.model.specs.Message.{Message, sequenceOf}
 use Rattle.model.specs.Listing as L
 use Rattle.model.specs.Order.{State, RightSet, sequencesOf, needs, placedBy, ready, Listing, Executable, keyOf, less, logOf}
-use Rattle.order.specs.ListLaws.{getD-∈, ∈-getD, getD-map, greatest-≤, take-map}
+use Rattle.order.specs.ListLaws.{getD-∈, getD-map, greatest-≤, take-map}
 use Rattle.order.specs.TestLaws.{decide, ∈→has, hasAll→∈, greatest-≥, not-eqb}
 use Rattle.order.specs.KeyOrder.{less-total}
 use Rattle.order.specs.ListingLaws.{Stuck, ready-fresh, ready-needs, complete-stuck, stuck-complete}
@@ -24,7 +24,6 @@ use Rattle.order.specs.InPlace.{InPlace, first-in-place, in-place-first}
 use Rattle.laws.specs.SetLaws.{ascending-names}
 use Rattle.laws.specs.LogLaws.{keys-differ, log-complete}
 use Rattle.table.specs.Table.{deltasAt}
-use Rattle.table.specs.PlaceLaws.{one-place}
 use Rattle.key.specs.declared.Key.{Key}
 use Rattle.needs.specs.Names.{indexOf}
 use Rattle.needs.specs.IndexLaws.{index-here}

@@ -11,7 +11,7 @@ use lib.Dec.{T}
 use Rattle.model.specs.Lists.{keep}
 use Rattle.model.specs.Message.{Message, sequenceOf}
 use Rattle.model.specs.Listing as L
-use Rattle.model.specs.Order.{State, RightSet, needs, placedBy, ready, keyOf, less}
+use Rattle.model.specs.Order.{State, needs, placedBy, ready, keyOf, less}
 use Rattle.order.specs.ListLaws.{getD-∈}
 use Rattle.order.specs.ListingLaws.{ready-executable}
 use Rattle.key.specs.declared.Key.{Key}

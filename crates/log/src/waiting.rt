@@ -2,7 +2,6 @@
 use closure::ready::ready;
 ghost use mathlib.Core.Path.{_≡_};
 ghost use lib.ListN.{length};
-ghost use Rattle.needs.specs.Rows.{RowFits};
 ghost use Rattle.closure.specs.Ready.{marksSize};
 ghost use Rattle.log.specs.Waiting.{AllFit, AnyReady};
 

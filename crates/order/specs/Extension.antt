@@ -1,17 +1,17 @@
 -- One more item, which needs every listed item that no listed one needs: the list goes on with it.
-use mathlib.Core.Path.{_≡_, refl, sym, _∙_, ap, ap₂, subst}
+use mathlib.Core.Path.{_≡_, refl, sym, _∙_, ap, subst}
 use mathlib.Core.Logic.{_⊎_, inl, inr, ⊎-elim}
-use mathlib.Core.Bool.{Bool, true, false, not, _&&_, _||_}
+use mathlib.Core.Bool.{Bool, not}
 use mathlib.Core.Option.{Option, some, none}
 use mathlib.Core.List.{List, [], _∷_, _++_, List·Memᴰ·head, List·Memᴰ·tail, List·Memᴰ·not-nil, List·Memᴰ·cases-cons, List·Memᴰ·append-cases, List·Memᴰ·eq-of-singleton, Memᴰ·cast}
-use Prim.Native.Nat.{ℕ, zero, suc, _+_, _-_, _≤_, _<_}
+use Prim.Native.Nat.{ℕ, suc, _+_, _-_, _≤_}
 use native.Mathlib.Omega.{arith}
 use native.Mathlib.Nat.{zero-add, suc-add}
 use lib.ListN.{length, length-append}
 use lib.Dec.{T, T-not, not-T}
 use Rattle.model.specs.Lists.{_∈_, has, hasAll, keep}
 use Rattle.model.specs.Listing.{after, ready, Listing, Complete, lowestOf, place, grow, firstOf}
-use Rattle.order.specs.TestLaws.{has→∈, ∈→has, hasAll→∈, ∈→hasAll, and-i, decide}
+use Rattle.order.specs.TestLaws.{has→∈, ∈→has, hasAll→∈, ∈→hasAll, and-i}
 use Rattle.order.specs.KeyOrder.{Total}
 use Rattle.order.specs.ListingLaws.{stuck-placed, Next, Next?, next-is, grow-ind, first-complete, ready-fresh, ready-needs, listing-snoc, listing-length, complete-stuck, after-has, after-from, not-self}
 

@@ -1,16 +1,15 @@
 -- Reach: of a received item, all that it reaches is received and holds no ring exactly if it is executable.
 use mathlib.Core.Path.{_≡_, refl, sym, subst}
 use mathlib.Core.Logic.{⊎-elim, _↔_}
-use mathlib.Core.Bool.{not}
 use mathlib.Core.List.{List, [], _∷_, _++_, List·Memᴰ·head, List·Memᴰ·tail, List·Memᴰ·not-nil, List·Memᴰ·cases-cons, Memᴰ·cast, Memᴰ·append-right}
 use Prim.Native.Nat.{ℕ, zero, suc, _≤_, _<_}
 use native.Mathlib.Omega.{arith}
-use native.Mathlib.Nat.{lt-irrefl, le-refl}
+use native.Mathlib.Nat.{le-refl}
 use lib.ListN.{length}
-use lib.Dec.{T, eqb, ltb, ltb→lt, lt→ltb, nltb→le, T-not, not-T}
-use Rattle.model.specs.Lists.{_∈_, has, hasAll, keep}
+use lib.Dec.{T, eqb, T-not, not-T}
+use Rattle.model.specs.Lists.{_∈_, has, keep}
 use Rattle.model.specs.Listing as L
-use Rattle.order.specs.TestLaws.{and-i, or-r, decide, has→∈, ∈→has, hasAll→∈, ∈→hasAll, keep-loses}
+use Rattle.order.specs.TestLaws.{or-r, has→∈, ∈→has, hasAll→∈, keep-loses}
 use Rattle.order.specs.ListingLaws.{Stuck, fresh, any-chooses, grow-complete, stuck-placed, ready-fresh, ready-needs, after-has, after-from, complete-stuck}
 
 module _ {A : Type 0} (name : A → ℕ) (needs : A → List ℕ) (S : List A) where

@@ -1,14 +1,13 @@
 -- The steps from one log to the next can be played, and no list that can be played is shorter.
 use mathlib.Core.Path.{_≡_, refl, sym, _∙_, ap, ap₂, subst}
-use mathlib.Core.Logic.{_⊎_, inl, inr, ⊎-elim}
 use mathlib.Core.Bool.{Bool, true, false, cond}
-use mathlib.Core.List.{List, [], _∷_, _++_, map, reverse, reverseAux, append-nil, append-assoc, append-cancel-right}
-use Prim.Native.Nat.{ℕ, zero, suc, _+_, _-_, _≤_, _<_}
+use mathlib.Core.List.{List, [], _∷_, _++_, map, reverse, reverseAux, append-nil, append-cancel-right}
+use Prim.Native.Nat.{ℕ, suc, _+_, _≤_}
 use native.Mathlib.Omega.{arith}
-use native.Mathlib.Nat.{le-of-eq, le-of-lt, le-trans, le-refl}
+use native.Mathlib.Nat.{le-of-eq}
 use lib.ListN.{length, take, drop, length-append, take-append-drop, length-map, length-reverse, length-drop}
 use lib.Seq.{append-snoc, drop-length, drop-append-seam}
-use lib.Dec.{T, eqb, eqb→eq, eqb-refl}
+use lib.Dec.{T, eqb, eqb-refl}
 use Rattle.order.specs.CommonLaws.{common-start}
 use Rattle.model.specs.Steps.{Step, undo, execute, common, stepsOf, undosOf, executionsOf, Plays}
 

@@ -4,23 +4,23 @@ use mathlib.Core.Logic.{_⊎_, inl, inr, ⊎-elim, _↔_}
 use mathlib.Core.Bool.{Bool, true, false, cond}
 use mathlib.Core.Option.{Option, some, none}
 use mathlib.Core.List.{List, [], _∷_, _++_, map, reverse, List·Memᴰ·head, List·Memᴰ·tail, List·Memᴰ·not-nil, List·Memᴰ·cases-cons, List·Memᴰ·append-cases, Memᴰ·cast, Memᴰ·of-map}
-use Prim.Native.Nat.{ℕ, zero, suc, _+_, _-_, _^_, _≤_, _<_}
+use Prim.Native.Nat.{ℕ, zero, suc, _+_, _^_, _<_}
 use native.Mathlib.Omega.{arith}
-use native.Mathlib.Nat.{suc-ne-zero, le-of-eq, sub-self}
-use lib.ListN.{length, length-map, length-reverse, length-drop, drop, length-append}
+use native.Mathlib.Nat.{suc-ne-zero}
+use lib.ListN.{length, length-reverse, length-drop, drop}
 use lib.Seq.{drop-length}
-use lib.Dec.{T, eqb, eqb→eq, eqb-refl}
+use lib.Dec.{T, eqb, eqb→eq}
 use Rattle.model.specs.Lists.{_∈_}
-use Rattle.model.specs.Layout.{sequenceSize, capacity}
+use Rattle.model.specs.Layout.{sequenceSize}
 use Rattle.model.specs.Message.{Message, sequenceOf}
 use Rattle.model.specs.Order.{State, stateOf, add, sequencesOf, logOf}
 use Rattle.model.specs.Image.{imageOf, Valid, logIn}
 use Rattle.model.specs.Steps.{Step, undo, execute, common, stepsOf, undosOf, executionsOf, stepsBytes, readSteps, Plays}
 use Rattle.model.specs.Codes.{lowestCode, emptyConditions}
-use Rattle.model.specs.Calls.{Delivered, deliverAnswer, deliverCode, deliver, emptyState, Emptied, emptyAnswer, empty}
-use Rattle.model.specs.PlainStation.{accepts, receive}
+use Rattle.model.specs.Calls.{Delivered, deliverAnswer, emptyState, emptyAnswer, empty}
+use Rattle.model.specs.PlainStation.{receive}
 use Rattle.model.specs.Run.{Given, Call, delivery, Event, imageAfter, Run, accepts?, stateBegun, stateNext, stateAfter, logAfter, playedFrom, oldLog, codeFor, messageOfCall, acceptedIn, SameAccepted, StepsTaken, Played, Agreement, Begins, Answers}
-use Rattle.order.specs.StepLaws.{steps-play, steps-fewest, steps-counted, common-self, common-le, plays-unique}
+use Rattle.order.specs.StepLaws.{steps-play, steps-fewest, steps-counted, common-self, plays-unique}
 use Rattle.order.specs.TestLaws.{Same}
 use Rattle.laws.specs.SetLaws.{insert-from, insert-keeps, insert-has, ascending-unique}
 use Rattle.laws.specs.LogLaws.{log-received}

@@ -9,7 +9,7 @@ use contract.Lifetimes.{Lfts}
 use Rattle.model.specs.Lists.{_∈_}
 use Rattle.model.specs.Message.{Message}
 use Rattle.model.specs.Order.{State, Executable, Grounded, IsLog, logOf}
-use Rattle.model.specs.Image.{imageOf, logIn}
+use Rattle.model.specs.Image.{logIn}
 use Rattle.model.specs.Calls as model
 use Rattle.model.specs.Calls.{Delivered, deliver}
 use Rattle.model.specs.Run.{Given, Call, delivery, Event, imageAfter, Run, stateAfter, Agreement, Begins, Answers}

@@ -1,9 +1,8 @@
 -- The laws of the definitions, each as one statement. Their proofs stand in the files beside this one.
 use mathlib.Core.Path.{_≡_, refl}
 use mathlib.Core.Logic.{_↔_}
-use mathlib.Core.Bool.{Bool, true, false}
-use mathlib.Core.List.{List, [], _∷_, _++_}
-use Prim.Native.Nat.{ℕ, _+_, _≤_, _<_, max}
+use mathlib.Core.List.{List}
+use Prim.Native.Nat.{ℕ, _+_, _≤_, max}
 use native.Mathlib.Omega.{arith}
 use lib.ListN.{length, take}
 use lib.Dec.{T}
@@ -13,9 +12,9 @@ use Rattle.model.specs.Message.{Message, blockOf}
 use Rattle.model.specs.Order.{State, find, needs, effectiveBlock, keyOf, less, Executable, Grounded, IsLog, logOf, heldOf}
 use Rattle.model.specs.Image.{imageOf, Valid, IsImage, stateIn, logIn, isImage}
 use Rattle.model.specs.Steps.{Step, common, undosOf, executionsOf, stepsOf, Plays}
-use Rattle.model.specs.Codes.{Conditions, lowestCode, deliverConditions, composeConditions, emptyConditions, logMessageConditions, setpointConditions}
-use Rattle.model.specs.Calls.{Delivered, deliver, Composed, compose}
-use Rattle.model.specs.PlainStation.{accepts, receive}
+use Rattle.model.specs.Codes.{lowestCode, deliverConditions, composeConditions, emptyConditions, logMessageConditions, setpointConditions}
+use Rattle.model.specs.Calls.{deliver, compose}
+use Rattle.model.specs.PlainStation.{receive}
 use Rattle.model.specs.Run.{delivery, Agreement, Begins, Answers}
 use Rattle.order.specs.KeyOrder.{Total}
 use Rattle.order.specs.TestLaws.{Same}
@@ -57,7 +56,6 @@ pub record KeyLaw (S : State) : Type 0 where
   pub differ : (a b : Message) → a ∈ S .deltas → b ∈ S .deltas → keyOf S a ≡ keyOf S b → a ≡ b
   pub effective : (m : Message) → m ∈ S .deltas → Executable S m
       → effectiveBlock S m ≡ max (blockOf m) (greatest (λ s. effectiveBlock S (find (S .deltas) s)) (needs S m))
-
   pub only-effective : (f : Message → ℕ)
       → ((m : Message) → m ∈ S .deltas → Executable S m → f m ≡ max (blockOf m) (greatest (λ s. f (find (S .deltas) s)) (needs S m)))
       → (m : Message) → m ∈ S .deltas → Executable S m → f m ≡ effectiveBlock S m

@@ -1,23 +1,22 @@
 -- Numbers and lists of bytes: what is written is read back, and what is read is in range.
 use mathlib.Core.Path.{_≡_, refl, sym, _∙_, ap, ap₂, subst}
-use mathlib.Core.Logic.{_⊎_, inl, inr, ⊎-elim}
-use mathlib.Core.Bool.{Bool, true, false, cond, not, _&&_}
-use mathlib.Core.List.{List, [], _∷_, _++_, map, List·Memᴰ·head, List·Memᴰ·tail, append-assoc}
-use Prim.Native.Nat.{ℕ, zero, suc, _+_, _*_, _-_, _/_, _%_, _^_, _≤_, _<_, min}
+use mathlib.Core.Bool.{Bool, true, false, cond, not}
+use mathlib.Core.List.{List, [], _∷_, _++_, List·Memᴰ·head, List·Memᴰ·tail, append-assoc}
+use Prim.Native.Nat.{ℕ, zero, suc, _+_, _*_, _-_, _/_, _%_, _^_, _≤_, _<_}
 use native.Mathlib.Omega.{arith}
 use native.Mathlib.Nat.{mod-eq-of-lt, pow-suc, mul-zero, mul-suc, mul-assoc, mul-comm, le-of-suc-le-suc, one-le-pow, pow-le-pow-right, lt-of-lt-of-le}
 use lib.Dec.{T, ltb, lit<, lit≤, ltb→lt, lt→ltb, nltb→le}
 use lib.Arith.{mod-mul}
 use lib.ListN.{length, take, drop, getD, length-append, length-drop, length-take}
 use lib.Seq.{take-at, drop-at, take-append-le, drop-append-le, drop-append-add, take-take, drop-drop}
-use lib.IntN.{ℤ, pos, negsuc, subℕ}
+use lib.IntN.{ℤ, pos, negsuc}
 use lib.Signed.{mag}
 use mir.Syntax.{w32}
-use mir.Val.{toZ, ofZ, sel, SFits}
+use mir.Val.{toZ, ofZ, sel}
 use mir.Facts.{toZ-ofZ}
-use Rattle.model.specs.Lists.{_∈_, every}
+use Rattle.model.specs.Lists.{_∈_}
 use Rattle.model.specs.Bytes.{isBytes, numberFrom, number, bytes, field, parts, join, integer, word}
-use Rattle.order.specs.TestLaws.{and-l, and-r, and-i, decide}
+use Rattle.order.specs.TestLaws.{and-l, and-r, and-i}
 
 -- ---- a number's bytes
 pub length-bytes : (size n : ℕ) → length (bytes size n) ≡ size

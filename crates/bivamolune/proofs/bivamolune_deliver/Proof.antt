@@ -2,10 +2,6 @@ use Rattle.bivamolune.specs.AnswerLaws.{small, delivers}
 use borrow.Author.Needs.{needs}
 use Rattle.bivamolune.proofs.bivamolune_deliver.Statement.{statement}
 use Rattle.bivamolune.proofs.bivamolune_deliver.Tie as tie
-use Rattle.bivamolune.proofs.bivamolune_deliver.Reads as reads
-use Rattle.bivamolune.proofs.bivamolune_deliver.Lts as lts
-use Rattle.bivamolune.proofs.pack.Reads as pack-reads
-use Rattle.deliver.proofs.delivery.deliver.Reads as deliver-reads
 
 -- src/lib.rt:52:9
 deliver-requires : tie.Need-deliver-requires

@@ -2,10 +2,6 @@ use Rattle.bivamolune.specs.AnswerLaws.{empties}
 use borrow.Author.Needs.{needs}
 use Rattle.bivamolune.proofs.bivamolune_empty.Statement.{statement}
 use Rattle.bivamolune.proofs.bivamolune_empty.Tie as tie
-use Rattle.bivamolune.proofs.bivamolune_empty.Reads as reads
-use Rattle.bivamolune.proofs.bivamolune_empty.Lts as lts
-use Rattle.bivamolune.proofs.code_of.Reads as code-of-reads
-use Rattle.deliver.proofs.emptying.empty.Reads as empty-reads
 
 -- src/lib.rt:43:9
 empty-requires : tie.Need-empty-requires

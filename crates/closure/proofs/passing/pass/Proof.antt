@@ -1,6 +1,5 @@
 -- Those looked at were placed where they were ready; where nothing was placed, none of them is ready.
 use Prim.Native.Nat.{_-_, _≤_}
-use mathlib.Core.Path.{_≡_}
 use lib.ListN.{length, length-map}
 use native.Mathlib.Omega.{arith}
 use borrow.Author.Needs.{needs}

@@ -1,13 +1,10 @@
 -- The table and the listed places are lent to the log's check.
-use Prim.Native.Nat.{ℕ, _≤_}
-use mathlib.Core.Path.{_≡_, sym, ap, subst}
-use mathlib.Core.List.{List}
-use lib.ListN.{length, take, length-map, length-take}
+use mathlib.Core.Path.{_≡_, sym}
+use lib.ListN.{length, length-map, length-take}
 use lib.Seq.{length-take-le}
 use native.Mathlib.Omega.{arith}
 use borrow.Author.Needs.{needs}
 use Rattle.model.specs.Layout.{capacity}
-use Rattle.table.specs.declared.Table.{Table}
 use Rattle.table.specs.Table.{messageFrom, startsOf}
 use Rattle.judged.specs.LogRead.{ReadsLog}
 use Rattle.judged.proofs.judging.check_listed.Statement.{statement}
@@ -62,8 +59,7 @@ slice-aggregate-check-log-2 c =
 check-log-requires : tie.Need-check-log-requires
 check-log-requires c κs =
     let s = taken (lent (c .before)) in
-    let l = s .args .listed in
-    (
+    let l = s .args .listed in (
       s .pre .1 .holds,
       c .before .before .prepare .ensures,
       record {

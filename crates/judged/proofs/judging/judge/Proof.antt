@@ -8,8 +8,7 @@ use borrow.Author.Tests.{not-true, not-false}
 use Rattle.model.specs.Lists.{same}
 use Rattle.model.specs.Order.{logOf}
 use Rattle.model.specs.Image.{isImage}
-use Rattle.message.specs.declared.checks.Check.{Check}
-use Rattle.message.specs.declared.checks.Check.the-variants.{Right, Wrong}
+use Rattle.message.specs.declared.checks.Check.the-variants.{Right}
 use Rattle.table.specs.declared.Table.{Table}
 use Rattle.table.specs.Table.{startsOf, deltasOf, deltasAt, setIn}
 use Rattle.table.specs.Reading.{IsTable}

@@ -1,14 +1,14 @@
 -- The keys below i are made, each from its delta's header and its block.
-use Prim.Native.Nat.{ℕ, _-_, _≤_, _<_}
-use mathlib.Core.Path.{_≡_, refl, sym, _∙_, ap, ap₂}
-use mathlib.Core.List.{List, []}
+use Prim.Native.Nat.{ℕ, _-_, _≤_}
+use mathlib.Core.Path.{_≡_, refl, _∙_, ap}
+use mathlib.Core.List.{[]}
 use lib.ListN.{length, getD, length-map, length-set}
 use native.Mathlib.Omega.{arith}
 use borrow.Author.Needs.{needs}
 use Rattle.model.specs.Layout.{capacity}
 use Rattle.model.specs.Order.{keyWith}
 use Rattle.message.specs.Header.{headerOf}
-use Rattle.key.specs.Key.{keyNumbers, noKey, headerKey}
+use Rattle.key.specs.Key.{keyNumbers, headerKey}
 use Rattle.key.specs.KeyLaws.{key-is}
 use Rattle.table.specs.Table.{messageFrom, deltasOf}
 use Rattle.table.specs.PlaceLaws.{entry-passes, entry-long}

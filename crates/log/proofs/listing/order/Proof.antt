@@ -1,5 +1,5 @@
 -- The deltas placed so far, and what is to follow them, are the log.
-use Prim.Native.Nat.{_-_, _<_, _≤_}
+use Prim.Native.Nat.{_-_, _<_}
 use mathlib.Core.Path.{_≡_, subst}
 use lib.ListN.{length, length-map}
 use native.Mathlib.Omega.{arith}
