@@ -198,10 +198,10 @@ module _ (b line commands : List ℕ) (flag priority room : ℕ) (g : Granted b 
   pub composed-accepted : length (S .deltas) < capacity → (room′ : ℕ) → stepRoom ≤ room′ → T (accepts S message room′)
   unfolding accepts
   composed-accepted h room′ r =
-      let a : T (not (smallSteps room′)) = not-T (smallSteps room′) (λ t. let k : room′ < 2032 = ltb→lt room′ stepRoom t in let z : ⊥ = omega arith in absurd z) in
+      let a : T (not (smallSteps room′)) = not-T (smallSteps room′) (λ t. let k : room′ < stepRoom = ltb→lt room′ stepRoom t in let z : ⊥ = omega arith in absurd z) in
       let c : T (passes message) = composed-passes in
       let d : T (not (conflicts S message)) = not-T (conflicts S message) (λ t. new (and-l (present S (sequenceOf message)) _ t)) in
-      let e : T (not (full S message)) = not-T (full S message) (λ t. let k : 64 ≤ length (S .deltas) = leb→le capacity (length (S .deltas)) (and-l (leb capacity (length (S .deltas))) (not (present S (sequenceOf message))) t) in let z : ⊥ = omega arith in absurd z) in
+      let e : T (not (full S message)) = not-T (full S message) (λ t. let k : capacity ≤ length (S .deltas) = leb→le capacity (length (S .deltas)) (and-l (leb capacity (length (S .deltas))) (not (present S (sequenceOf message))) t) in let z : ⊥ = omega arith in absurd z) in
       search and-i depth 6
     where
       new : T (present S (sequenceOf message)) → ⊥

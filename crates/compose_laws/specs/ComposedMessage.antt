@@ -6,19 +6,16 @@ use Prim.Native.Nat.{ℕ, _+_, _*_, _/_, _%_, _^_, _≤_, _<_}
 use native.Mathlib.Omega.{arith}
 use lib.ListN.{length, length-append, length-map, drop}
 use lib.Seq.{drop-drop, drop-at}
-use lib.Dec.{T, eqb, ltb, leb, eqb→eq, eqb-refl, leb→le, le→leb, lt→ltb}
+use lib.Dec.{T, eqb, ltb, leb, eqb→eq, leb→le, le→leb, lt→ltb}
 use Rattle.model.specs.Lists.{_∈_, has, every, ascending}
 use Rattle.model.specs.Bytes.{isBytes, number, bytes, field, parts, join}
 use Rattle.model.specs.Layout.{kindAt, priorityFlagAt, lengthAt, dependenciesOffsetAt, commandsOffsetAt, firstZerosAt, lastZerosAt, headerSize, sequenceSize, commandSize, mostDependencies, mostCommands, fieldLimit}
 use Rattle.model.specs.Message.{Message, hasPriority, dependencyCount, commandCount, commandsStart, totalLength, sequenceOf, groupOf, blockOf, priorityOf, dependenciesOf, commandsOf, predecessorOf, numbered, layoutRight, numbersRight, dependenciesRight, commandRight, blockRight, contentRight, passes}
 use Rattle.model.specs.Compose.{messageOf}
 use Rattle.model.specs.Codes.{commandsSized}
-use Rattle.order.specs.TestLaws.{and-l, and-r, and-i}
+use Rattle.order.specs.TestLaws.{eq→eqb, and-l, and-r, and-i}
 use Rattle.wire_laws.specs.BytesLaws.{length-bytes, number-bytes, bytes-isBytes, isBytes-append, parts-join, length-join}
 use Rattle.wire_laws.specs.MessageLaws.{passes-all}
-
-eq→eqb : (a b : ℕ) → a ≡ b → T (eqb a b)
-eq→eqb a b e = subst (λ (x : ℕ). T (eqb a x)) e (eqb-refl a)
 
 one-byte : (x : ℕ) → number (x ∷ []) ≡ x
 one-byte x = omega arith
@@ -102,8 +99,8 @@ module _ (flag : Bool) (s group block priority : ℕ) (deps commands : List ℕ)
     sized-least : commandSize ≤ length commands
     sized-least = let t : T (commandsSized commands) = p .commands-sized in let h : T (leb commandSize (length commands)) = search (and-l, and-r) depth 6 in leb→le commandSize (length commands) h
 
-    sized-most : length commands ≤ 64
-    sized-most = let t : T (commandsSized commands) = p .commands-sized in let h : T (leb (length commands) 64) = search (and-l, and-r) depth 6 in leb→le (length commands) 64 h
+    sized-most : length commands ≤ commandSize * mostCommands
+    sized-most = let t : T (commandsSized commands) = p .commands-sized in let h : T (leb (length commands) (commandSize * mostCommands)) = search (and-l, and-r) depth 6 in leb→le (length commands) (commandSize * mostCommands) h
 
     sized-eights : length commands % commandSize ≡ 0
     sized-eights = let t : T (commandsSized commands) = p .commands-sized in let h : T (eqb (length commands % commandSize) 0) = search (and-l, and-r) depth 6 in eqb→eq (length commands % commandSize) 0 h
@@ -118,7 +115,7 @@ module _ (flag : Bool) (s group block priority : ℕ) (deps commands : List ℕ)
     made-bytes : T (isBytes made)
     made-bytes =
         let few : length deps ≤ 8 = p .few in
-        let most : length commands ≤ 64 = sized-most in
+        let most : length commands ≤ commandSize * mostCommands = sized-most in
         and-i (ltb (cond flag 1 0) 256) (isBytes (length deps ∷ rest)) (small flag)
         (and-i (ltb (length deps) 256) (isBytes rest) (lt→ltb (length deps) 256 (omega arith))
         (and-i (ltb (length commands / commandSize) 256) (isBytes fields) (lt→ltb (length commands / commandSize) 256 (omega arith)) fields-bytes))
@@ -148,7 +145,7 @@ module _ (flag : Bool) (s group block priority : ℕ) (deps commands : List ℕ)
         let D = dependencyCount made in
         let C = commandCount made in
         let few : length deps ≤ 8 = p .few in
-        let most : length commands ≤ 64 = sized-most in
+        let most : length commands ≤ commandSize * mostCommands = sized-most in
         let least : 8 ≤ length commands = sized-least in
         let d : D ≡ length deps = made-dependency-count in
         let c : C ≡ length commands / 8 = made-command-count in
@@ -160,11 +157,11 @@ module _ (flag : Bool) (s group block priority : ℕ) (deps commands : List ℕ)
         let h₄ : T (leb 1 C) = le→leb 1 C (omega arith) in
         let h₅ : T (leb C mostCommands) = le→leb C 8 (omega arith) in
         let h₆ : T (eqb (field made lengthAt 2) (totalLength D C)) =
-        eq→eqb (field made lengthAt 2) (totalLength D C) (number-bytes 2 (totalLength (length deps) (length commands / commandSize)) (omega arith) ∙ sym t) in
-        let h₇ : T (eqb (length made) (totalLength D C)) = eq→eqb (length made) (totalLength D C) (made-length ∙ sym t) in
+        eq→eqb (number-bytes 2 (totalLength (length deps) (length commands / commandSize)) (omega arith) ∙ sym t) in
+        let h₇ : T (eqb (length made) (totalLength D C)) = eq→eqb (made-length ∙ sym t) in
         let h₈ : T (eqb (field made dependenciesOffsetAt 2) headerSize) = tt in
         let h₉ : T (eqb (field made commandsOffsetAt 2) (commandsStart D)) =
-        eq→eqb (field made commandsOffsetAt 2) (commandsStart D) (number-bytes 2 (commandsStart (length deps)) (omega arith) ∙ sym (ap commandsStart d)) in
+        eq→eqb (number-bytes 2 (commandsStart (length deps)) (omega arith) ∙ sym (ap commandsStart d)) in
         let h₁₀ : T (eqb (field made firstZerosAt 2) 0) = tt in
         let h₁₁ : T (eqb (field made lastZerosAt 4) 0) = tt in
         search and-i depth 14

@@ -12,8 +12,8 @@ use Rattle.model.specs.Calls.{written, acceptedAnswer}
 use Rattle.table.specs.Table.{Holds}
 use Rattle.log_order.specs.declared.LogOrder.{LogOrder}
 use Rattle.log_order.specs.LogOrder.{oldOf, placesOf, OrderRight}
-use Rattle.steps.specs.Names.{namesOf}
-use Rattle.steps.specs.LogPlaces.{IsLogOf, names-are, undos-are, executions-are}
+use Rattle.steps.specs.LogNames.{namesOf}
+use Rattle.steps.specs.PlacedLogs.{IsLogOf, names-are, undos-are, executions-are}
 use Rattle.deliver.specs.declared.answer.Delivery.the-variants as delivery
 use Rattle.deliver.specs.Answer.{deliveredBy}
 

@@ -16,10 +16,10 @@ use Rattle.table.specs.declared.Table.{Table}
 use Rattle.table.specs.Table.{startsOf, messageFrom, deltasOf, setIn, Holds, insertAt}
 use Rattle.table.specs.Places.{AllBelow}
 use Rattle.table.specs.Shifting.{shifted}
-use Rattle.steps.specs.LogPlaces.{IsLogOf, log-shifted}
+use Rattle.steps.specs.PlacedLogs.{IsLogOf, log-shifted}
 use Rattle.judged.specs.declared.judging.Station.{Station}
 use Rattle.judged.specs.Judging.{placesIn}
-use Rattle.deliver.specs.PoolLaws.{poolOf, old-deltas, new-holds, new-set}
+use Rattle.deliver.specs.DeliveryPool.{poolOf, old-deltas, new-holds, new-set}
 use Rattle.deliver.specs.Accepting.{Updatable, Updates, Acceptable}
 
 module _ (b : List ℕ) (m : Message) (room : ℕ) (station : Station) (p : ℕ) (h : Acceptable b m room station p)

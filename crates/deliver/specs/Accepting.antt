@@ -13,7 +13,7 @@ use Rattle.table.specs.Table.{startsOf, setIn, Holds}
 use Rattle.table.specs.Places.{IsAbsent}
 use Rattle.judged.specs.declared.judging.Station.{Station}
 use Rattle.judged.specs.Judging.{IsStation}
-use Rattle.steps.specs.LogPlaces.{IsLogOf}
+use Rattle.steps.specs.PlacedLogs.{IsLogOf}
 
 -- An image and a step buffer can be written for a table, from an old log that lacks one delta at least.
 pub record Updatable (image : List ℕ) (room : ℕ) (pool : List ℕ) (t : Table) (old : List ℕ) (logged : ℕ) : Type 0 where

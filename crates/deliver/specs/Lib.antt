@@ -5,7 +5,7 @@ pub mod AcceptLaws
 pub mod Ordering
 pub mod RefuseLaws
 pub mod RefuseCases
-pub mod PoolLaws
+pub mod DeliveryPool
 pub mod Accepting
 pub mod AcceptedLaws
 pub mod Delivering

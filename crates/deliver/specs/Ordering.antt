@@ -9,7 +9,7 @@ use Rattle.table.specs.declared.Table.{Table}
 use Rattle.table.specs.Table.{startsOf, setIn, Holds}
 use Rattle.log_order.specs.declared.LogOrder.{LogOrder}
 use Rattle.log_order.specs.LogOrder.{oldOf, placesOf, OrderRight}
-use Rattle.steps.specs.LogPlaces.{IsLogOf}
+use Rattle.steps.specs.PlacedLogs.{IsLogOf}
 
 -- A table can be ordered beside so many old places.
 pub record Orderable (pool : List ℕ) (t : Table) (olds : ℕ) : Type 0 where

@@ -17,7 +17,7 @@ ghost use Rattle.model.specs.Order.{add};
 ghost use Rattle.model.specs.Image.{stateIn};
 ghost use Rattle.model.specs.Calls.{acceptedAnswer};
 ghost use Rattle.deliver.specs.Answer.{deliveredBy};
-ghost use Rattle.deliver.specs.PoolLaws.{poolOf};
+ghost use Rattle.deliver.specs.DeliveryPool.{poolOf};
 ghost use Rattle.deliver.specs.Accepting.{Updatable, Updates, Acceptable};
 
 // Copies an image, and a message behind it.

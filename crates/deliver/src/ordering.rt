@@ -13,7 +13,7 @@ ghost use Rattle.model.specs.Steps.{stepsOf, stepsBytes};
 ghost use Rattle.model.specs.Calls.{written};
 ghost use Rattle.table.specs.Table.{startsOf, setIn};
 ghost use Rattle.log_order.specs.LogOrder.{oldOf, placesOf};
-ghost use Rattle.steps.specs.Names.{namesOf};
+ghost use Rattle.steps.specs.LogNames.{namesOf};
 ghost use Rattle.deliver.specs.Ordering.{Orderable, IsChange, ImageWritable, Changeable};
 
 // The log of a table's set beside the old log, whose places are given.

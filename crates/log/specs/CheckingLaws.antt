@@ -19,7 +19,7 @@ use Rattle.order.specs.ListLaws.{getD-∈, getD-map, greatest-≤, take-map}
 use Rattle.order.specs.TestLaws.{decide, ∈→has, hasAll→∈, greatest-≥, not-eqb}
 use Rattle.order.specs.KeyOrder.{less-total}
 use Rattle.order.specs.ListingLaws.{Stuck, ready-fresh, ready-needs, complete-stuck, stuck-complete}
-use Rattle.order.specs.Places.{below, after-take, listing-at, listing-apart, ready-at}
+use Rattle.order.specs.ListingPlaces.{below, after-take, listing-at, listing-apart, ready-at}
 use Rattle.order.specs.InPlace.{InPlace, first-in-place, in-place-first}
 use Rattle.laws.specs.SetLaws.{ascending-names}
 use Rattle.laws.specs.LogLaws.{keys-differ, log-complete}

@@ -1,5 +1,5 @@
 -- The index of a sequence among names: that of the name, or missing where there is none.
-use mathlib.Core.Path.{_≡_, refl, sym, _∙_, ap}
+use mathlib.Core.Path.{_≡_, refl, sym, _∙_}
 use mathlib.Core.Logic.{_⊎_, inl, inr, ⊎-elim}
 use mathlib.Core.Bool.{Bool, true, false, cond, not}
 use mathlib.Core.List.{List, [], _∷_}
@@ -7,9 +7,9 @@ use Prim.Native.Nat.{ℕ, zero, suc, _+_, _≤_, _<_}
 use native.Mathlib.Omega.{arith}
 use native.Mathlib.Nat.{le-of-suc-le-suc}
 use lib.ListN.{length, getD}
-use lib.Dec.{T, eqb, eqb→eq, ltb, ltb→lt, nltb→le}
+use lib.Dec.{T, eqb, eqb→eq}
 use Rattle.model.specs.Layout.{capacity}
-use Rattle.order.specs.TestLaws.{decide, not-eqb}
+use Rattle.order.specs.TestLaws.{not-eqb}
 use Rattle.needs.specs.Names.{Ascends, missing, indexFrom, indexOf}
 
 abbrev pub Unnamed : List ℕ → ℕ → Type 0
@@ -44,18 +44,6 @@ index-small names h s = ⊎-elim (λ r. omega (arith, r .0)) (λ r. omega (arith
 
 -- ---- among ascending names
 module _ (names : List ℕ) (ascends : Ascends names) (s k : ℕ) (inside : k < length names) where
-  pub lower-before : getD names k 0 < s → (i : ℕ) → i < k + 1 → getD names i 0 < s
-  lower-before h i q = ⊎-elim
-      (λ t. let less : i < k = ltb→lt i k t in omega (arith, ascends i k less inside))
-      (λ t. let last : k ≤ i = nltb→le i k t in let e : i ≡ k = omega arith in omega (arith, ap (λ (j : ℕ). getD names j 0) e))
-      (decide (ltb i k))
-
-  pub higher-after : s < getD names k 0 → (i : ℕ) → k ≤ i → i < length names → s < getD names i 0
-  higher-after h i p q = ⊎-elim
-      (λ t. let more : k < i = ltb→lt k i t in omega (arith, ascends k i more q))
-      (λ t. let last : i ≤ k = nltb→le k i t in let e : i ≡ k = omega arith in omega (arith, ap (λ (j : ℕ). getD names j 0) e))
-      (decide (ltb k i))
-
   -- its index is the only place that has it
   pub index-here : getD names k 0 ≡ s → k ≡ indexOf names s
   index-here e = ⊎-elim (λ r. absurd (r .1 k inside e)) (λ r. same (r .0) (r .1) (r .2) ∙ sym (r .3)) (index-cases names s)

@@ -15,7 +15,7 @@ use Rattle.order.specs.TestLaws.{decide, ∈→has, hasAll→∈}
 use Rattle.order.specs.KeyOrder.{Total}
 use Rattle.order.specs.ListingLaws.{Stuck, stuck-placed, Next, grow-ind, ready-fresh, ready-needs, after-keeps, after-from, listing-length}
 use Rattle.order.specs.Extension.{grow-next}
-use Rattle.order.specs.Places.{listing-at, Apart, Finds, readyFrom, ready-from}
+use Rattle.order.specs.ListingPlaces.{listing-at, Apart, Finds, readyFrom, ready-from}
 
 module _ {A : Type 0} (name : A → ℕ) (needs : A → List ℕ) (d : A) {K : Type 0} (key : A → K) (less : K → K → Bool) where
   -- the same of a listing that goes on after the names `done`

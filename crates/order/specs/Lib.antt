@@ -6,6 +6,6 @@ pub mod StepLaws
 pub mod CommonLaws
 pub mod ListingLaws
 pub mod Extension
-pub mod Places
+pub mod ListingPlaces
 pub mod InPlace
 pub mod Reach

@@ -1,5 +1,5 @@
 -- Tests over a list, taken one item at a time: what is left from a place on.
-use mathlib.Core.Path.{_≡_}
+use mathlib.Core.Path.{_≡_, ap}
 use mathlib.Core.Logic.{⊎-elim}
 use mathlib.Core.Bool.{Bool, true, false, not, _&&_, _||_}
 use mathlib.Core.List.{List}
@@ -47,3 +47,17 @@ ascending-end l k h = ⊎-elim last past (decide (ltb k (length l)))
 
     past : T (not (ltb k (length l))) → ascending (drop k l) ≡ true
     past t = rw (drop-of-length-le l (nltb→le k (length l) t))
+
+-- ---- numbers that ascend by place: what is below or above one of them, all before or behind it is
+module _ (f : ℕ → ℕ) (n : ℕ) (ascends : (i j : ℕ) → i < j → j < n → f i < f j) (s k : ℕ) (inside : k < n) where
+  pub lower-before : f k < s → (i : ℕ) → i < k + 1 → f i < s
+  lower-before h i q = ⊎-elim
+      (λ t. let less : i < k = ltb→lt i k t in omega (arith, ascends i k less inside))
+      (λ t. let last : k ≤ i = nltb→le i k t in let e : i ≡ k = omega arith in omega (arith, ap f e))
+      (decide (ltb i k))
+
+  pub higher-after : s < f k → (i : ℕ) → k ≤ i → i < n → s < f i
+  higher-after h i p q = ⊎-elim
+      (λ t. let more : k < i = ltb→lt k i t in omega (arith, ascends k i more q))
+      (λ t. let last : i ≤ k = nltb→le k i t in let e : i ≡ k = omega arith in omega (arith, ap f e))
+      (decide (ltb k i))

@@ -8,7 +8,7 @@ use Rattle.model.specs.Layout.{stepSize}
 use Rattle.model.specs.Steps.{Step, common, stepsBytes}
 use Rattle.table.specs.Table.{Holds}
 use Rattle.table.specs.Places.{AllBelow}
-use Rattle.steps.specs.Names.{namesOf}
+use Rattle.steps.specs.LogNames.{namesOf}
 
 -- A buffer with steps written from a place on.
 abbrev pub stepsAt : List ℕ → ℕ → List Step → List ℕ

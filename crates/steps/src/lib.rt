@@ -11,7 +11,7 @@ ghost use mathlib.Core.List.{map, reverse};
 ghost use lib.ListN.{length, drop};
 ghost use Rattle.model.specs.Steps.{undo, execute, stepsOf, stepsBytes};
 ghost use Rattle.model.specs.Calls.{written};
-ghost use Rattle.steps.specs.Names.{namesOf};
+ghost use Rattle.steps.specs.LogNames.{namesOf};
 ghost use Rattle.steps.specs.Room.{stepsAt, RestFits, StepsFit};
 
 // Writes the undos of the old log from its end down to what is kept.

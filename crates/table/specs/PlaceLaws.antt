@@ -1,17 +1,15 @@
 -- The messages of a table by their places: each stands inside the pool, and places ascend as sequences do.
 use mathlib.Core.Path.{_≡_, _∙_, ap}
-use mathlib.Core.Logic.{⊎-elim}
 use mathlib.Core.List.{List, [], _∷_}
 use Prim.Native.Nat.{ℕ, zero, suc, _+_, _≤_, _<_}
 use native.Mathlib.Omega.{arith}
 use lib.ListN.{length, getD, length-map}
-use lib.Dec.{T, ltb, ltb→lt, nltb→le}
+use lib.Dec.{T}
 use Rattle.model.specs.Lists.{_∈_}
 use Rattle.model.specs.Bytes.{field}
 use Rattle.model.specs.Layout.{headerSize, sequenceAt, sequenceSize}
 use Rattle.model.specs.Message.{Message, sequenceOf, passes}
 use Rattle.model.specs.Order.{Ascending}
-use Rattle.order.specs.TestLaws.{decide}
 use Rattle.order.specs.ListLaws.{getD-∈, getD-map}
 use Rattle.wire_laws.specs.MessageLaws.{passes-sized, sized-range}
 use Rattle.table.specs.Table.{messageFrom, deltasOf, Holds}
@@ -53,22 +51,9 @@ stands pool starts h k q =
     let l : Lies pool (getD starts k 0) = passes-lies pool (getD starts k 0) t in
     record { lies = l; sequence = ap sequenceOf e ∙ l .fields sequenceAt sequenceSize (omega arith) }
 
--- ---- a place is between all that is lower and all that is higher
-module _ (pool starts : List ℕ) (holds : Holds pool starts) (s k : ℕ) (inside : k < length starts) where
-  places-ascend : (i j : ℕ) → i < j → j < length starts → sequenceIn pool starts i < sequenceIn pool starts j
-  places-ascend i j p q = ascending-at (deltasOf pool starts) (holds .ascends) i j p (omega (arith, length-map starts (messageFrom pool)))
-
-  pub lower-before : sequenceIn pool starts k < s → (i : ℕ) → i < k + 1 → sequenceIn pool starts i < s
-  lower-before h i q = ⊎-elim
-      (λ t. let less : i < k = ltb→lt i k t in omega (arith, places-ascend i k less inside))
-      (λ t. let last : k ≤ i = nltb→le i k t in let e : i ≡ k = omega arith in omega (arith, ap (sequenceIn pool starts) e))
-      (decide (ltb i k))
-
-  pub higher-after : s < sequenceIn pool starts k → (i : ℕ) → k ≤ i → i < length starts → s < sequenceIn pool starts i
-  higher-after h i p q = ⊎-elim
-      (λ t. let more : k < i = ltb→lt k i t in omega (arith, places-ascend k i more q))
-      (λ t. let last : i ≤ k = nltb→le k i t in let e : i ≡ k = omega arith in omega (arith, ap (sequenceIn pool starts) e))
-      (decide (ltb k i))
+-- sequences ascend by place
+pub places-ascend : (pool starts : List ℕ) → Holds pool starts → (i j : ℕ) → i < j → j < length starts → sequenceIn pool starts i < sequenceIn pool starts j
+places-ascend pool starts holds i j p q = ascending-at (deltasOf pool starts) (holds .ascends) i j p (omega (arith, length-map starts (messageFrom pool)))
 
 -- ---- the entries of a table pass 3 to 6, and have a header
 module _ (pool starts : List ℕ) (holds : Holds pool starts) (i : ℕ) (inside : i < length starts) where

@@ -28,7 +28,7 @@ length-step (execute s) = refl
 
 enough : (s : Step) (rest : List ℕ) → T (not (ltb (length (stepBytes s ++ rest)) stepSize))
 enough s rest = not-T (ltb (length (stepBytes s ++ rest)) stepSize)
-    (λ t. let h : length (stepBytes s ++ rest) < 16 = ltb→lt (length (stepBytes s ++ rest)) 16 t in
+    (λ t. let h : length (stepBytes s ++ rest) < stepSize = ltb→lt (length (stepBytes s ++ rest)) stepSize t in
     let z : ⊥ = omega (arith, length-append (stepBytes s) rest, length-step s) in absurd z)
 
 read-step : (s : Step) (rest : List ℕ) → nameOf s < 256 ^ sequenceSize → readStep (stepBytes s ++ rest) ≡ some s

@@ -10,10 +10,10 @@ use Rattle.model.specs.Layout.{stepSize}
 use Rattle.model.specs.Steps.{undo, stepBytes}
 use Rattle.sequence.specs.Sequence.{sequenceNumber}
 use Rattle.table.specs.PlaceLaws.{below-at}
-use Rattle.steps.specs.Names.{namesOf}
-use Rattle.steps.specs.NameLaws.{length-names, names-at}
+use Rattle.steps.specs.LogNames.{namesOf}
+use Rattle.steps.specs.LogNameLaws.{length-names, names-at}
 use Rattle.steps.specs.Room.{stepsAt}
-use Rattle.steps.specs.StepLaws.{put-none, undo-next}
+use Rattle.steps.specs.StepRecordLaws.{put-none, undo-next}
 use Rattle.steps.proofs.put_undos.Statement.{statement}
 use Rattle.steps.proofs.put_undos.Tie as tie
 

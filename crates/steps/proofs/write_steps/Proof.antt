@@ -5,11 +5,11 @@ use Prim.Native.Nat.{ℕ, _*_, _-_}
 use native.Mathlib.Omega.{arith}
 use lib.ListN.{length}
 use Rattle.model.specs.Layout.{stepSize}
-use Rattle.steps.specs.Names.{namesOf}
-use Rattle.steps.specs.NameLaws.{length-names}
+use Rattle.steps.specs.LogNames.{namesOf}
+use Rattle.steps.specs.LogNameLaws.{length-names}
 use Rattle.steps.specs.Room.{RestFits}
 use Rattle.steps.specs.RoomLaws.{kept-old, undos-fit, executions-fit}
-use Rattle.steps.specs.StepLaws.{steps-written}
+use Rattle.steps.specs.StepRecordLaws.{steps-written}
 use borrow.Author.Needs.{needs}
 use Rattle.steps.proofs.write_steps.Statement.{statement}
 use Rattle.steps.proofs.write_steps.Tie as tie

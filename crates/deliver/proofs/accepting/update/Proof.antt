@@ -6,7 +6,7 @@ use lib.ListN.{take}
 use Rattle.model.specs.Order.{State}
 use Rattle.table.specs.Table.{startsOf, setIn}
 use Rattle.log_order.specs.LogOrder.{oldOf, placesOf}
-use Rattle.steps.specs.LogPlaces.{IsLogOf}
+use Rattle.steps.specs.PlacedLogs.{IsLogOf}
 use Rattle.deliver.specs.AcceptLaws.{accepted-by, steps-room}
 use borrow.Author.Needs.{needs}
 use Rattle.deliver.proofs.accepting.update.Statement.{statement}

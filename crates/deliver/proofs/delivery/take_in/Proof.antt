@@ -74,6 +74,10 @@ lies k =
     subst (λ (n : ℕ). Lies (a .image .now) n) (start-at k)
     (stands (a .image .now) (startsOf (a .station .table)) (s .pre .judged .table .holds) (k .before .place .given .0 .0) (present k .inside) .lies)
 
+-- the call as it began, from where its starts are lent
+abbrev lent : tie.After-starts2 → tie.Start
+lent c = c .before .before .before .before .before .before .before
+
 array-share-prefix-starts : tie.Need-array-share-prefix-starts
 array-share-prefix-starts c =
     let s = c .before .before .before .before .before .before in
@@ -82,10 +86,10 @@ array-share-prefix-starts c =
     omega arith
 
 slice-aggregate-find : tie.Need-slice-aggregate-find
-slice-aggregate-find c = let s = c .before .before .before .before .before .before .before in sym (used s)
+slice-aggregate-find c = sym (used (lent c))
 
 find-requires : tie.Need-find-requires
-find-requires c κs = let s = c .before .before .before .before .before .before .before in s .pre .judged .table .holds
+find-requires c κs = lent c .pre .judged .table .holds
 
 enum-known-place : tie.Need-enum-known-place
 enum-known-place c = search needs

@@ -4,7 +4,7 @@ use native.Mathlib.Omega.{arith}
 use lib.ListN.{length}
 use lib.Seq.{length-take-le}
 use Rattle.model.specs.Layout.{capacity}
-use Rattle.steps.specs.LogPlaces.{common-places}
+use Rattle.steps.specs.PlacedLogs.{common-places}
 use borrow.Author.Needs.{needs}
 use Rattle.deliver.proofs.ordering.write_change.Statement.{statement}
 use Rattle.deliver.proofs.ordering.write_change.Tie as tie

@@ -1,3 +1,4 @@
+-- Nothing is placed, so nothing is kept.
 use Rattle.log_order.specs.LogOrderLaws.{begun}
 use Rattle.log_order.proofs.LogOrder.begin.Statement.{statement}
 use Rattle.log_order.proofs.LogOrder.begin.Tie as tie

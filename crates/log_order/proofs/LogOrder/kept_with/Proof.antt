@@ -2,14 +2,15 @@
 use mathlib.Core.Path.{_≡_}
 use lib.ListN.{length}
 use Rattle.log_order.specs.LogOrderLaws.{kept-parted, kept-past, kept-other, kept-more}
+use Rattle.model.specs.Layout.{capacity}
 use borrow.Author.Needs.{needs}
 use Rattle.log_order.proofs.LogOrder.kept_with.Statement.{statement}
 use Rattle.log_order.proofs.LogOrder.kept_with.Tie as tie
 
-olds : (s : tie.Start) → length (s .args .t1 .old) ≡ 64
+olds : (s : tie.Start) → length (s .args .t1 .old) ≡ capacity
 olds s = search needs
 
-news : (s : tie.Start) → length (s .args .t1 .places) ≡ 64
+news : (s : tie.Start) → length (s .args .t1 .places) ≡ capacity
 news s = search needs
 
 returns : tie.Need-returns

@@ -2,6 +2,7 @@
 use mathlib.Core.Path.{_≡_}
 use lib.ListN.{length}
 use Rattle.log_order.specs.LogOrderLaws.{placed}
+use Rattle.model.specs.Layout.{capacity}
 use borrow.Author.Needs.{needs}
 use Rattle.log_order.proofs.LogOrder.place.Statement.{statement}
 use Rattle.log_order.proofs.LogOrder.place.Tie as tie
@@ -18,8 +19,8 @@ add-next c = search needs
 returns : tie.Need-returns
 returns c =
     let o = c .before .args .self in
-    let olds : length (o .old) ≡ 64 = search needs in
-    let news : length (o .places) ≡ 64 = search needs in
+    let olds : length (o .old) ≡ capacity = search needs in
+    let news : length (o .places) ≡ capacity = search needs in
     placed o olds news (c .before .pre .0) (c .before .args .i) (c .kept-with .result) (c .before .pre .1) (c .kept-with .ensures)
 
 pub place-spec : {M : Type 1} → statement M

@@ -9,7 +9,8 @@ use borrow.Author.Tests.{eqb-true, eqb-false, ltb-true, ltb-false}
 use Rattle.sequence.specs.Sequence.{sequenceNumber}
 use Rattle.needs.specs.Names.{nameOf, namesIn}
 use Rattle.needs.specs.NameLaws.{length-names, name-at}
-use Rattle.needs.specs.IndexLaws.{lower-before, higher-after, index-here, index-none}
+use Rattle.order.specs.ScanLaws.{lower-before, higher-after}
+use Rattle.needs.specs.IndexLaws.{index-here, index-none}
 use Rattle.needs.proofs.sequences.index_of.Statement.{statement}
 use Rattle.needs.proofs.sequences.index_of.Tie as tie
 
@@ -105,7 +106,7 @@ loop-again c =
     let lower : read a < sought s = ltb-true (read a) (sought s) (sym (c .before .less .ensures) ∙ c .if2 .taken) in (
       omega arith,
       omega arith,
-      lower-before (names s) (s .pre .ascends) (sought s) (middle a) (omega (arith, size s)) (omega (arith, name t)),
+      lower-before (λ i. getD (names s) i 0) (length (names s)) (s .pre .ascends) (sought s) (middle a) (omega (arith, size s)) (omega (arith, name t)),
       a .loop .inv .3,
     )
 
@@ -122,7 +123,7 @@ loop-again-2 c =
       omega arith,
       omega arith,
       a .loop .inv .2,
-      higher-after (names s) (s .pre .ascends) (sought s) (middle a) (omega (arith, size s)) (omega (arith, name t)),
+      higher-after (λ i. getD (names s) i 0) (length (names s)) (s .pre .ascends) (sought s) (middle a) (omega (arith, size s)) (omega (arith, name t)),
     )
 
 returns-2 : tie.Need-returns-2 Inv-loop μ-loop

@@ -6,7 +6,7 @@ use native.Mathlib.Omega.{arith}
 use lib.Seq.{paste}
 use Rattle.model.specs.Bytes.{bytes}
 use Rattle.model.specs.Layout.{stepSequenceAt}
-use Rattle.steps.specs.StepLaws.{record-bytes}
+use Rattle.steps.specs.StepRecordLaws.{record-bytes}
 use borrow.Author.Needs.{needs}
 use Rattle.steps.proofs.step.put_record.Statement.{statement}
 use Rattle.steps.proofs.step.put_record.Tie as tie

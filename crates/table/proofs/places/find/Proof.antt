@@ -6,7 +6,8 @@ use native.Mathlib.Omega.{arith}
 use borrow.Author.Needs.{needs}
 use borrow.Author.Tests.{eqb-true, eqb-false, ltb-true, ltb-false}
 use Rattle.table.specs.Places.{sequenceIn}
-use Rattle.table.specs.PlaceLaws.{Stands, stands, lower-before, higher-after}
+use Rattle.order.specs.ScanLaws.{lower-before, higher-after}
+use Rattle.table.specs.PlaceLaws.{Stands, stands, places-ascend}
 use Rattle.sequence.specs.Sequence.{sequenceNumber}
 use Rattle.table.proofs.places.find.Statement.{statement}
 use Rattle.table.proofs.places.find.Tie as tie
@@ -89,7 +90,7 @@ loop-again c =
     let n : ℕ = sequenceNumber (r .read-sequence .result) in
     let inside : place m < length (a .starts .now) = omega arith in
     let lower : n < s = ltb-true n s (sym (c .before .less .ensures) ∙ c .if2 .taken) in
-    (omega arith, omega arith, lower-before (a .pool .now) (a .starts .now) (start m .pre) s (place m) inside (omega (arith, read r)), head m .loop .inv .3)
+    (omega arith, omega arith, lower-before (sequenceIn (a .pool .now) (a .starts .now)) (length (a .starts .now)) (places-ascend (a .pool .now) (a .starts .now) (start m .pre)) s (place m) inside (omega (arith, read r)), head m .loop .inv .3)
 
 loop-less-2 : tie.Need-loop-less-2 Inv-loop μ-loop
 loop-less-2 c = omega arith
@@ -104,7 +105,7 @@ loop-again-2 c =
     let inside : place m < length (a .starts .now) = omega arith in
     let other : n ≡ s → ⊥ = eqb-false n s (sym (c .before .before .before .equal .ensures) ∙ c .before .before .if1 .left) in
     let least : s ≤ n = ltb-false n s (sym (c .before .less .ensures) ∙ c .if2 .left) in
-    (omega arith, omega arith, head m .loop .inv .2, higher-after (a .pool .now) (a .starts .now) (start m .pre) s (place m) inside (omega (arith, read r)))
+    (omega arith, omega arith, head m .loop .inv .2, higher-after (sequenceIn (a .pool .now) (a .starts .now)) (length (a .starts .now)) (places-ascend (a .pool .now) (a .starts .now) (start m .pre)) s (place m) inside (omega (arith, read r)))
 
 returns-2 : tie.Need-returns-2 Inv-loop μ-loop
 returns-2 c =

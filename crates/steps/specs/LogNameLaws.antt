@@ -5,7 +5,7 @@ use Prim.Native.Nat.{ℕ, _<_}
 use lib.ListN.{length, getD, length-map}
 use Rattle.order.specs.ListLaws.{getD-map}
 use Rattle.table.specs.Places.{sequenceIn}
-use Rattle.steps.specs.Names.{namesOf}
+use Rattle.steps.specs.LogNames.{namesOf}
 
 pub length-names : (pool starts places : List ℕ) → length (namesOf pool starts places) ≡ length places
 length-names pool starts places = length-map places (sequenceIn pool starts)

@@ -15,8 +15,8 @@ use Rattle.table.specs.PlaceLaws.{one-place}
 use Rattle.table.specs.InsertLaws.{length-insert}
 use Rattle.table.specs.Shifting.{shifted}
 use Rattle.table.specs.ShiftingLaws.{delta-shifted, below-shifted}
-use Rattle.steps.specs.Names.{namesOf}
-use Rattle.steps.specs.NameLaws.{length-names}
+use Rattle.steps.specs.LogNames.{namesOf}
+use Rattle.steps.specs.LogNameLaws.{length-names}
 
 pub record IsLogOf (pool starts places : List ℕ) (S : State) : Type 0 where
   pub log : deltasAt (deltasOf pool starts) places ≡ logOf S
