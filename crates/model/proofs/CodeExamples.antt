@@ -16,40 +16,39 @@ use Rattle.model.specs.Setpoints.{startValues, stop, raise, operate, cha
 use Rattle.model.specs.Image.{messagesStart, messagesOf, valuesOf, headerOf, sectionsOf, usedOf, imageOf, messagesStartIn, setOf, isImage}
 use Rattle.model.specs.Steps.{Step, undo, execute, readSteps}
 use Rattle.model.specs.Compose.{messageOf, newDependencies, composed}
-use Rattle.model.specs.Calls.{written, Emptied, empty, Delivered, deliver, deliverCode, Composed, compose, composeCode, logMessage, logMessageCode, Setpoint, setpoint, Reader, start, next}
+use Rattle.model.specs.Calls.{Emptied, empty, Delivered, deliver, deliverCode, Composed, compose, composeCode, logMessage, logMessageCode, Setpoint, setpoint, Reader, start, next}
 use Rattle.model.specs.Program.{printedLine, lastLine, badCut, linesFrom, listing}
-use Rattle.model.proofs.ExampleMessages.{lineNumber, A, B, C, command, plain, urgent, a1, a2, b1, b1-5, begun}
+use Rattle.model.proofs.ExampleMessages.{lineNumber, A, B, C, command, plain, urgent, a1, a2, b1, c2, b1-5, begun}
 
 -- ---- the deltas, beside those of the starred examples
 -- "A1 twice, values 1 and 2"
 abbrev a1-value : ℕ → Message
 a1-value v = plain (A 1) [] (command 1 3 (pos v))
 
--- "nine lone lines": the first n of them
-abbrev lone : ℕ → List Message
-lone zero = []
-lone (suc n) = plain (lineNumber (0x20 + n) * 65536 + 1) [] (command 1 3 (pos 5)) ∷ lone n
-
--- n deltas, each of a line of its own and held: the predecessor is missing
-abbrev waiting : ℕ → List Message
-waiting zero = []
-waiting (suc n) = plain (lineNumber (0x20 + n) * 65536 + 2) [] (command 1 3 (pos 5)) ∷ waiting n
-
--- commands that compose is given
+-- commands that are right
 abbrev right : List ℕ
 right = command 1 3 (pos 5)
+
+-- deltas of this number, each of a line of its own: of number 1 "lone lines", of number 2 held, since the predecessor is missing
+abbrev lines : ℕ → ℕ → List Message
+lines number zero = []
+lines number (suc n) = plain (lineNumber (100 - n) * 65536 + number) [] right ∷ lines number n
 
 -- ---- a buffer that is lent as an image
 data Buffer : Type 0 where
   -- the image of these deltas
   holding : List Message → Buffer
-  -- "image of 16,383"; "L = 1, no message"
-  short noMessage : Buffer
+  -- "image of 16,383"; "L = 1, no message"; the image of no deltas, but with a last byte of 1
+  short noMessage endNotZero : Buffer
+
+abbrev none : Buffer
+none = holding []
 
 abbrev bytesOf : Buffer → List ℕ
 bytesOf (holding l) = imageOf (stateOf (setOf l))
 bytesOf short = take (imageSize - 1) begun
-bytesOf noMessage = written (bytes 2 1) begun
+bytesOf noMessage = bytes 2 1 ++ drop 2 begun
+bytesOf endNotZero = take (imageSize - 1) begun ++ 1 ∷ []
 
 -- ---- a call: what it is given, and what it answers
 data Input : Type 0 where
@@ -102,15 +101,28 @@ nexts (suc n) r = let a = next r in (a .part, a .reader .offset) ∷ nexts n (a 
 abbrev lent : ℕ → List ℕ
 lent size = replicate size 0xEE
 
+-- A call on an image, which is made once.
+abbrev onImage : Input → List ℕ → Outcome
+onImage (emptyOn size) b = showEmptied (lent size) (empty (lent size))
+onImage (deliverTo at m room) b = showDelivered b (lent room) (deliver b m (lent room))
+onImage (composeOn at line size commands flag priority room) b =
+    showComposed (lent room) (compose b (bytes size line) commands flag priority (lent room))
+onImage (logMessageOf at place) b = part (logMessage b place) (logMessageCode b place)
+onImage (setpointOf at tag) b = showSetpoint (setpoint b tag)
+onImage (readLog at n) b = parts (start b .offset) (nexts n (start b))
+onImage (list input) b = printed (listing input)
+
+abbrev bufferOf : Input → Buffer
+bufferOf (emptyOn size) = none
+bufferOf (deliverTo b m room) = b
+bufferOf (composeOn b line size commands flag priority room) = b
+bufferOf (logMessageOf b place) = b
+bufferOf (setpointOf b tag) = b
+bufferOf (readLog b n) = b
+bufferOf (list input) = none
+
 abbrev outcomeOf : Input → Outcome
-outcomeOf (emptyOn size) = showEmptied (lent size) (empty (lent size))
-outcomeOf (deliverTo b m room) = showDelivered (bytesOf b) (lent room) (deliver (bytesOf b) m (lent room))
-outcomeOf (composeOn b line size commands flag priority room) =
-    showComposed (lent room) (compose (bytesOf b) (bytes size line) commands flag priority (lent room))
-outcomeOf (logMessageOf b place) = part (logMessage (bytesOf b) place) (logMessageCode (bytesOf b) place)
-outcomeOf (setpointOf b tag) = showSetpoint (setpoint (bytesOf b) tag)
-outcomeOf (readLog b n) = parts (start (bytesOf b) .offset) (nexts n (start (bytesOf b)))
-outcomeOf (list input) = printed (listing input)
+outcomeOf i = onImage i (bytesOf (bufferOf i))
 
 -- A refusal writes nothing, and its counts and length are 0.
 abbrev refusedDelivery : ℕ → Outcome
@@ -132,11 +144,9 @@ lineA = lineNumber 0xA
 abbrev lineC : ℕ
 lineC = lineNumber 0xC
 
-abbrev none : Buffer
-none = holding []
-
-abbrev both : Buffer
-both = holding (b1 ∷ a1 ∷ [])
+-- log A1, B1, and C2 held
+abbrev station : Buffer
+station = holding (a1 ∷ b1 ∷ c2 ∷ [])
 
 examples : List (Input × Outcome)
 examples =
@@ -156,9 +166,10 @@ examples =
     ∷ (composePlain noMessage lineA right, refusedCompose 2)
     ∷ (logMessageOf noMessage 0, part [] 2)
     ∷ (setpointOf noMessage 3, value 2 (pos 0))
-    -- 3: 47-byte message; to compose, commands of 7 bytes and of none
+    ∷ (setpointOf endNotZero 3, value 2 (pos 0))
+    -- 3: 47-byte message; to compose, commands of 15 bytes and of none
     ∷ (deliverTo none (take 47 a1) stepRoom, refusedDelivery 3)
-    ∷ (composePlain none lineA (take 7 right), refusedCompose 3)
+    ∷ (composePlain none lineA (take 15 (right ++ right)), refusedCompose 3)
     ∷ (composePlain none lineA [], refusedCompose 3)
     -- 4: A0
     ∷ (deliverTo none (plain (A 0) [] right) stepRoom, refusedDelivery 4)
@@ -172,14 +183,14 @@ examples =
     -- 7: A1 twice, values 1 and 2
     ∷ (deliverTo (holding (a1-value 1 ∷ [])) (a1-value 2) stepRoom, refusedDelivery 7)
     -- 8: a 65th delta, and not a 64th
-    ∷ (deliverTo (holding (waiting 64)) a2 stepRoom, refusedDelivery 8)
-    ∷ (deliverTo (holding (waiting 63)) a2 stepRoom, delivered 0 0 0 (some []) false true)
+    ∷ (deliverTo (holding (lines 2 64)) a2 stepRoom, refusedDelivery 8)
+    ∷ (deliverTo (holding (lines 2 63)) a2 stepRoom, delivered 0 0 0 (some []) false true)
     -- 9: A3 alone, compose on A
     ∷ (composePlain (holding (plain (A 3) [] right ∷ [])) lineA right, refusedCompose 9)
     -- 10: with priority, after block 2147483647
     ∷ (composeUrgent (holding (urgent (B 1) fieldLimit 5 right ∷ [])) lineC 7, refusedCompose 10)
     -- 11: nine lone lines, a tenth composes
-    ∷ (composePlain (holding (lone 9)) lineA right, refusedCompose 11)
+    ∷ (composePlain (holding (lines 1 9)) lineA right, refusedCompose 11)
     -- 12: place 0 of an empty log; tag 64
     ∷ (logMessageOf none 0, part [] 12)
     ∷ (setpointOf none 64, value 12 (pos 0))
@@ -188,15 +199,13 @@ examples =
     -- ---- compose with the flag: block 1 on an empty log, 2 after block 1
     ∷ (composeUrgent none lineA 0, composes 0 48 (messageOf true (A 1) 1 1 0 [] right) true)
     ∷ (composeUrgent (holding (b1-5 ∷ [])) lineC 7, composes 0 60 (messageOf true (C 1) 1 2 7 (B 1 ∷ []) right) true)
-    -- ---- log message and its second call, at both places of the log A1, B1 and past it
-    ∷ (logMessageOf both 0, part a1 0)
-    ∷ (logMessageOf both 1, part b1 0)
-    ∷ (logMessageOf both 2, part [] 12)
+    -- ---- log message and its second call: place 1 of the log A1, B1
+    ∷ (logMessageOf station 1, part b1 0)
     -- ---- setpoint: 1500 - 20 at tag 3, and the last tag
-    ∷ (setpointOf both 3, value 0 (pos 1480))
-    ∷ (setpointOf both 63, value 0 (pos 0))
-    -- ---- the reader: its start, two nexts, and two past the end; then on buffers that answer 1 and 2
-    ∷ (readLog both 4, parts 272 ((a1, 320) ∷ (b1, 368) ∷ ([], 368) ∷ ([], 368) ∷ []))
+    ∷ (setpointOf station 3, value 0 (pos 1480))
+    ∷ (setpointOf station 63, value 0 (pos 0))
+    -- ---- the reader: its start, two nexts and one past the end; then on buffers that answer 1 and 2
+    ∷ (readLog station 3, parts 272 ((a1, 320) ∷ (b1, 368) ∷ ([], 368) ∷ []))
     ∷ (readLog short 1, parts 272 (([], 272) ∷ []))
     ∷ (readLog noMessage 1, parts 272 (([], 272) ∷ []))
     -- ---- the listing: B1, A1; then a rest of five bytes
