@@ -16,9 +16,9 @@ use Rattle.model.specs.Setpoints.{startValues, stop, raise, operate, cha
 use Rattle.model.specs.Image.{messagesStart, messagesOf, valuesOf, headerOf, sectionsOf, usedOf, imageOf, messagesStartIn, setOf, isImage}
 use Rattle.model.specs.Steps.{Step, undo, execute, readSteps}
 use Rattle.model.specs.Compose.{messageOf, newDependencies, composed}
-use Rattle.model.specs.Calls.{Emptied, empty, Delivered, deliver, deliverCode, Composed, compose, composeCode, logMessage, logMessageCode, Setpoint, setpoint, Reader, start, next}
+use Rattle.model.specs.Calls.{emptyState, Emptied, empty, Delivered, deliver, deliverCode, Composed, compose, composeCode, logMessage, logMessageCode, Setpoint, setpoint, Reader, start, next}
 use Rattle.model.specs.Program.{printedLine, lastLine, badCut, linesFrom, listing}
-use Rattle.model.proofs.ExampleMessages.{lineNumber, A, B, C, command, plain, urgent, a1, a2, b1, c2, b1-5, begun}
+use Rattle.model.proofs.ExampleMessages.{lineNumber, A, B, C, command, plain, urgent, a1, a2, b1, c2, b1-5}
 
 -- ---- the deltas, beside those of the starred examples
 -- "A1 twice, values 1 and 2"
@@ -46,9 +46,9 @@ none = holding []
 
 abbrev bytesOf : Buffer → List ℕ
 bytesOf (holding l) = imageOf (stateOf (setOf l))
-bytesOf short = take (imageSize - 1) begun
-bytesOf noMessage = bytes 2 1 ++ drop 2 begun
-bytesOf endNotZero = take (imageSize - 1) begun ++ 1 ∷ []
+bytesOf short = take (imageSize - 1) (imageOf emptyState)
+bytesOf noMessage = bytes 2 1 ++ drop 2 (imageOf emptyState)
+bytesOf endNotZero = take (imageSize - 1) (imageOf emptyState) ++ 1 ∷ []
 
 -- ---- a call: what it is given, and what it answers
 data Input : Type 0 where
@@ -182,9 +182,8 @@ examples =
     ∷ (composeOn none lineA lineSize right 0 7 messageRoom, refusedCompose 6)
     -- 7: A1 twice, values 1 and 2
     ∷ (deliverTo (holding (a1-value 1 ∷ [])) (a1-value 2) stepRoom, refusedDelivery 7)
-    -- 8: a 65th delta, and not a 64th
+    -- 8: a 65th delta
     ∷ (deliverTo (holding (lines 2 64)) a2 stepRoom, refusedDelivery 8)
-    ∷ (deliverTo (holding (lines 2 63)) a2 stepRoom, delivered 0 0 0 (some []) false true)
     -- 9: A3 alone, compose on A
     ∷ (composePlain (holding (plain (A 3) [] right ∷ [])) lineA right, refusedCompose 9)
     -- 10: with priority, after block 2147483647
@@ -201,9 +200,8 @@ examples =
     ∷ (composeUrgent (holding (b1-5 ∷ [])) lineC 7, composes 0 60 (messageOf true (C 1) 1 2 7 (B 1 ∷ []) right) true)
     -- ---- log message and its second call: place 1 of the log A1, B1
     ∷ (logMessageOf station 1, part b1 0)
-    -- ---- setpoint: 1500 - 20 at tag 3, and the last tag
+    -- ---- setpoint: 1500 - 20 at tag 3
     ∷ (setpointOf station 3, value 0 (pos 1480))
-    ∷ (setpointOf station 63, value 0 (pos 0))
     -- ---- the reader: its start, two nexts and one past the end; then on buffers that answer 1 and 2
     ∷ (readLog station 3, parts 272 ((a1, 320) ∷ (b1, 368) ∷ ([], 368) ∷ []))
     ∷ (readLog short 1, parts 272 (([], 272) ∷ []))
