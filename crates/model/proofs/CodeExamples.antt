@@ -131,7 +131,7 @@ refusedDelivery code = delivered code 0 0 (some []) true true
 abbrev refusedCompose : ℕ → Outcome
 refusedCompose code = composes code 0 [] true
 
--- compose as it is called most: a right line, room and commands, no flag
+-- compose with a right line and room: without the flag, and with it
 abbrev composePlain : Buffer → ℕ → List ℕ → Input
 composePlain b line commands = composeOn b line lineSize commands 0 0 messageRoom
 
@@ -206,9 +206,19 @@ examples =
     ∷ (readLog station 3, parts 272 ((a1, 320) ∷ (b1, 368) ∷ ([], 368) ∷ []))
     ∷ (readLog short 1, parts 272 (([], 272) ∷ []))
     ∷ (readLog noMessage 1, parts 272 (([], 272) ∷ []))
-    -- ---- the listing: B1, A1; then a rest of five bytes
-    ∷ (list (b1 ++ a1), printed (49 ∷ 32 ∷ 48 ∷ 32 ∷ 48 ∷ 32 ∷ 49 ∷ 10 ∷ 50 ∷ 32 ∷ 48 ∷ 32 ∷ 49 ∷ 32 ∷ 50 ∷ 10 ∷ 108 ∷ 111 ∷ 103 ∷ 32 ∷ 50 ∷ 32 ∷ 104 ∷ 101 ∷ 108 ∷ 100 ∷ 32 ∷ 48 ∷ 10 ∷ []))
-    ∷ (list (1 ∷ 0 ∷ 0 ∷ 1 ∷ 0 ∷ []), printed (49 ∷ 32 ∷ 51 ∷ 32 ∷ 48 ∷ 32 ∷ 48 ∷ 10 ∷ 108 ∷ 111 ∷ 103 ∷ 32 ∷ 48 ∷ 32 ∷ 104 ∷ 101 ∷ 108 ∷ 100 ∷ 32 ∷ 48 ∷ 10 ∷ []))
+    -- ---- the listing. B1, A1: "1 0 0 1", "2 0 1 2", "log 2 held 0".
+    ∷ (
+      list (b1 ++ a1),
+      printed (49 ∷ 32 ∷ 48 ∷ 32 ∷ 48 ∷ 32 ∷ 49 ∷ 10
+          ∷ 50 ∷ 32 ∷ 48 ∷ 32 ∷ 49 ∷ 32 ∷ 50 ∷ 10
+          ∷ 108 ∷ 111 ∷ 103 ∷ 32 ∷ 50 ∷ 32 ∷ 104 ∷ 101 ∷ 108 ∷ 100 ∷ 32 ∷ 48 ∷ 10 ∷ []),
+    )
+    -- A rest of five bytes: "1 3 0 0", "log 0 held 0".
+    ∷ (
+      list (1 ∷ 0 ∷ 0 ∷ 1 ∷ 0 ∷ []),
+      printed (49 ∷ 32 ∷ 51 ∷ 32 ∷ 48 ∷ 32 ∷ 48 ∷ 10
+          ∷ 108 ∷ 111 ∷ 103 ∷ 32 ∷ 48 ∷ 32 ∷ 104 ∷ 101 ∷ 108 ∷ 100 ∷ 32 ∷ 48 ∷ 10 ∷ []),
+    )
     ∷ []
 
 -- Every example has the outcome that stands beside it.
