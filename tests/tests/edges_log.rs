@@ -174,6 +174,15 @@ fn unrelated_deltas_do_not_wait_behind_a_held_one() {
 }
 
 #[test]
+fn number_0001_has_no_predecessor() {
+    let station = Station::with(&[delta(A, 1), delta(B, 2)]);
+    assert_eq!((station.log(), station.held()), ("A1".into(), "B2".into()));
+    // Nor is FFFF its predecessor.
+    let named = delta(C, 1).naming(&[s(C, 0xFFFF)]);
+    assert_eq!(Station::with(&[named]).held(), "C1");
+}
+
+#[test]
 fn what_follows_a_held_delta_is_held() {
     let names_held = delta(C, 1).naming(&[s(A, 2)]);
     let mut station = Station::with(&[delta(A, 2), names_held, delta(C, 2)]);

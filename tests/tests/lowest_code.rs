@@ -28,18 +28,23 @@ fn lowest(codes: &[u32]) -> u32 {
     codes.iter().copied().min().unwrap_or(0)
 }
 
-/// A station on which a delta of line C is new, known with other bytes (7), or one too
-/// many (8). Line C's number is 0 or 3.
-fn station(codes: &[u32], own: u16) -> Station {
-    let mut image = Station::with(&[delta(A, 1)]);
-    if codes.contains(&7) && own != 0 {
-        image = Station::with(&[delta(C, own).group(9)]);
+/// What there is before a delivery: some deltas, or 64 of them.
+#[derive(Clone, Copy, PartialEq)]
+enum Room {
+    Some,
+    None,
+}
+
+/// A station on which a delta of line C is new, or known with other bytes (7).
+fn station(codes: &[u32], own: u16, room: Room) -> Station {
+    let mut drafts = vec![delta(B, 1)];
+    if codes.contains(&7) {
+        drafts[0] = delta(C, own).group(9);
     }
-    if codes.contains(&8) {
-        let all: Vec<Draft> = (1..=64).map(|number| delta(A, number)).collect();
-        image = Station::with(&all);
+    if room == Room::None {
+        drafts.extend((1..=63).map(|number| delta(A, number)));
     }
-    image
+    Station::with(&drafts)
 }
 
 /// A delta of line C with these of the conditions 4 to 6. Where 4 is one of them, its
@@ -59,8 +64,8 @@ fn draft(codes: &[u32], own: u16) -> Draft {
 }
 
 /// Delivers with these conditions and asks for the lowest.
-fn check_delivery(codes: &[u32], own: u16) {
-    let mut image = station(codes, own).image;
+fn check_delivery(codes: &[u32], own: u16, room: Room) {
+    let mut image = station(codes, own, room).image;
     let mut message = draft(codes, own).bytes();
     if codes.contains(&2) {
         image[IMAGE - 1] ^= 1;
@@ -82,14 +87,22 @@ fn check_delivery(codes: &[u32], own: u16) {
 #[test]
 fn deliver_answers_the_lowest() {
     for codes in choices(&[1, 2, 3, 4, 5, 6, 7, 8]) {
-        // A sequence is present or new.
-        if codes.contains(&7) && codes.contains(&8) {
-            continue;
+        let (conflict, full) = (codes.contains(&7), codes.contains(&8));
+        match (conflict, full) {
+            // A sequence is present or new, not both.
+            (true, true) => continue,
+            (false, true) => check_delivery(&codes, 3, Room::None),
+            (false, false) => check_delivery(&codes, 3, Room::Some),
+            // A conflict is one on a full station too.
+            (true, false) => {
+                check_delivery(&codes, 3, Room::Some);
+                check_delivery(&codes, 3, Room::None);
+            }
         }
-        check_delivery(&codes, 3);
         // Number 0000 cannot be present.
-        if codes.contains(&4) && !codes.contains(&7) {
-            check_delivery(&codes, 0);
+        if codes.contains(&4) && !conflict {
+            let room = if full { Room::None } else { Room::Some };
+            check_delivery(&codes, 0, room);
         }
     }
 }

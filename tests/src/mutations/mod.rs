@@ -1,6 +1,8 @@
 //! The table of `mutations.txt`: changes of the second implementation, each of which the
 //! tests must catch.
 
+pub mod trial;
+
 /// The tests that are run on each change first: those of few inputs.
 pub const QUICK: [&str; 11] = [
     "examples",
