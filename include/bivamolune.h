@@ -1,10 +1,25 @@
-/* One log for all stations of a furnace: the calls that a station's host makes.
+/* One log for all stations of a furnace: the calls that a station's host makes. For C11 and C++17.
  *
  * Link with libbivamolune.a (`rt staticlib bivamolune`). The calls keep no state and allocate nothing; all state is in the
- * image, a buffer of the caller's. Make one call at a time on an image. The buffers of a call must not overlap. A pointer is
- * followed by the number of bytes behind it, and every call is defined for every size and every content.
+ * image, a buffer of the caller's. Every call is defined for every size and every content of its buffers.
  *
- * A refused call changes no byte of any buffer, and its counts are 0.
+ * What is promised
+ * - The lowest code that applies is answered. A refused call changes no byte of any buffer, and its counts are 0.
+ * - An accepted call writes what the paper says and leaves every other byte.
+ * - A buffer may start at any address. A call takes less than BIVAMOLUNE_STACK bytes of stack (measured, not proved).
+ *
+ * What the host owes
+ * - A pointer has as many readable (and, where it is not const, writable) bytes behind it as the size after it says. With
+ *   size 0 it may be NULL.
+ * - The buffers of a call do not overlap.
+ * - One call at a time on an image, and nobody else writes the image meanwhile. Calls on different images are free.
+ * - The answer of deliver is several numbers in one. `if (bivamolune_deliver(..) != 0)` takes most successes for failures:
+ *   ask bivamolune_accepted(answer), or bivamolune_code(answer).
+ * - An image in memory is not written in one blow. If power may fail, or the process may be killed, keep the last image in
+ *   safe storage until the next one is there whole; what an interrupted call left may be no image (code 2).
+ * - A delta of the station's own is composed, delivered to the station's own image, the image is saved, and only then is the
+ *   message sent. A station that sends first and restarts from an image of before would use a sequence again for another
+ *   delta, and the stations that got the first one refuse the second (code 7) for good.
  */
 #ifndef BIVAMOLUNE_H
 #define BIVAMOLUNE_H
@@ -16,13 +31,41 @@
 extern "C" {
 #endif
 
+/* The version of this header and of the archive that it goes with. */
+#define BIVAMOLUNE_VERSION_MAJOR 0
+#define BIVAMOLUNE_VERSION_MINOR 1
+#define BIVAMOLUNE_VERSION_PATCH 0
+#define BIVAMOLUNE_VERSION "0.1.0"
+
 /* Sizes in bytes. */
 #define BIVAMOLUNE_IMAGE_SIZE 16384  /* an image, exactly */
 #define BIVAMOLUNE_STEP_ROOM 2032    /* a step buffer, at least: 127 steps */
-#define BIVAMOLUNE_STEP_SIZE 16      /* a step: 1 undo or 2 execute, three zeros, the sequence of twelve bytes */
+#define BIVAMOLUNE_STEP_SIZE 16      /* a step: one of the two below, three zeros, the sequence */
+#define BIVAMOLUNE_SEQUENCE_SIZE 12  /* a sequence: endpoint UID 6, creator identifier 4, number 2 */
+#define BIVAMOLUNE_LINE_SIZE 10      /* a line: a sequence without its number */
+#define BIVAMOLUNE_VALUES_AT 16      /* where the 64 values of an image begin, four bytes each */
+#define BIVAMOLUNE_STACK 65536       /* more than any call takes of the stack */
 
-/* Codes. The lowest that applies is answered. */
-enum bivamolune_code {
+/* A message has 40 bytes, 12 for each dependency and 8 for each command. */
+#define BIVAMOLUNE_MESSAGE_LEAST 48      /* bytes: no dependency, one command */
+#define BIVAMOLUNE_MESSAGE_MOST 200      /* bytes: eight of each */
+#define BIVAMOLUNE_DEPENDENCIES_MOST 8
+#define BIVAMOLUNE_COMMANDS_MOST 8       /* and at least one */
+#define BIVAMOLUNE_NUMBER_MOST 2147483647 /* of a group, a block, a priority */
+
+/* A station. */
+#define BIVAMOLUNE_DELTAS_MOST 64        /* of log and held ones together */
+#define BIVAMOLUNE_STEPS_MOST 127        /* of one delivery: 63 undos and 64 executions */
+#define BIVAMOLUNE_TAGS 64               /* setpoints, tags 0 to 63 */
+#define BIVAMOLUNE_VALUE_LEAST (-1000000)
+#define BIVAMOLUNE_VALUE_MOST 1000000
+
+/* The first byte of a step. */
+#define BIVAMOLUNE_UNDO 1
+#define BIVAMOLUNE_EXECUTE 2
+
+/* Codes. */
+enum bivamolune_result {
     BIVAMOLUNE_ACCEPTED = 0,
     BIVAMOLUNE_WRONG_SIZE = 1,         /* an image or a step buffer of wrong size */
     BIVAMOLUNE_NO_IMAGE = 2,           /* the buffer is no image of a set of at most 64 right deltas */
@@ -33,6 +76,22 @@ enum bivamolune_code {
     BIVAMOLUNE_CONFLICT = 7,           /* the sequence is present with other bytes */
     BIVAMOLUNE_FULL = 8                /* 64 deltas are present and this one is new */
 };
+
+/* A code in words, for a log file. */
+static inline const char *bivamolune_code_name(uint32_t code) {
+    switch (code) {
+    case BIVAMOLUNE_ACCEPTED: return "accepted";
+    case BIVAMOLUNE_WRONG_SIZE: return "wrong size";
+    case BIVAMOLUNE_NO_IMAGE: return "no image";
+    case BIVAMOLUNE_WRONG_LAYOUT: return "wrong layout";
+    case BIVAMOLUNE_WRONG_NUMBER: return "wrong number";
+    case BIVAMOLUNE_WRONG_DEPENDENCIES: return "wrong dependencies";
+    case BIVAMOLUNE_WRONG_CONTENT: return "wrong content";
+    case BIVAMOLUNE_CONFLICT: return "conflict";
+    case BIVAMOLUNE_FULL: return "full";
+    default: return "no code";
+    }
+}
 
 /* Writes the image of no deltas. Answers the code: 0 or 1. */
 uint32_t bivamolune_empty(uint8_t *image, size_t image_size);
@@ -48,6 +107,27 @@ uint32_t bivamolune_deliver(uint8_t *image, size_t image_size,
 static inline uint32_t bivamolune_code(uint32_t answer) { return answer % 256u; }
 static inline uint32_t bivamolune_undos(uint32_t answer) { return answer / 256u % 256u; }
 static inline uint32_t bivamolune_executions(uint32_t answer) { return answer / 65536u; }
+static inline int bivamolune_accepted(uint32_t answer) { return bivamolune_code(answer) == BIVAMOLUNE_ACCEPTED; }
+
+/* What stands in an image. These look at BIVAMOLUNE_IMAGE_SIZE bytes and judge nothing: hand them what empty or deliver
+ * accepted. */
+static inline uint32_t bivamolune_pair_at(const uint8_t *image, size_t at) {
+    return (uint32_t)image[at] * 256u + image[at + 1];
+}
+/* How many deltas the log has, and how many are held. */
+static inline uint32_t bivamolune_log_count(const uint8_t *image) { return bivamolune_pair_at(image, 0); }
+static inline uint32_t bivamolune_held_count(const uint8_t *image) { return bivamolune_pair_at(image, 2); }
+/* How many bytes of the image are in use. */
+static inline uint32_t bivamolune_bytes_used(const uint8_t *image) { return bivamolune_pair_at(image, 8); }
+/* The value of a setpoint; 0 where the tag is above 63. */
+static inline int32_t bivamolune_value(const uint8_t *image, uint32_t tag) {
+    size_t at = BIVAMOLUNE_VALUES_AT + 4u * (size_t)tag;
+    uint32_t word;
+    if (tag >= BIVAMOLUNE_TAGS) return 0;
+    word = bivamolune_pair_at(image, at) * 65536u + bivamolune_pair_at(image, at + 2);
+    /* Two's complement, with no conversion that a compiler may choose. */
+    return word <= 0x7FFFFFFFu ? (int32_t)word : -(int32_t)(0xFFFFFFFFu - word) - 1;
+}
 
 #ifdef __cplusplus
 }

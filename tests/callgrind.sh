@@ -8,8 +8,10 @@
 # counts do not depend on what else the machine does.
 set -eu
 
+# The slowest shapes are among them: lone, priority and fan.
 cases='chain-latest-0 chain-latest-63 chain-earliest-63 waiting-first-63
-priority-earliest-63 longest-latest-63 ring200-held-63 longest-code8-64'
+lone-latest-63 priority-latest-63 priority-earliest-63 fan-latest-63 fan-earliest-63
+needs-latest-63 longest-latest-63 ring200-held-63 longest-code8-64'
 few=5
 many=25
 

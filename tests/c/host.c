@@ -1,4 +1,5 @@
-/* A host in C: begins a station, delivers the paper's examples, and checks answers, images and steps.
+/* A host in C, which C++ reads as well: begins a station, delivers the paper's examples, and checks answers, images, steps
+ * and what the header gives beside the calls.
  * Each check prints nothing; the last line counts them, and the exit status is 1 if one failed. */
 #include "bivamolune.h"
 
@@ -80,15 +81,11 @@ static uint32_t deliver(struct delta d) {
     return bivamolune_deliver(image, sizeof image, d.bytes, d.size, steps, sizeof steps);
 }
 
-static uint32_t word(const uint8_t *at) {
-    return (uint32_t)at[0] << 24 | (uint32_t)at[1] << 16 | (uint32_t)at[2] << 8 | at[3];
-}
-
-static int32_t setpoint(unsigned tag) { return (int32_t)word(image + 16 + 4 * tag); }
+static int32_t setpoint(uint32_t tag) { return bivamolune_value(image, tag); }
 
 /* Counts: L, H and the bytes used. */
-static int counts(unsigned l, unsigned h, unsigned used) {
-    return image[0] * 256u + image[1] == l && image[2] * 256u + image[3] == h && image[8] * 256u + image[9] == used;
+static int counts(uint32_t l, uint32_t h, uint32_t used) {
+    return bivamolune_log_count(image) == l && bivamolune_held_count(image) == h && bivamolune_bytes_used(image) == used;
 }
 
 /* The answer, and the steps: "u" or "x", a line's letter and a digit for each; the rest of the buffer is as it was. */
@@ -97,7 +94,8 @@ static int answers(uint32_t answer, uint32_t code, uint32_t undos, uint32_t exec
     int right = bivamolune_code(answer) == code && bivamolune_undos(answer) == undos
         && bivamolune_executions(answer) == executions && n == undos + executions;
     for (size_t i = 0; i < n; i++) {
-        uint8_t step[BIVAMOLUNE_STEP_SIZE] = {names[3 * i] == 'u' ? 1 : 2, 0, 0, 0};
+        uint8_t step[BIVAMOLUNE_STEP_SIZE] = {0};
+        step[0] = names[3 * i] == 'u' ? BIVAMOLUNE_UNDO : BIVAMOLUNE_EXECUTE;
         put_sequence(step + 4, (uint8_t)(names[3 * i + 1] - 'A' + 10), (uint16_t)(names[3 * i + 2] - '0'));
         right = right && memcmp(steps + i * sizeof step, step, sizeof step) == 0;
     }
@@ -146,6 +144,10 @@ static void run_refusals(void) {
     check(bivamolune_deliver(image, sizeof image, a1.bytes, a1.size, steps, sizeof steps - 1) == 1, "2,031 bytes for steps");
     check(bivamolune_deliver(image, sizeof image, a1.bytes, a1.size - 1, steps, sizeof steps) == 3, "a message of 47");
     check(bivamolune_deliver(image, sizeof image, NULL, 0, steps, sizeof steps) == 3, "no message");
+    check(bivamolune_deliver(NULL, 0, a1.bytes, a1.size, steps, sizeof steps) == 1, "no image");
+    check(bivamolune_deliver(image, sizeof image, a1.bytes, a1.size, NULL, 0) == 1, "no step buffer");
+    check(bivamolune_deliver(NULL, 0, NULL, 0, NULL, 0) == 1, "nothing at all");
+    check(bivamolune_empty(NULL, 0) == 1, "no image to empty");
     check(answers(deliver(zero), 4, 0, 0, ""), "A0");
     check(answers(deliver(own), 5, 0, 0, ""), "A2 naming A1");
     check(answers(deliver(wrong_tag), 6, 0, 0, ""), "tag 64");
@@ -160,9 +162,43 @@ static void run_refusals(void) {
     check(answers(deliver(a1), 2, 0, 0, ""), "a damaged count");
 }
 
+/* ---- what the header gives beside the calls */
+static void run_header(void) {
+    char version[32];
+    uint32_t success = bivamolune_deliver(image, 0, NULL, 0, steps, 0);
+    enum bivamolune_result full = BIVAMOLUNE_FULL;
+    int differ = 1;
+
+    snprintf(version, sizeof version, "%d.%d.%d", BIVAMOLUNE_VERSION_MAJOR, BIVAMOLUNE_VERSION_MINOR, BIVAMOLUNE_VERSION_PATCH);
+    check(strcmp(version, BIVAMOLUNE_VERSION) == 0, "the version");
+    check(!bivamolune_accepted(success), "a refusal is not accepted");
+    check(strcmp(bivamolune_code_name((uint32_t)full), "full") == 0, "the name of a code");
+    for (uint32_t code = 0; code < 10; code++)
+        for (uint32_t other = 0; other < code; other++)
+            differ = differ && strcmp(bivamolune_code_name(code), bivamolune_code_name(other)) != 0;
+    check(differ, "the names differ");
+    check(strcmp(bivamolune_code_name(9), bivamolune_code_name(0xFFFFFFFFu)) == 0, "no code");
+    check(BIVAMOLUNE_MESSAGE_LEAST == 40 + 8 && BIVAMOLUNE_STEP_ROOM == BIVAMOLUNE_STEPS_MOST * BIVAMOLUNE_STEP_SIZE
+        && BIVAMOLUNE_MESSAGE_MOST == 40 + 12 * BIVAMOLUNE_DEPENDENCIES_MOST + 8 * BIVAMOLUNE_COMMANDS_MOST, "limits");
+
+    begin();
+    success = deliver(delta(10, 1, 1, 0, BIVAMOLUNE_VALUE_LEAST));
+    check(success != 0 && bivamolune_accepted(success), "a success is not 0 as a whole");
+    deliver(delta(11, 1, 1, 63, -1));
+    deliver(delta(12, 1, 1, 62, BIVAMOLUNE_VALUE_MOST));
+    check(setpoint(0) == BIVAMOLUNE_VALUE_LEAST && setpoint(1) == 0, "the least value");
+    check(setpoint(62) == BIVAMOLUNE_VALUE_MOST && setpoint(63) == -1, "the greatest value, and -1");
+    check(setpoint(64) == 0 && setpoint(0xFFFFFFFFu) == 0, "no such tag");
+    put(image + BIVAMOLUNE_VALUES_AT, 0x80000000u, 4);
+    check(setpoint(0) == INT32_MIN, "the least number of four bytes");
+    put(image + BIVAMOLUNE_VALUES_AT, 0x7FFFFFFFu, 4);
+    check(setpoint(0) == INT32_MAX, "the greatest number of four bytes");
+}
+
 int main(void) {
     run_examples();
     run_refusals();
+    run_header();
     printf("%u passed, %u failed\n", passed, failed);
     return failed != 0;
 }

@@ -40,6 +40,17 @@ impl Calls for Reference {
     }
 }
 
+/// The functions of the static library that a comparison calls in this build. The rest of
+/// `Calls` is answered by the second implementation, and compared with itself.
+pub const COMPARED: &[&str] = &[
+    #[cfg(feature = "library-empty")]
+    "bivamolune_empty",
+    #[cfg(feature = "library-deliver")]
+    "bivamolune_deliver",
+    #[cfg(feature = "library-compose")]
+    "bivamolune_compose",
+];
+
 /// The code of a packed answer.
 pub fn code(answer: u32) -> u32 {
     answer % 256
@@ -60,8 +71,58 @@ pub fn length(answer: u32) -> usize {
     (answer / 256) as usize
 }
 
+#[cfg(feature = "earlier")]
+pub use earlier::Earlier;
 #[cfg(feature = "link")]
 pub use library::Library;
+
+/// An earlier archive of the static library, for the benchmark alone: only deliver. The
+/// build gives its functions other names, so that both archives fit into one program.
+#[cfg(feature = "earlier")]
+mod earlier {
+    use super::{Calls, Reference, Request};
+
+    #[allow(unsafe_code)]
+    extern "C" {
+        fn earlier_bivamolune_deliver(
+            image: *mut u8,
+            image_size: usize,
+            message: *const u8,
+            message_size: usize,
+            steps: *mut u8,
+            steps_size: usize,
+        ) -> u32;
+    }
+
+    /// Deliver of the earlier archive; the rest is the second implementation's.
+    #[derive(Clone, Copy, Debug, Default)]
+    pub struct Earlier;
+
+    impl Calls for Earlier {
+        fn empty(&self, image: &mut [u8]) -> u32 {
+            Reference.empty(image)
+        }
+
+        #[allow(unsafe_code)]
+        fn deliver(&self, image: &mut [u8], message: &[u8], steps: &mut [u8]) -> u32 {
+            // Sound: each pointer and size are those of one slice, and none overlap.
+            unsafe {
+                earlier_bivamolune_deliver(
+                    image.as_mut_ptr(),
+                    image.len(),
+                    message.as_ptr(),
+                    message.len(),
+                    steps.as_mut_ptr(),
+                    steps.len(),
+                )
+            }
+        }
+
+        fn compose(&self, image: &[u8], request: &Request, message: &mut [u8]) -> u32 {
+            Reference.compose(image, request, message)
+        }
+    }
+}
 
 /// The static library. A function whose feature is off is answered by the second
 /// implementation, so that a comparison says nothing about it.
@@ -161,5 +222,27 @@ mod library {
         fn compose(&self, image: &[u8], request: &Request, message: &mut [u8]) -> u32 {
             super::Reference.compose(image, request, message)
         }
+    }
+}
+
+#[cfg(all(test, feature = "link"))]
+mod tests {
+    use super::COMPARED;
+    use std::collections::BTreeSet;
+    use std::process::Command;
+
+    /// A function that the archive gains, and that no feature compares, fails here.
+    #[test]
+    fn every_function_of_the_archive_is_compared() {
+        let archive = env!("BIVAMOLUNE_ARCHIVE");
+        let listed = Command::new("nm")
+            .args(["-g", "--defined-only", archive])
+            .output();
+        let listed = String::from_utf8(listed.expect("nm runs").stdout).expect("names");
+        let names = listed
+            .split_whitespace()
+            .filter(|word| word.starts_with("bivamolune_"));
+        let there: BTreeSet<&str> = names.collect();
+        assert_eq!(there, COMPARED.iter().copied().collect());
     }
 }

@@ -1,5 +1,7 @@
 //! A call with all its arguments, what it leaves behind, and the station between calls.
 
+use std::fmt::{self, Display, Formatter};
+
 use crate::boundary::{code, length, Calls};
 use crate::edit::Edit;
 use crate::reference::compose::Request;
@@ -39,13 +41,49 @@ pub enum Action {
     DeliverComposed {
         steps: usize,
     },
-    Compose {
-        line: Vec<u8>,
-        commands: Vec<u8>,
-        priority_flag: u32,
-        priority: u32,
-        message: usize,
-    },
+    Compose(Composing),
+}
+
+/// What a compose is handed beside the image.
+#[derive(Clone, Debug, PartialEq, Eq)]
+pub struct Composing {
+    pub line: Vec<u8>,
+    pub commands: Vec<u8>,
+    pub priority_flag: u32,
+    pub priority: u32,
+    /// The size of the message buffer.
+    pub room: usize,
+}
+
+impl Composing {
+    /// The same, as the call takes it.
+    pub fn request(&self) -> Request<'_> {
+        Request {
+            line: &self.line,
+            commands: &self.commands,
+            priority_flag: self.priority_flag,
+            priority: self.priority,
+        }
+    }
+}
+
+impl Display for Composing {
+    fn fmt(&self, f: &mut Formatter<'_>) -> fmt::Result {
+        write!(
+            f,
+            "Compose line {} commands {} flag {} priority {} room {}",
+            hex(&self.line),
+            hex(&self.commands),
+            self.priority_flag,
+            self.priority,
+            self.room
+        )
+    }
+}
+
+/// Bytes as hexadecimal digits.
+pub fn hex(bytes: &[u8]) -> String {
+    bytes.iter().map(|byte| format!("{byte:02X}")).collect()
 }
 
 impl Action {
@@ -58,13 +96,29 @@ impl Action {
     }
 }
 
-/// Everything that can be seen after a call: the answer, the image buffer, and the
-/// step or message buffer whole.
-#[derive(Clone, Debug, PartialEq, Eq)]
+/// Everything that can be seen after a call: the answer, the image buffer, the step or
+/// message buffer whole, and what the call only reads, which it must leave as it was.
+#[derive(Clone, Debug, Default, PartialEq, Eq)]
 pub struct Outcome {
     pub answer: u32,
     pub image: Vec<u8>,
     pub buffer: Vec<u8>,
+    pub message: Vec<u8>,
+    pub line: Vec<u8>,
+    pub commands: Vec<u8>,
+}
+
+impl Outcome {
+    /// The buffers and their names.
+    pub fn buffers(&self) -> [(&'static str, &[u8]); 5] {
+        [
+            ("image", &self.image),
+            ("buffer", &self.buffer),
+            ("message", &self.message),
+            ("line", &self.line),
+            ("commands", &self.commands),
+        ]
+    }
 }
 
 /// The station's image, and what the last compose wrote.
@@ -87,32 +141,12 @@ impl Default for World {
 impl World {
     /// Makes the call on an implementation. The station itself is not changed.
     pub fn perform(&self, calls: &dyn Calls, call: &Call) -> Outcome {
-        let mut image = self.view(&call.view);
-        let (answer, buffer) = match &call.action {
-            Action::Empty => (calls.empty(&mut image), Vec::new()),
-            Action::Deliver { message, steps } => deliver(calls, &mut image, message, *steps),
-            Action::DeliverComposed { steps } => deliver(calls, &mut image, &self.composed, *steps),
-            Action::Compose {
-                line,
-                commands,
-                priority_flag,
-                priority,
-                message,
-            } => {
-                let request = Request {
-                    line,
-                    commands,
-                    priority_flag: *priority_flag,
-                    priority: *priority,
-                };
-                let mut buffer = pattern(*message);
-                (calls.compose(&image, &request, &mut buffer), buffer)
-            }
-        };
-        Outcome {
-            answer,
-            image,
-            buffer,
+        let image = self.view(&call.view);
+        match &call.action {
+            Action::Empty => empty(calls, image),
+            Action::Deliver { message, steps } => deliver(calls, image, message, *steps),
+            Action::DeliverComposed { steps } => deliver(calls, image, &self.composed, *steps),
+            Action::Compose(composing) => compose(calls, image, composing.clone()),
         }
     }
 
@@ -132,14 +166,14 @@ impl World {
             return;
         }
         self.image.clone_from(&outcome.image);
-        if matches!(call.action, Action::Compose { .. }) && code(outcome.answer) == 0 {
+        if matches!(call.action, Action::Compose(_)) && code(outcome.answer) == 0 {
             let written = outcome.buffer.get(..length(outcome.answer));
             self.composed = written.unwrap_or(&[]).to_vec();
         }
     }
 
     /// The image buffer a call gets.
-    fn view(&self, view: &View) -> Vec<u8> {
+    pub fn view(&self, view: &View) -> Vec<u8> {
         let mut image = self.image.clone();
         match view {
             View::Station => {}
@@ -150,10 +184,40 @@ impl World {
     }
 }
 
-/// A delivery with a step buffer of a size.
-fn deliver(calls: &dyn Calls, image: &mut [u8], message: &[u8], steps: usize) -> (u32, Vec<u8>) {
-    let mut buffer = pattern(steps);
-    (calls.deliver(image, message, &mut buffer), buffer)
+fn empty(calls: &dyn Calls, mut image: Vec<u8>) -> Outcome {
+    let answer = calls.empty(&mut image);
+    Outcome {
+        answer,
+        image,
+        ..Outcome::default()
+    }
+}
+
+/// A delivery of a copy of the message, with a step buffer of a size.
+fn deliver(calls: &dyn Calls, mut image: Vec<u8>, message: &[u8], steps: usize) -> Outcome {
+    let (message, mut buffer) = (message.to_vec(), pattern(steps));
+    let answer = calls.deliver(&mut image, &message, &mut buffer);
+    Outcome {
+        answer,
+        image,
+        buffer,
+        message,
+        ..Outcome::default()
+    }
+}
+
+/// A compose of arguments that are its own.
+fn compose(calls: &dyn Calls, image: Vec<u8>, own: Composing) -> Outcome {
+    let mut buffer = pattern(own.room);
+    let answer = calls.compose(&image, &own.request(), &mut buffer);
+    Outcome {
+        answer,
+        image,
+        buffer,
+        line: own.line,
+        commands: own.commands,
+        ..Outcome::default()
+    }
 }
 
 /// A buffer whose bytes are nonzero and differ from those beside them.

@@ -4,7 +4,7 @@
 use std::fmt::Write;
 
 use crate::boundary::{code, executions, length, undos, Calls};
-use crate::call::{Action, Call, Outcome, World};
+use crate::call::{hex, Action, Call, Outcome, World};
 
 /// Where two implementations part, and in what.
 #[derive(Clone, Debug, PartialEq, Eq)]
@@ -16,12 +16,20 @@ pub struct Difference {
 
 /// Makes the calls on both, each time from the same station, up to a difference.
 pub fn compare(one: &dyn Calls, two: &dyn Calls, calls: &[Call]) -> Option<Difference> {
-    let mut world = World::default();
+    compare_from(World::default(), one, two, calls)
+}
+
+/// The same, from a station as earlier calls left it.
+fn compare_from(
+    mut world: World,
+    one: &dyn Calls,
+    two: &dyn Calls,
+    calls: &[Call],
+) -> Option<Difference> {
     for (place, call) in calls.iter().enumerate() {
         let first = world.perform(one, call);
         let second = world.perform(two, call);
-        if first != second {
-            let what = difference(&first, &second);
+        if let Some(what) = difference(&first, &second) {
             return Some(Difference { place, what });
         }
         world.follow(call, &first);
@@ -29,23 +37,23 @@ pub fn compare(one: &dyn Calls, two: &dyn Calls, calls: &[Call]) -> Option<Diffe
     None
 }
 
-/// What differs, in words.
-fn difference(one: &Outcome, two: &Outcome) -> String {
+/// What differs, in words: the answers, or the first byte of a buffer, also of one that
+/// the call only reads.
+pub fn difference(one: &Outcome, two: &Outcome) -> Option<String> {
     if one.answer != two.answer {
-        return format!("answers {:#x} and {:#x}", one.answer, two.answer);
+        return Some(format!("answers {:#x} and {:#x}", one.answer, two.answer));
     }
-    let buffers = [
-        ("image", &one.image, &two.image),
-        ("buffer", &one.buffer, &two.buffer),
-    ];
-    for (name, first, second) in buffers {
+    for ((name, first), (_, second)) in one.buffers().into_iter().zip(two.buffers()) {
         for (at, (a, b)) in first.iter().zip(second).enumerate() {
             if a != b {
-                return format!("{name} byte {at}: {a:02X} and {b:02X}");
+                return Some(format!("{name} byte {at}: {a:02X} and {b:02X}"));
             }
         }
+        if first.len() != second.len() {
+            return Some(format!("{name} of {} and {}", first.len(), second.len()));
+        }
     }
-    "buffers of different size".to_string()
+    None
 }
 
 /// The list with its composed messages written out, so that a delivery no longer
@@ -65,6 +73,10 @@ fn spelled_out(calls: &dyn Calls, list: &[Call]) -> Vec<Call> {
 /// are shrunk, and the shorter is taken.
 pub fn shrink(one: &dyn Calls, two: &dyn Calls, calls: &[Call]) -> Vec<Call> {
     let as_it_is = drop_calls(one, two, calls.to_vec());
+    let hangs = |call: &Call| matches!(call.action, Action::DeliverComposed { .. });
+    if !calls.iter().any(hangs) {
+        return as_it_is;
+    }
     let spelled = spelled_out(one, calls);
     if compare(one, two, &spelled).is_none() {
         return as_it_is;
@@ -94,21 +106,27 @@ fn drop_calls(one: &dyn Calls, two: &dyn Calls, mut kept: Vec<Call>) -> Vec<Call
     kept
 }
 
-/// Drops each run of calls without which there is a difference still.
+/// Drops each run of calls without which there is a difference still. The station before
+/// the run is carried along: up to there nothing differs.
 fn drop_runs(one: &dyn Calls, two: &dyn Calls, kept: &mut Vec<Call>, run: usize) -> bool {
     let mut dropped = false;
+    let mut world = World::default();
     let mut start = 0;
     while start < kept.len() {
         let end = (start + run).min(kept.len());
-        let mut fewer = kept.clone();
-        fewer.drain(start..end);
-        match compare(one, two, &fewer) {
+        match compare_from(world.clone(), one, two, &kept[end..]) {
             Some(found) => {
-                fewer.truncate(found.place + 1);
-                *kept = fewer;
+                kept.truncate(end + found.place + 1);
+                kept.drain(start..end);
                 dropped = true;
             }
-            None => start = end,
+            None => {
+                for call in &kept[start..end] {
+                    let outcome = world.perform(one, call);
+                    world.follow(call, &outcome);
+                }
+                start = end;
+            }
         }
     }
     dropped
@@ -116,9 +134,13 @@ fn drop_runs(one: &dyn Calls, two: &dyn Calls, kept: &mut Vec<Call>, run: usize)
 
 /// The report of a difference: the seed and the shortest list found.
 pub fn report(one: &dyn Calls, two: &dyn Calls, seed: u64, calls: &[Call]) -> String {
-    let short = shrink(one, two, calls);
+    report_of(one, two, seed, &shrink(one, two, calls))
+}
+
+/// The report of a list that is short already.
+pub fn report_of(one: &dyn Calls, two: &dyn Calls, seed: u64, short: &[Call]) -> String {
     let mut text = format!("seed {seed} differs; {} calls show it:\n", short.len());
-    text += &trace(one, two, &short);
+    text += &trace(one, two, short);
     text
 }
 
@@ -131,9 +153,9 @@ pub fn trace(one: &dyn Calls, two: &dyn Calls, calls: &[Call]) -> String {
         let second = world.perform(two, call);
         let _ = writeln!(text, "{place}: {}", describe(call));
         let _ = writeln!(text, "    one: {}", answer(call, first.answer));
-        if first != second {
+        if let Some(what) = difference(&first, &second) {
             let _ = writeln!(text, "    two: {}", answer(call, second.answer));
-            let _ = writeln!(text, "    difference: {}", difference(&first, &second));
+            let _ = writeln!(text, "    difference: {what}");
             break;
         }
         world.follow(call, &first);
@@ -145,7 +167,7 @@ pub fn trace(one: &dyn Calls, two: &dyn Calls, calls: &[Call]) -> String {
 fn answer(call: &Call, packed: u32) -> String {
     match call.action {
         Action::Empty => format!("code {packed}"),
-        Action::Compose { .. } => {
+        Action::Compose(_) => {
             format!("code {} length {}", code(packed), length(packed))
         }
         _ => {
@@ -161,22 +183,8 @@ fn describe(call: &Call) -> String {
         Action::Deliver { message, steps } => {
             format!("Deliver steps {steps} message {}", hex(message))
         }
-        Action::Compose {
-            line,
-            commands,
-            priority_flag,
-            priority,
-            message,
-        } => format!(
-            "Compose line {} commands {} flag {priority_flag} priority {priority} message {message}",
-            hex(line),
-            hex(commands)
-        ),
+        Action::Compose(composing) => composing.to_string(),
         other => format!("{other:?}"),
     };
     format!("{:?} {action}", call.view)
-}
-
-fn hex(bytes: &[u8]) -> String {
-    bytes.iter().map(|byte| format!("{byte:02X}")).collect()
 }

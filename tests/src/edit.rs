@@ -96,10 +96,10 @@ impl Parts {
         let mut at = 272;
         for _ in 0..(log + held).min(100) {
             let length = usize::from(number(image, at + 4));
-            let Some(message) = image.get(at..at + length) else {
-                break;
-            };
-            messages.push(message.to_vec());
+            match image.get(at..at + length) {
+                Some(message) => messages.push(message.to_vec()),
+                None => break,
+            }
             at += length;
         }
         Parts {

@@ -6,7 +6,7 @@ use crate::reference::bytes::{i32_at, u16_at, u8_at};
 use crate::reference::compose::Request;
 use crate::reference::image::{self, read_sized};
 use crate::reference::message::Delta;
-use crate::reference::order::{key, Order};
+use crate::reference::order::{key, order, Order, Set};
 use crate::reference::steps::{self, Steps};
 
 /// What is wrong.
@@ -46,10 +46,20 @@ pub enum Fault {
     ComposeNextGroup,
     /// Compose answers 11 at eight dependencies.
     ComposeAtEight,
+    /// Takes a first delta in and only echoes later ones.
+    EchoesLater,
+    /// Holds every delta.
+    HoldsAll,
+    /// Leaves the image as it was.
+    LeavesImage,
+    /// Has the same log always, that of no deltas.
+    SameLog,
+    /// Refuses every delta.
+    RefusesAll,
 }
 
-/// Every fault.
-pub const FAULTS: [Fault; 17] = [
+/// Every fault. Those that the paper names as programs that come close are among them.
+pub const FAULTS: [Fault; 22] = [
     Fault::FullAt63,
     Fault::KeyAlone,
     Fault::TailNotCleared,
@@ -67,6 +77,11 @@ pub const FAULTS: [Fault; 17] = [
     Fault::ComposeClears,
     Fault::ComposeNextGroup,
     Fault::ComposeAtEight,
+    Fault::EchoesLater,
+    Fault::HoldsAll,
+    Fault::LeavesImage,
+    Fault::SameLog,
+    Fault::RefusesAll,
 ];
 
 /// The second implementation with one fault.
@@ -87,8 +102,14 @@ impl Calls for Faulty {
         if self.0 == Fault::FullAt63 && makes_64(image, message) {
             return if buffer.len() < steps::BUFFER { 1 } else { 8 };
         }
-        let before = image.to_vec();
+        let (before, untouched) = (image.to_vec(), buffer.to_vec());
         let answer = Reference.deliver(image, message, buffer);
+        if code(answer) == 0 {
+            if let Some(other) = self.without_steps(&before, image) {
+                buffer.copy_from_slice(&untouched);
+                return other;
+            }
+        }
         match (self.0, code(answer)) {
             (Fault::KeyAlone, 0) => key_alone(image, answer),
             (Fault::RepeatWrites, 0) => repeat_writes(&before, image, message, buffer, answer),
@@ -108,6 +129,10 @@ impl Calls for Faulty {
             (Fault::RangeBeforeDependencies, 5) if range_is_wrong(message) => 6,
             (Fault::TailUnchecked, 2) => without_tail(image, message, buffer),
             (Fault::SetpointsUnchecked, 2) => without_setpoints(image, message, buffer),
+            (Fault::LeavesImage, 0) => {
+                image.copy_from_slice(&before);
+                answer
+            }
             _ => answer,
         }
     }
@@ -128,6 +153,31 @@ impl Calls for Faulty {
             _ => {}
         }
         answer
+    }
+}
+
+impl Faulty {
+    /// The answer of a fault that writes no steps where a delivery is accepted; the image is
+    /// made to fit.
+    fn without_steps(&self, before: &[u8], image: &mut [u8]) -> Option<u32> {
+        match self.0 {
+            Fault::EchoesLater if count(before) > 0 => image.copy_from_slice(before),
+            Fault::HoldsAll => hold_all(image),
+            Fault::SameLog => image.copy_from_slice(&image::write(&order(&Set::new()))),
+            Fault::RefusesAll => image.copy_from_slice(before),
+            _ => return None,
+        }
+        Some(if self.0 == Fault::RefusesAll { 3 } else { 0 })
+    }
+}
+
+/// Makes all deltas of an image held ones.
+fn hold_all(image: &mut [u8]) {
+    let copy = image.to_vec();
+    if let Ok((set, _)) = read_sized(&copy) {
+        let held = set.values().copied().collect();
+        let log = Vec::new();
+        image.copy_from_slice(&image::write(&Order { log, held }));
     }
 }
 
@@ -169,8 +219,9 @@ fn repeat_writes(
 
 /// The steps over both logs whole.
 fn undoes_everything(before: &[u8], image: &[u8], buffer: &mut [u8], answer: u32) -> u32 {
-    let (Ok((_, old)), Ok((_, new))) = (read_sized(before), read_sized(image)) else {
-        return answer;
+    let (old, new) = match (read_sized(before), read_sized(image)) {
+        (Ok((_, old)), Ok((_, new))) => (old, new),
+        _ => return answer,
     };
     let mut undos = old.log_sequences();
     undos.reverse();
@@ -181,8 +232,9 @@ fn undoes_everything(before: &[u8], image: &[u8], buffer: &mut [u8], answer: u32
 }
 
 fn waits_behind_held(before: &[u8], image: &mut [u8], message: &[u8], answer: u32) -> u32 {
-    let (Ok((mut set, old)), Ok(delta)) = (read_sized(before), Delta::check(message)) else {
-        return answer;
+    let (mut set, old, delta) = match (read_sized(before), Delta::check(message)) {
+        (Ok((set, old)), Ok(delta)) => (set, old, delta),
+        _ => return answer,
     };
     if old.held.is_empty() || set.insert(delta.sequence(), delta).is_some() {
         return answer;
@@ -197,8 +249,9 @@ fn waits_behind_held(before: &[u8], image: &mut [u8], message: &[u8], answer: u3
 
 /// Setpoints got from the old ones by taking additions back and executing the rest.
 fn subtracts(before: &[u8], image: &mut [u8], answer: u32) -> u32 {
-    let (Ok((_, old)), Ok((_, new))) = (read_sized(before), read_sized(image)) else {
-        return answer;
+    let (old, new) = match (read_sized(before), read_sized(image)) {
+        (Ok((_, old)), Ok((_, new))) => (old, new),
+        _ => return answer,
     };
     let kept = old.log.len() - undos(answer);
     let undone: Vec<Delta> = old.log[kept..].iter().rev().map(|p| p.delta).collect();
@@ -242,12 +295,14 @@ fn without_tail(image: &mut [u8], message: &[u8], buffer: &mut [u8]) -> u32 {
 }
 
 fn without_setpoints(image: &mut [u8], message: &[u8], buffer: &mut [u8]) -> u32 {
-    let Some(mut right) = rebuilt(image) else {
-        return 2;
-    };
-    let answer = Reference.deliver(&mut right, message, buffer);
-    image.copy_from_slice(&right);
-    answer
+    match rebuilt(image) {
+        Some(mut right) => {
+            let answer = Reference.deliver(&mut right, message, buffer);
+            image.copy_from_slice(&right);
+            answer
+        }
+        None => 2,
+    }
 }
 
 /// The image with its setpoints computed anew, if that makes it one.

@@ -8,8 +8,8 @@ mod common;
 use std::process::{Command, Output};
 
 use bivamolune_tests::boundary::Reference;
-use bivamolune_tests::call::Call;
-use bivamolune_tests::differential::{compare, report, shrink};
+use bivamolune_tests::call::{Action, Call, Composing, Outcome, View, World};
+use bivamolune_tests::differential::{compare, difference, report, report_of, shrink};
 use bivamolune_tests::faulty::{Fault, Faulty, FAULTS};
 use bivamolune_tests::generate::case;
 use common::SUBJECT;
@@ -21,6 +21,69 @@ fn the_subject_agrees_with_the_second_implementation() {
         if compare(&Reference, &SUBJECT, &calls).is_some() {
             panic!("{}", report(&Reference, &SUBJECT, seed, &calls));
         }
+    }
+}
+
+/// What a call only reads is looked at after it, as are the buffers that it may write.
+#[test]
+fn a_byte_of_any_buffer_is_a_difference() {
+    let one = Outcome {
+        answer: 256,
+        image: vec![1; 3],
+        buffer: vec![2; 3],
+        message: vec![3; 3],
+        line: vec![4; 3],
+        commands: vec![5; 3],
+    };
+    assert_eq!(difference(&one, &one.clone()), None);
+    let mut others = vec![one.clone(); 6];
+    others[0].image[2] = 9;
+    others[1].buffer[2] = 9;
+    others[2].message[2] = 9;
+    others[3].line[2] = 9;
+    others[4].commands[2] = 9;
+    others[5].answer = 9;
+    let names = ["image", "buffer", "message", "line", "commands", "answers"];
+    for (other, name) in others.iter().zip(names) {
+        let found = difference(&one, other).expect("a difference");
+        assert!(found.starts_with(name), "{found}");
+    }
+}
+
+/// A call gets its arguments and leaves them to be compared.
+#[test]
+fn what_a_call_reads_is_in_its_outcome() {
+    let composing = Composing {
+        line: vec![7; 10],
+        commands: vec![1, 2, 0, 0, 0, 0, 0, 3],
+        priority_flag: 0,
+        priority: 0,
+        room: 200,
+    };
+    let actions = [
+        Action::Empty,
+        Action::Compose(composing.clone()),
+        Action::DeliverComposed { steps: 2_032 },
+    ];
+    let mut world = World::default();
+    for action in actions {
+        let call = Call {
+            view: View::Station,
+            action,
+        };
+        let outcome = world.perform(&SUBJECT, &call);
+        match call.action {
+            Action::Compose(_) => {
+                assert_eq!(outcome.line, composing.line);
+                assert_eq!(outcome.commands, composing.commands);
+                assert!(outcome.image == world.image);
+            }
+            Action::DeliverComposed { .. } => {
+                assert_eq!(outcome.message[40..], composing.commands);
+            }
+            _ => {}
+        }
+        world.follow(&call, &outcome);
     }
 }
 
@@ -52,7 +115,7 @@ fn every_fault_is_found_and_shown_shortly() {
     for fault in FAULTS {
         let (seed, calls) = find(fault);
         let short = shrink(&Reference, &Faulty(fault), &calls);
-        let shown = report(&Reference, &Faulty(fault), seed, &calls);
+        let shown = report_of(&Reference, &Faulty(fault), seed, &short);
         println!(
             "{fault:?}: seed {seed}, {} calls, then {}",
             calls.len(),
@@ -79,9 +142,11 @@ fn no_call_of_a_short_list_can_be_dropped() {
     }
 }
 
-/// Runs the program with these words.
+/// Runs the program with these words. Without the library it asks for `--self`.
 fn long_run(words: &[&str]) -> Output {
+    let itself = !cfg!(feature = "link");
     Command::new(env!("CARGO_BIN_EXE_long_run"))
+        .args(itself.then_some("--self"))
         .args(words)
         .output()
         .expect("the program runs")

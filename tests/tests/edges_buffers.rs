@@ -9,7 +9,9 @@ use bivamolune_tests::reference::compose::Request;
 use bivamolune_tests::reference::reader::Reader;
 use bivamolune_tests::reference::station::{log_message, log_message_code, setpoint};
 use bivamolune_tests::wire::{line, Draft};
-use common::{a1, delta, plain_request, steps, Station, A, B, MESSAGE, PATTERN, STEPS, SUBJECT};
+use common::{
+    a1, b1, delta, plain_request, steps, Station, A, B, IMAGE, MESSAGE, PATTERN, STEPS, SUBJECT,
+};
 
 #[test]
 fn image_sizes() {
@@ -36,6 +38,26 @@ fn a_refused_empty_writes_nothing() {
         let mut image = vec![PATTERN; size];
         assert_eq!(SUBJECT.empty(&mut image), 1);
         assert!(image.iter().all(|byte| *byte == PATTERN));
+    }
+}
+
+/// Bytes of no image, the image of no deltas, and images of a log and of held deltas.
+#[test]
+fn empty_writes_whatever_the_buffer_held() {
+    let mut expected = vec![0; IMAGE];
+    expected[..10].copy_from_slice(&[0, 0, 0, 0, 0, 16, 1, 16, 1, 16]);
+    let lone: Vec<Draft> = (1..=64).map(|last| delta(last, 1)).collect();
+    for held in [
+        vec![0; IMAGE],
+        vec![0xFF; IMAGE],
+        expected.clone(),
+        Station::with(&[a1()]).image,
+        Station::with(&[delta(A, 2)]).image,
+        Station::with(&lone).image,
+    ] {
+        let mut image = held;
+        assert_eq!(SUBJECT.empty(&mut image), 0);
+        assert!(image == expected);
     }
 }
 
@@ -76,6 +98,46 @@ fn a_repeat_still_asks_for_a_step_buffer() {
     let mut station = Station::with(&[a1()]);
     assert_eq!(station.deliver_into(&a1().bytes(), 2_031).0, 1);
     assert_eq!(station.deliver_into(&a1().bytes(), 2_032).0, 0);
+}
+
+#[test]
+fn bytes_past_the_steps_stay() {
+    for (byte, size) in [
+        (0x00, STEPS),
+        (0xFF, STEPS),
+        (0x02, STEPS + 5),
+        (0x01, 9_000),
+    ] {
+        let mut image = Station::with(&[b1()]).image;
+        let mut buffer = vec![byte; size];
+        let answer = SUBJECT.deliver(&mut image, &a1().bytes(), &mut buffer);
+        assert_eq!(answer, 256 + 2 * 65_536);
+        assert!(buffer[48..].iter().all(|left| *left == byte));
+        // A delta that is held writes no step, nor does a repeat or a refusal.
+        let mut untouched = vec![byte; size];
+        for draft in [delta(A, 9), a1(), a1().group(2), delta(A, 0)] {
+            SUBJECT.deliver(&mut image, &draft.bytes(), &mut untouched);
+            assert!(untouched.iter().all(|left| *left == byte), "{draft:?}");
+        }
+    }
+}
+
+#[test]
+fn bytes_past_the_message_stay() {
+    let (station, line) = (Station::with(&[b1()]), line(A));
+    for (byte, size) in [(0x00, MESSAGE), (0xFF, MESSAGE), (0x01, MESSAGE + 99)] {
+        let mut buffer = vec![byte; size];
+        let answer = SUBJECT.compose(&station.image, &plain_request(&line), &mut buffer);
+        assert_eq!(answer, 256 * 60);
+        assert!(buffer[60..].iter().all(|left| *left == byte));
+        let mut untouched = vec![byte; size];
+        let wrong = Request {
+            priority_flag: 2,
+            ..plain_request(&line)
+        };
+        assert_eq!(SUBJECT.compose(&station.image, &wrong, &mut untouched), 6);
+        assert!(untouched.iter().all(|left| *left == byte));
+    }
 }
 
 #[test]

@@ -160,11 +160,16 @@ fn the_last_block() {
     assert_eq!(compose(&station, line(A), 0, 0), (0, delta(A, 2).bytes()));
 }
 
+/// Each effective block is the own block of a delta of the log, as needs are in the log
+/// too. So the highest effective block is the highest own one, wherever that stands.
 #[test]
-fn the_effective_block_counts_and_not_the_own() {
+fn the_highest_block_counts_and_not_that_of_the_last() {
     let station = Station::with(&[delta(A, 1).priority(7, 0), delta(A, 2).priority(3, 0)]);
     assert_eq!(station.log(), "A1 A2");
     let expected = delta(A, 3).priority(8, 0);
+    assert_eq!(compose(&station, line(A), 1, 0), (0, expected.bytes()));
+    // The last delta has no block of its own.
+    let station = Station::with(&[delta(A, 1).priority(7, 0), delta(A, 2)]);
     assert_eq!(compose(&station, line(A), 1, 0), (0, expected.bytes()));
 }
 
@@ -212,6 +217,14 @@ fn held_deltas_are_not_named_and_do_not_use() {
     let station = Station::with(&[delta(A, 1), held, delta(B, 2)]);
     let expected = delta(D, 1).naming(&[s(A, 1)]);
     assert_eq!(compose(&station, line(D), 0, 0), (0, expected.bytes()));
+}
+
+#[test]
+fn held_deltas_count_for_neither_group_nor_block() {
+    let held = delta(C, 9).group(50).priority(9, 0);
+    let station = Station::with(&[delta(A, 1).priority(2, 0), held]);
+    let expected = delta(D, 1).priority(3, 7).naming(&[s(A, 1)]);
+    assert_eq!(compose(&station, line(D), 1, 7), (0, expected.bytes()));
 }
 
 #[test]

@@ -68,28 +68,90 @@ fn priority_0_stands_before_none() {
 
 #[test]
 fn the_effective_block_comes_through_dependencies() {
-    // B1 names C1 of block 2; D2 follows D1, which names B1.
+    // B1 names C1 of block 2 and D1 names B1: both wait for 20.1, the last of block 2.
     let drafts = [
-        delta(C, 1).priority(2, 0),
+        delta(C, 1).priority(2, 1),
         delta(B, 1).naming(&[s(C, 1)]),
         delta(D, 1).naming(&[s(B, 1)]).group(0),
-        delta(D, 2).group(0),
+        delta(0x20, 1).priority(2, 0).group(50),
         delta(A, 1).priority(1, 0),
-        delta(0x20, 1).group(50),
     ];
-    assert_eq!(log(&drafts), "20.1 A1 C1 B1 D1 D2");
+    assert_eq!(log(&drafts), "A1 C1 20.1 B1 D1");
+    // The block comes two steps far: B1's own block is 1, and D1 waits for 20.1 still.
+    let far = [
+        delta(C, 1).priority(2, 1),
+        delta(B, 1).priority(1, 0).naming(&[s(C, 1)]),
+        delta(D, 1).naming(&[s(B, 1)]).group(0),
+        delta(0x20, 1).priority(2, 0).group(50),
+    ];
+    assert_eq!(log(&far), "C1 B1 20.1 D1");
+}
+
+#[test]
+fn the_effective_block_comes_through_the_predecessor() {
+    // C2 has no block of its own, and waits for D1 of block 2.
+    let drafts = [
+        delta(C, 1).priority(2, 1),
+        delta(C, 2).group(0),
+        delta(C, 3).group(0),
+        delta(D, 1).priority(2, 0),
+    ];
+    assert_eq!(log(&drafts), "C1 D1 C2 C3");
+}
+
+#[test]
+fn the_effective_block_is_the_greatest_of_several_needs() {
+    // D1 needs B1 of block 1 and C1 of block 3: A1 of block 3 stands before it.
+    let drafts = [
+        delta(B, 1).priority(1, 0),
+        delta(C, 1).priority(3, 5),
+        delta(D, 1).naming(&[s(B, 1), s(C, 1)]),
+        delta(A, 1).priority(3, 0),
+    ];
+    assert_eq!(log(&drafts), "B1 C1 A1 D1");
+}
+
+#[test]
+fn all_needs_stand_before() {
+    // D1 names A1 and C1; B1 and C1 come after A1.
+    let drafts = [
+        delta(D, 1).group(0).naming(&[s(A, 1), s(C, 1)]),
+        delta(A, 1),
+        delta(B, 1),
+        delta(C, 1),
+    ];
+    assert_eq!(log(&drafts), "A1 B1 C1 D1");
+    // Without C1 it is held, though A1 is there.
+    let station = Station::with(&drafts[..3]);
+    assert_eq!(
+        (station.log(), station.held()),
+        ("A1 B1".into(), "D1".into())
+    );
 }
 
 #[test]
 fn an_own_block_below_that_of_a_need() {
-    // A2's own block is 1, its effective block 5.
+    // A2's own block is 1, its effective block 5: D1 of block 5 and priority 1 stands
+    // before it, by priority 1 against 0.
     let drafts = [
-        delta(A, 1).priority(5, 0),
-        delta(A, 2).priority(1, 9),
+        delta(A, 1).priority(5, 2),
+        delta(A, 2).priority(1, 0),
         delta(B, 1).priority(4, 0),
         delta(C, 1).priority(5, 3),
+        delta(D, 1).priority(5, 1),
     ];
-    assert_eq!(log(&drafts), "B1 C1 A1 A2");
+    assert_eq!(log(&drafts), "B1 C1 A1 D1 A2");
+}
+
+#[test]
+fn an_own_block_above_that_of_a_need() {
+    // A2's own block 5 is above that of A1: C1 of block 4 stands between.
+    let drafts = [
+        delta(A, 1).priority(3, 0),
+        delta(A, 2).priority(5, 9),
+        delta(C, 1).priority(4, 0),
+    ];
+    assert_eq!(log(&drafts), "A1 C1 A2");
 }
 
 #[test]
@@ -109,6 +171,15 @@ fn unrelated_deltas_do_not_wait_behind_a_held_one() {
     let mut station = Station::with(&[delta(A, 2)]);
     assert_eq!(station.deliver(&delta(B, 1)), steps(0, "+B1"));
     assert_eq!((station.log(), station.held()), ("B1".into(), "A2".into()));
+}
+
+#[test]
+fn number_0001_has_no_predecessor() {
+    let station = Station::with(&[delta(A, 1), delta(B, 2)]);
+    assert_eq!((station.log(), station.held()), ("A1".into(), "B2".into()));
+    // Nor is FFFF its predecessor.
+    let named = delta(C, 1).naming(&[s(C, 0xFFFF)]);
+    assert_eq!(Station::with(&[named]).held(), "C1");
 }
 
 #[test]

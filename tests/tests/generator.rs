@@ -7,11 +7,12 @@ mod common;
 use std::collections::{BTreeMap, BTreeSet};
 
 use bivamolune_tests::boundary::{code, executions, undos, Reference};
-use bivamolune_tests::call::{Action, Call, View, World};
+use bivamolune_tests::call::{Action, Call, Composing, Outcome, View, World};
 use bivamolune_tests::edit::Edit;
-use bivamolune_tests::generate::{case, damaged_message, drafts};
+use bivamolune_tests::generate::{any_draft, case, damaged_message, drafts, nearly_right, LIMIT};
 use bivamolune_tests::random::Random;
-use common::{delta, u16_at, Station, A, B, C};
+use bivamolune_tests::reference::station::{log_message_code, setpoint};
+use common::{delta, messages, u16_at, u32_at, Station, A, B, C, IMAGE};
 
 /// How often each (call, code) was answered, and each mark was seen.
 #[derive(Default)]
@@ -21,6 +22,10 @@ struct Seen {
 }
 
 impl Seen {
+    fn code(&mut self, call: &'static str, code: u32) {
+        *self.codes.entry((call, code)).or_default() += 1;
+    }
+
     fn mark(&mut self, name: &'static str, seen: bool) {
         *self.marks.entry(name).or_default() += usize::from(seen);
     }
@@ -30,59 +35,109 @@ fn name(action: &Action) -> &'static str {
     match action {
         Action::Empty => "empty",
         Action::Deliver { .. } | Action::DeliverComposed { .. } => "deliver",
-        Action::Compose { .. } => "compose",
+        Action::Compose(_) => "compose",
     }
 }
 
-fn run(calls: &[Call], seen: &mut Seen) {
+/// Runs a list and notes codes and marks. On each image the calls that only read are
+/// made too, at a place and a tag by chance.
+fn run(seed: u64, seen: &mut Seen) {
+    let mut random = Random::new(seed);
     let mut world = World::default();
-    for call in calls {
-        let outcome = world.perform(&Reference, call);
+    for call in case(seed) {
+        let view = world.view(&call.view);
+        let outcome = world.perform(&Reference, &call);
         let answered = code(outcome.answer);
-        *seen
-            .codes
-            .entry((name(&call.action), answered))
-            .or_default() += 1;
+        seen.code(name(&call.action), answered);
+        seen.code("log message", log_message_code(&view, random.below(4)));
+        seen.code("setpoint", setpoint(&view, random.below(70)).0);
         if call.view == View::Station && call.action.delivers() && answered == 0 {
-            let (undone, executed) = (undos(outcome.answer), executions(outcome.answer));
-            let held = u16_at(&outcome.image, 2);
-            seen.mark("an undo", undone > 0);
-            seen.mark("ten undos", undone >= 10);
-            seen.mark("a release", executed > undone + 1);
-            seen.mark("held", held > 0);
-            seen.mark("full", u16_at(&outcome.image, 0) + held == 64);
-            seen.mark("full log", u16_at(&outcome.image, 0) == 64);
-            let stop = 1_000_000_i32.to_be_bytes();
-            seen.mark(
-                "a stop",
-                outcome.image[16..272].chunks(4).any(|v| v == stop),
-            );
+            mark_delivery(seen, &outcome);
         }
-        let edited = matches!(call.view, View::Edited(_));
-        seen.mark("edited and refused", edited && answered == 2);
-        seen.mark("edited and taken", edited && answered == 0);
-        world.follow(call, &outcome);
+        if let (Action::Compose(composing), 10) = (&call.action, answered) {
+            mark_limit(seen, &view, composing);
+        }
+        mark_edit(seen, &call, answered);
+        world.follow(&call, &outcome);
     }
 }
 
+/// Marks of an accepted delivery.
+fn mark_delivery(seen: &mut Seen, outcome: &Outcome) {
+    let (undone, executed) = (undos(outcome.answer), executions(outcome.answer));
+    let (log, held) = (u16_at(&outcome.image, 0), u16_at(&outcome.image, 2));
+    seen.mark("an undo", undone > 0);
+    seen.mark("ten undos", undone >= 10);
+    seen.mark("127 steps", undone + executed == 127);
+    seen.mark("a release", executed > undone + 1);
+    seen.mark("held", held > 0);
+    seen.mark("full", log + held == 64);
+    seen.mark("full log", log == 64);
+    let stop = 1_000_000_i32.to_be_bytes();
+    let values = &outcome.image[16..272];
+    seen.mark("a stop", values.chunks(4).any(|value| value == stop));
+    let all = messages(&outcome.image, 0, log + held);
+    let named = |message: &Vec<u8>| message[2] > 0;
+    let first = |message: &Vec<u8>| u16_at(message, 22) == 1;
+    let lone = all[..log].iter().all(|m| first(m) && !named(m));
+    seen.mark("63 lone lines", log == 63 && lone);
+    seen.mark("00FF and 0100", crosses(&all));
+}
+
+/// Whether a line has the numbers 00FF and 0100.
+fn crosses(messages: &[Vec<u8>]) -> bool {
+    let numbered = |number: usize| messages.iter().filter(move |m| u16_at(m, 22) == number);
+    numbered(0x00FF).any(|low| numbered(0x0100).any(|high| low[12..22] == high[12..22]))
+}
+
+/// Which limit a compose refused by 10 would pass. That of the number is passed by
+/// none: in a log of at most 64, needs before users, no number is above 64.
+fn mark_limit(seen: &mut Seen, image: &[u8], composing: &Composing) {
+    let log = messages(image, 0, u16_at(image, 0));
+    let highest = |at: usize| log.iter().map(|m| u32_at(m, at)).max().unwrap_or(0);
+    assert!(log.iter().all(|m| u16_at(m, 22) <= 64));
+    let by_block = composing.priority_flag == 1 && highest(28) == LIMIT;
+    let by_group =
+        highest(24) == LIMIT && log.last().map_or(false, |m| m[12..22] > composing.line[..]);
+    assert!(by_block || by_group);
+    seen.mark("10 by block alone", by_block && !by_group);
+    seen.mark("10 by group alone", by_group && !by_block);
+}
+
+/// Marks of a call on an edited copy.
+fn mark_edit(seen: &mut Seen, call: &Call, answered: u32) {
+    let edited = matches!(call.view, View::Edited(_));
+    let last = matches!(call.view, View::Edited(Edit::Byte(16_383, 1..)));
+    seen.mark("edited and refused", edited && answered == 2);
+    seen.mark("edited and taken", edited && answered == 0);
+    seen.mark("last byte edited and refused", last && answered == 2);
+}
+
+/// The histogram of codes is full: each call meets each code of its list and no other.
 #[test]
-fn every_code_and_hard_logs() {
+fn every_code_of_every_call_and_hard_logs() {
     let mut seen = Seen::default();
     for seed in 0..3_000 {
-        run(&case(seed), &mut seen);
+        run(seed, &mut seen);
     }
     println!("{:?}\n{:?}", seen.codes, seen.marks);
-    let deliver = (0..=8).map(|code| ("deliver", code));
-    let compose = [0, 1, 2, 3, 6, 9, 10, 11].map(|code| ("compose", code));
-    let empty = [0, 1].map(|code| ("empty", code));
-    let wanted: BTreeSet<_> = deliver.chain(compose).chain(empty).collect();
+    let lists: [(&str, &[u32]); 5] = [
+        ("empty", &[0, 1]),
+        ("deliver", &[0, 1, 2, 3, 4, 5, 6, 7, 8]),
+        ("compose", &[0, 1, 2, 3, 6, 9, 10, 11]),
+        ("log message", &[0, 1, 2, 12]),
+        ("setpoint", &[0, 1, 2, 12]),
+    ];
+    let of = |(call, codes): (&'static str, &'static [u32])| codes.iter().map(move |c| (call, *c));
+    let wanted: BTreeSet<_> = lists.into_iter().flat_map(of).collect();
     let answered: BTreeSet<_> = seen.codes.keys().copied().collect();
     assert_eq!(answered, wanted);
     for (call, count) in &seen.codes {
         assert!(*count >= 10, "{call:?} only {count} times");
     }
+    assert_eq!(seen.marks.len(), 15);
     for (mark, count) in &seen.marks {
-        assert!(*count >= 30, "{mark} only {count} times");
+        assert!(*count >= 10, "{mark} only {count} times");
     }
 }
 
@@ -116,11 +171,25 @@ fn damaged_messages_meet_3_to_6() {
         *codes.entry(Station::new().code(&message)).or_default() += 1;
     }
     for code in 3..=6 {
-        assert!(
-            codes.get(&code).is_some_and(|count| *count > 100),
-            "{codes:?}"
-        );
+        let count = codes.get(&code).copied().unwrap_or(0);
+        assert!(count > 100, "{codes:?}");
     }
+}
+
+/// Each message has one thing wrong, and put right by its draft it is accepted.
+#[test]
+fn nearly_right_messages_meet_the_code_they_are_made_for() {
+    let mut codes: BTreeMap<u32, usize> = BTreeMap::new();
+    for seed in 0..4_000 {
+        let mut random = Random::new(seed);
+        let draft = any_draft(&mut random);
+        assert_eq!(Station::new().code(&draft.bytes()), 0, "{draft:?}");
+        let (code, message) = nearly_right(&mut random, &draft);
+        assert_eq!(Station::new().code(&message), code, "seed {seed} {draft:?}");
+        *codes.entry(code).or_default() += 1;
+    }
+    assert_eq!(codes.keys().copied().collect::<Vec<_>>(), [3, 4, 5, 6]);
+    assert!(codes.values().all(|count| *count > 500), "{codes:?}");
 }
 
 #[test]
@@ -145,5 +214,6 @@ fn edits_do_what_they_say() {
     assert_eq!(edited(Edit::Header(2, 0xFFFF)).held_count(), 0);
     assert_eq!(edited(Edit::Bit(9)).log_count(), 0);
     assert_eq!(edited(Edit::Byte(9, 7)).image[9], 7);
+    assert_eq!(edited(Edit::Byte(16_383, 7)).image[IMAGE - 1], 7);
     assert!(edited(Edit::Drop(2)).image == Station::with(&[delta(A, 1), delta(B, 1)]).image);
 }

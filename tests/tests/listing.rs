@@ -8,10 +8,11 @@ use std::io::Write;
 use std::process::{Command, Stdio};
 use std::thread;
 
+use bivamolune_tests::reference;
 use bivamolune_tests::wire::{line, sequence, set, Draft};
 use common::{a1, b1, delta, A, B};
 
-/// What the program prints for an input.
+/// What the program prints for an input, which is what the function of the package gives.
 fn listing(input: &[u8]) -> String {
     let mut child = Command::new(env!("CARGO_BIN_EXE_listing"))
         .stdin(Stdio::piped())
@@ -27,7 +28,9 @@ fn listing(input: &[u8]) -> String {
         .expect("no panic")
         .expect("all input is taken");
     assert!(output.status.success());
-    String::from_utf8(output.stdout).expect("plain characters")
+    let printed = String::from_utf8(output.stdout).expect("plain characters");
+    assert_eq!(printed, reference::listing::listing(input));
+    printed
 }
 
 /// The messages end to end.

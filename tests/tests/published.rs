@@ -8,6 +8,7 @@ mod common;
 
 use std::collections::BTreeSet;
 
+use bivamolune_tests::call::hex;
 use bivamolune_tests::reference::compose::Request;
 use bivamolune_tests::wire::Line;
 use common::{messages, plain_request, u16_at, u32_at, Station};
@@ -15,11 +16,6 @@ use common::{messages, plain_request, u16_at, u32_at, Station};
 const A: Line = [0xE9, 0x64, 0x14, 0x19, 0xD1, 0x8C, 0x02, 0xB9, 0x49, 0x5F];
 const B: Line = [0x64, 0x01, 0xC3, 0x7E, 0xFB, 0x36, 0x6A, 0x87, 0xF4, 0x21];
 const C: Line = [0xE2, 0xD2, 0x0D, 0xF7, 0xD8, 0x5D, 0x3E, 0x41, 0x9C, 0xCD];
-
-/// A sequence as the publication writes it.
-fn hex(bytes: &[u8]) -> String {
-    bytes.iter().map(|byte| format!("{byte:02X}")).collect()
-}
 
 /// A composed message as group, sequence and the set of its dependencies.
 fn fields(message: &[u8]) -> (u32, String, BTreeSet<String>) {
@@ -94,8 +90,16 @@ const B2: &str = "6401C37EFB366A87F4210004";
 const C0: &str = "E2D20DF7D85D3E419CCD0002";
 const C1: &str = "E2D20DF7D85D3E419CCD0003";
 
-#[test]
-fn simple_delta_ordering() {
+/// The stations of A, B and C when C is to create C1, and A2, which B lacks.
+struct Space {
+    a: Station,
+    b: Station,
+    c: Station,
+    a2: Vec<u8>,
+}
+
+/// What both orderings begin with: A1, A2 and B1.
+fn up_to_c1() -> Space {
     let (mut a, mut b, mut c) = (history(), history(), history());
     let a1 = create(&mut a, A, 3, A1, &[C0]);
     receive(&mut b, &a1);
@@ -105,6 +109,17 @@ fn simple_delta_ordering() {
     let b1 = create(&mut b, B, 4, B1, &[A1]);
     receive(&mut a, &b1);
     receive(&mut c, &b1);
+    Space { a, b, c, a2 }
+}
+
+#[test]
+fn simple_delta_ordering() {
+    let Space {
+        mut a,
+        mut b,
+        mut c,
+        a2,
+    } = up_to_c1();
     let c1 = create(&mut c, C, 4, C1, &[A2, B1]);
     receive(&mut a, &c1);
     let b2 = create(&mut b, B, 4, B2, &[]);
@@ -128,15 +143,12 @@ fn simple_delta_ordering() {
 /// part: here B2, which needs nothing with priority, is in block 0 and stays before.
 #[test]
 fn priority_delta_ordering_by_our_blocks() {
-    let (mut a, mut b, mut c) = (history(), history(), history());
-    let a1 = create(&mut a, A, 3, A1, &[C0]);
-    receive(&mut b, &a1);
-    receive(&mut c, &a1);
-    let a2 = create(&mut a, A, 3, A2, &[]);
-    receive(&mut c, &a2);
-    let b1 = create(&mut b, B, 4, B1, &[A1]);
-    receive(&mut a, &b1);
-    receive(&mut c, &b1);
+    let Space {
+        mut a,
+        mut b,
+        mut c,
+        a2,
+    } = up_to_c1();
     let c1 = create_explicit(&mut c, C, 1, &[A2, B1]);
     receive(&mut a, &c1);
     let b2 = create(&mut b, B, 4, B2, &[]);

@@ -5,19 +5,20 @@ use Prim.Native.Nat.{ℕ, _≤_}
 use Rattle.model.specs.Layout.{capacity}
 use Rattle.model.specs.Message.{Message}
 use Rattle.model.specs.Calls.{empty, deliver}
-use Rattle.steps.specs.Answer.{packed}
-use Rattle.station.specs.declared.answer.Delivery.{Delivery}
-use Rattle.station.specs.declared.answer.Delivery.the-variants as delivery
-use Rattle.station.specs.declared.answer.Emptying.{Emptying}
-use Rattle.station.specs.declared.answer.Emptying.the-variants as emptying
+use Rattle.deliver.specs.declared.answer.Delivery.{Delivery}
+use Rattle.deliver.specs.declared.answer.Delivery.the-variants as delivery
+use Rattle.deliver.specs.declared.answer.Emptying.{Emptying}
+use Rattle.deliver.specs.declared.answer.Emptying.the-variants as emptying
+use Rattle.bivamolune.specs.Packing.{packed, Unpacks}
 
 pub record Empties (entry : List ℕ) (r : ℕ) (exit : List ℕ) : Type 0 where
   pub code : r ≡ empty entry .code
   pub image : exit ≡ empty entry .image
 
--- code + 256 × undos + 65536 × executions
+-- code + 256 × undos + 65536 × executions, and the header gives the three back
 pub record Delivers (image : List ℕ) (message : Message) (steps : List ℕ) (r : ℕ) (image-exit steps-exit : List ℕ) : Type 0 where
   pub answer : r ≡ packed (deliver image message steps .code) (deliver image message steps .undos) (deliver image message steps .executions)
+  pub parts : Unpacks r (deliver image message steps .code) (deliver image message steps .undos) (deliver image message steps .executions)
   pub image-after : image-exit ≡ deliver image message steps .image
   pub steps-after : steps-exit ≡ deliver image message steps .steps
 

@@ -1,2 +1,4 @@
+pub mod Packing
+pub mod PackingLaws
 pub mod Answers
 pub mod AnswerLaws

@@ -1,9 +1,11 @@
 // The calls that a station's host makes, for C: numbers and byte slices, a slice as a pointer and a length.
-use station::answer::Delivery;
-use station::answer::Emptying;
-use station::delivery::deliver;
-use station::emptying::empty;
-use steps::answer::pack_answer;
+mod packing;
+
+use crate::packing::pack_answer;
+use deliver::answer::Delivery;
+use deliver::answer::Emptying;
+use deliver::delivery::deliver;
+use deliver::emptying::empty;
 ghost use mathlib.Core.Path.{_≡_};
 ghost use Rattle.bivamolune.specs.Answers.{Empties, Delivers, packedBy, codeBy, Small};
 

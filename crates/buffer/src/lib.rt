@@ -80,21 +80,20 @@ pub fn copy_at(dst: &mut [u8], at: usize, src: &[u8], n: usize)
     }
 }
 
-// Whether two slices hold the same bytes.
+// Whether two slices hold the same bytes. It looks at all of them: so the compiler can take many at a time.
 pub fn same(a: &[u8], b: &[u8]) -> bool
     ensures { λ r. ⌜ r ≡ sameList (now (a .entry)) (now (b .entry)) ⌝ }
 {
     if a.len() != b.len() {
         return false;
     }
+    let mut ok = true;
     let mut i = 0;
     while i < a.len() {
-        if a[i] != b[i] {
-            return false;
-        }
+        ok = ok & (a[i] == b[i]);
         i += 1;
     }
-    true
+    ok
 }
 
 // Writes zeros from a place on to the end.

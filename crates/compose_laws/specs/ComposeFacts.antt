@@ -3,21 +3,20 @@
 use mathlib.Core.Path.{_≡_, refl, sym, _∙_, ap, subst}
 use mathlib.Core.Logic.{_⊎_, inl, inr, ⊎-elim}
 use mathlib.Core.Bool.{Bool, true, false, cond, not, _&&_}
-use mathlib.Core.List.{List, [], _∷_, _++_, map, List·Memᴰ·head, List·Memᴰ·tail, List·Memᴰ·not-nil, List·Memᴰ·cases-cons, List·Memᴰ·append-cases, List·Memᴰ·eq-of-singleton, Memᴰ·append-left, Memᴰ·append-right, Memᴰ·cast, Memᴰ·map, Memᴰ·of-map}
-use Prim.Native.Nat.{ℕ, zero, suc, _+_, _*_, _-_, _/_, _%_, _^_, _≤_, _<_, max}
+use mathlib.Core.List.{List, [], _∷_, List·Memᴰ·head, List·Memᴰ·tail, List·Memᴰ·not-nil, List·Memᴰ·append-cases, List·Memᴰ·eq-of-singleton, Memᴰ·cast, Memᴰ·map, Memᴰ·of-map}
+use Prim.Native.Nat.{ℕ, suc, _-_, _/_, _≤_, _<_, max}
 use native.Mathlib.Omega.{arith}
 use native.Mathlib.Nat.{not-suc-le-zero}
-use lib.ListN.{length}
-use lib.Dec.{T, eqb, ltb, leb, eqb→eq, eqb-refl, ltb→lt, lt→ltb, nltb→le, leb→le, nleb→lt, T-not, not-T}
+use lib.Dec.{T, eqb, ltb, eqb→eq, eqb-refl, ltb→lt, lt→ltb, nltb→le, T-not, not-T}
 use Rattle.model.specs.Lists.{_∈_, has, every, some?, keep, greatest, ascending}
 use Rattle.model.specs.Layout.{numbersOfLine}
-use Rattle.model.specs.Message.{Message, sequenceOf, lineOf, numberOf, predecessorOf, needsOf, numbered, numbersRight, dependenciesOf}
-use Rattle.model.specs.Order.{State, Ascending, sequencesOf, logOf, heldOf}
+use Rattle.model.specs.Message.{Message, sequenceOf, lineOf, numberOf, predecessorOf, numbered, numbersRight, dependenciesOf}
+use Rattle.model.specs.Order.{State, Ascending, sequencesOf, needs, logOf, heldOf}
 use Rattle.model.specs.Image.{Valid}
 use Rattle.model.specs.Compose.{newNumber, newSequence, unneeded, newDependencies}
 use Rattle.model.specs.Codes.{heldOn}
-use Rattle.order.specs.TestLaws.{and-l, and-r, and-i, decide, has→∈, ∈→has, keep-∈, ∈-keep, ∈-every, every-∈, ∈-some, greatest-≥}
-use Rattle.laws.specs.LogLaws.{log-received, log-held}
+use Rattle.order.specs.TestLaws.{and-l, and-r, and-i, decide, has→∈, ∈→has, keep-∈, ∈-keep, ∈-every, ∈-some, greatest-≥}
+use Rattle.laws.specs.LogLaws.{Logged, log-received, log-held}
 use Rattle.wire_laws.specs.MessageLaws.{passes-numbers}
 
 -- ---- lists
@@ -61,9 +60,6 @@ predecessor-∈ s p k = go (ltb 1 (numberOf s)) (ltb→lt 1 (numberOf s)) k
     go false f j = absurd (List·Memᴰ·not-nil j)
 
 module _ (S : State) (valid : Valid S) (line : ℕ) (free : T (not (heldOn S line))) (small : newNumber (logOf S) line < numbersOfLine) where
-  abbrev pub Logged : ℕ → Type 0
-  Logged s = (a : Message) × (a ∈ logOf S) × (sequenceOf a ≡ s)
-
   abbrev own : ℕ
   own = newSequence (logOf S) line
 
@@ -101,7 +97,7 @@ module _ (S : State) (valid : Valid S) (line : ℕ) (free : T (not (heldOn S lin
       held j = T-not (heldOn S line) free (∈-some (λ m. eqb (lineOf (sequenceOf m)) line) (heldOf S) a j on-line)
 
   -- its predecessor is logged
-  pub predecessor-logged : (p : ℕ) → p ∈ predecessorOf own → Logged p
+  pub predecessor-logged : (p : ℕ) → p ∈ predecessorOf own → Logged S p
   predecessor-logged p k =
       let f : Message → ℕ = λ m. cond (eqb (lineOf (sequenceOf m)) line) (numberOf (sequenceOf m)) 0 in
       let h : (1 < numberOf own) × (p ≡ own - 1) = predecessor-∈ own p k in
@@ -118,16 +114,16 @@ module _ (S : State) (valid : Valid S) (line : ℕ) (free : T (not (heldOn S lin
   dependencies = newDependencies S own
 
   abbrev chosen : ℕ → Bool
-  chosen d = unneeded (logOf S) d && not (has d (predecessorOf own))
+  chosen d = unneeded S d && not (has d (predecessorOf own))
 
   dependency-is : (d : ℕ) → d ∈ dependencies → (d ∈ sequencesOf (S .deltas)) × T (chosen d)
   unfolding newDependencies
   dependency-is d k = keep-∈ chosen (sequencesOf (S .deltas)) k
 
-  pub dependency-logged : (d : ℕ) → d ∈ dependencies → Logged d
+  pub dependency-logged : (d : ℕ) → d ∈ dependencies → Logged S d
   dependency-logged d k =
-      let t : T (unneeded (logOf S) d) = and-l (unneeded (logOf S) d) (not (has d (predecessorOf own))) (dependency-is d k .1) in
-      let h : T (has d (sequencesOf (logOf S))) = and-l (has d (sequencesOf (logOf S))) (not (some? (λ m. has d (needsOf m)) (logOf S))) t in
+      let t : T (unneeded S d) = and-l (unneeded S d) (not (has d (predecessorOf own))) (dependency-is d k .1) in
+      let h : T (has d (sequencesOf (logOf S))) = and-l (has d (sequencesOf (logOf S))) (not (some? (λ m. has d (needs S m)) (logOf S))) t in
       let r = Memᴰ·of-map sequenceOf (logOf S) (has→∈ d (sequencesOf (logOf S)) h) in
       (r .0, r .1, r .2)
 
@@ -147,15 +143,15 @@ module _ (S : State) (valid : Valid S) (line : ℕ) (free : T (not (heldOn S lin
 
   pub dependencies-not-predecessor : T (every (λ p. not (has p dependencies)) (predecessorOf own))
   dependencies-not-predecessor = ∈-every (λ p. not (has p dependencies)) (predecessorOf own) (λ p k. not-T (has p dependencies)
-      (λ t. T-not (has p (predecessorOf own)) (and-r (unneeded (logOf S) p) (not (has p (predecessorOf own))) (dependency-is p (has→∈ p dependencies t) .1)) (∈→has k)))
+      (λ t. T-not (has p (predecessorOf own)) (and-r (unneeded S p) (not (has p (predecessorOf own))) (dependency-is p (has→∈ p dependencies t) .1)) (∈→has k)))
 
   -- with the predecessor they are all that no logged delta needs
-  pub unneeded-named : (d : ℕ) → T (unneeded (logOf S) d) → (d ∈ predecessorOf own) ⊎ (d ∈ dependencies)
+  pub unneeded-named : (d : ℕ) → T (unneeded S d) → (d ∈ predecessorOf own) ⊎ (d ∈ dependencies)
   unfolding newDependencies
-  unneeded-named d t = ⊎-elim (λ h. inl (has→∈ d (predecessorOf own) h)) (λ h. inr (∈-keep chosen received (and-i (unneeded (logOf S) d) (not (has d (predecessorOf own))) t h))) (decide (has d (predecessorOf own)))
+  unneeded-named d t = ⊎-elim (λ h. inl (has→∈ d (predecessorOf own) h)) (λ h. inr (∈-keep chosen received (and-i (unneeded S d) (not (has d (predecessorOf own))) t h))) (decide (has d (predecessorOf own)))
     where
       received : d ∈ sequencesOf (S .deltas)
       received =
-          let h : T (has d (sequencesOf (logOf S))) = and-l (has d (sequencesOf (logOf S))) (not (some? (λ m. has d (needsOf m)) (logOf S))) t in
+          let h : T (has d (sequencesOf (logOf S))) = and-l (has d (sequencesOf (logOf S))) (not (some? (λ m. has d (needs S m)) (logOf S))) t in
           let r = Memᴰ·of-map sequenceOf (logOf S) (has→∈ d (sequencesOf (logOf S)) h) in
           Memᴰ·cast (sym (r .2)) (Memᴰ·map sequenceOf (log-received S (valid .ascends) (r .0) (r .1)))

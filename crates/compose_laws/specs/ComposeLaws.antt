@@ -3,97 +3,61 @@
 use mathlib.Core.Path.{_≡_, refl, sym, _∙_, ap, ap₂, subst}
 use mathlib.Core.Logic.{_⊎_, inl, inr, ⊎-elim}
 use mathlib.Core.Bool.{Bool, true, false, cond, not, _&&_, _||_}
-use mathlib.Core.Option.{Option, some}
-use mathlib.Core.List.{List, [], _∷_, _++_, map, reverse, List·Memᴰ·head, List·Memᴰ·tail, List·Memᴰ·not-nil, List·Memᴰ·cases-cons, List·Memᴰ·append-cases, Memᴰ·append-left, Memᴰ·append-right, Memᴰ·cast, Memᴰ·map, Memᴰ·of-map, map-append}
-use Prim.Native.Nat.{ℕ, zero, suc, _+_, _*_, _-_, _/_, _%_, _^_, _≤_, _<_, max}
+use mathlib.Core.Option.{some}
+use mathlib.Core.List.{List, [], _∷_, _++_, map, List·Memᴰ·append-cases, Memᴰ·append-left, Memᴰ·append-right, Memᴰ·map, Memᴰ·of-map, map-append}
+use Prim.Native.Nat.{ℕ, zero, suc, _+_, _-_, _/_, _^_, _≤_, _<_}
 use native.Mathlib.Omega.{arith}
 use native.Mathlib.Nat.{suc-ne-zero}
-use lib.ListN.{length, length-append, take, drop}
-use lib.Seq.{take-at, drop-length, drop-append-seam}
-use lib.Dec.{T, eqb, ltb, leb, eqb→eq, eqb-refl, ltb→lt, lt→ltb, leb→le, nleb→lt, nltb→le, le→leb, T-not, not-T, lit<}
-use Rattle.model.specs.Lists.{_∈_, has, every, some?, keep, greatest, ascending}
-use Rattle.model.specs.Bytes.{isBytes, number, field, parts}
+use lib.ListN.{length, take, drop}
+use lib.Seq.{take-at}
+use lib.Dec.{T, eqb, ltb, leb, eqb→eq, ltb→lt, leb→le, nleb→lt, nltb→le, le→leb, not-T}
+use Rattle.model.specs.Lists.{_∈_, has, every, some?}
+use Rattle.model.specs.Bytes.{isBytes, number, parts}
 use Rattle.model.specs.Layout.{imageSize, stepRoom, messageRoom, lineSize, sequenceSize, numbersOfLine, commandSize, mostDependencies, fieldLimit, capacity}
-use Rattle.model.specs.Message.{Message, sequenceOf, hasPriority, groupOf, blockOf, priorityOf, lineOf, numberOf, predecessorOf, dependenciesOf, needsOf, numbered, numbersRight, commandRight, blockRight, passes}
-use Rattle.model.specs.Order.{State, stateOf, add, insert, Ascending, sequencesOf, find, blockAlong, effectiveBlock, keyOf, keyWith, less, logOf, heldOf}
+use Rattle.model.specs.Message.{Message, sequenceOf, predecessorOf, dependenciesOf, commandRight, blockRight, passes}
+use Rattle.model.specs.Order.{State, add, insert, Ascending, sequencesOf, needs, placedBy, keyOf, less, logOf}
 use Rattle.model.specs.Image.{imageOf, Valid, stateIn, isImage}
-use Rattle.model.specs.Steps.{Step, undo, execute, common, stepsOf, undosOf, executionsOf, readSteps}
-use Rattle.model.specs.Compose.{messageOf, newNumber, newSequence, unneeded, newDependencies, newGroup, newBlock, composed}
-use Rattle.model.specs.Codes.{lowestCode, commandsSized, composeContent, heldOn, pastLimit, manyDependencies, composeConditions, smallSteps, conflicts, full, present}
-use Rattle.model.specs.Calls.{Composed, composeAnswer, composeCode, compose, Delivered, deliver}
+use Rattle.model.specs.Steps.{Step, execute, common, stepsOf, undosOf, readSteps}
+use Rattle.model.specs.Compose.{newNumber, newSequence, unneeded, newDependencies, newGroup, newBlock, composed}
+use Rattle.model.specs.Codes.{commandsSized, composeContent, heldOn, pastLimit, manyDependencies, smallSteps, conflicts, full, present}
+use Rattle.model.specs.Calls.{Composed, composeAnswer, composeCode, compose, deliver}
 use Rattle.model.specs.PlainStation.{accepts, receive}
 use Rattle.model.specs.Run.{delivery}
-use Rattle.order.specs.TestLaws.{and-l, and-r, and-i, or-l, or-r, or-e, decide, has→∈, ∈→has, keep-∈, ∈-keep, every-∈, ∈-every, some-∈, ∈-some, greatest-≥, greatest-cong}
+use Rattle.order.specs.TestLaws.{and-l, and-r, and-i, nor-l, nor-r, decide, has→∈, ∈→has, some-∈}
 use Rattle.order.specs.KeyOrder.{less-total}
-use Rattle.order.specs.ListingLaws.{after, after-has, after-from}
+use Rattle.order.specs.ListingLaws.{after-has}
 use Rattle.order.specs.Extension.{extends}
 use Rattle.order.specs.StepLaws.{common-longer, steps-longer}
-use Rattle.laws.specs.SetLaws.{ascending-names, find-here, insert-from, insert-keeps, insert-has, insert-ascending, not-eqb}
-use Rattle.laws.specs.LogLaws.{keys-differ, log-complete, log-received, log-held, log-closed}
+use Rattle.laws.specs.SetLaws.{ascending-names, insert-from, insert-keeps, insert-has, insert-ascending}
+use Rattle.laws.specs.LogLaws.{Logged, keys-differ, log-received}
+use Rattle.laws.specs.EffectiveLaws.{keys-agree}
 use Rattle.wire_laws.specs.MessageLaws.{sequence-range}
 use Rattle.wire_laws.specs.BytesLaws.{number-range}
-use Rattle.laws.specs.ImageLaws.{image-declared, image-state}
+use Rattle.laws.specs.ImageLaws.{image-own, own-valid}
 use Rattle.laws.specs.DeliverLaws.{code-zero, receive-accepted}
 use Rattle.run_laws.specs.RunLaws.{CallFacts, call-facts}
 use Rattle.compose_laws.specs.ComposedMessage.{Parts, made-passes, made-sequence, made-dependencies}
 use Rattle.compose_laws.specs.ComposeFacts.{own-numbered, own-new, predecessor-logged, dependency-logged, dependencies-ascend, dependencies-numbered, dependencies-other, dependencies-not-predecessor, unneeded-named}
 
 -- ---- a delta that needs every logged delta that none needs, and nothing that is not logged: the log goes on with it
-find-skip : (m : Message) (l : List Message) (s : ℕ) → (sequenceOf m ≡ s → ⊥) → find (m ∷ l) s ≡ find l s
-find-skip m l s n = go (eqb (sequenceOf m) s) (eqb→eq (sequenceOf m) s)
-  where
-    go : (c : Bool) → (T c → sequenceOf m ≡ s) → cond c m (find l s) ≡ find l s
-    go true f = absurd (n (f tt))
-    go false f = refl
-
-find-insert : (m : Message) (l : List Message) (s : ℕ) → (sequenceOf m ≡ s → ⊥) → find (insert m l) s ≡ find l s
-find-insert m [] s n = find-skip m [] s n
-find-insert m (x ∷ l) s n = go (ltb (sequenceOf m) (sequenceOf x)) (eqb (sequenceOf m) (sequenceOf x)) (find-insert m l s n)
-  where
-    go : (b c : Bool) → find (insert m l) s ≡ find l s → find (cond b (m ∷ x ∷ l) (cond c (x ∷ l) (x ∷ insert m l))) s ≡ find (x ∷ l) s
-    go true c ih = find-skip m (x ∷ l) s n
-    go false true ih = refl
-    go false false ih = ap (cond (eqb (sequenceOf x) s) x) ih
-
 module _ (S : State) (ascends : Ascending (S .deltas)) (m : Message) (fresh : (a : Message) → a ∈ S .deltas → sequenceOf m ≡ sequenceOf a → ⊥) where
-  abbrev Logged : ℕ → Type 0
-  Logged s = (a : Message) × (a ∈ logOf S) × (sequenceOf a ≡ s)
-
-  block-agrees : (n s : ℕ) → Logged s → blockAlong n (insert m (S .deltas)) s ≡ blockAlong n (S .deltas) s
-  block-agrees zero s k = refl
-  block-agrees (suc n) s k =
-      ap (λ (x : Message). max (blockOf x) (greatest (blockAlong n (insert m (S .deltas))) (needsOf x))) (find-insert m (S .deltas) s other)
-      ∙ ap (max (blockOf (find (S .deltas) s))) (greatest-cong (blockAlong n (insert m (S .deltas))) (blockAlong n (S .deltas)) (needsOf (find (S .deltas) s)) (λ t j. block-agrees n t (within t j)))
-    where
-      it : find (S .deltas) s ≡ k .0
-      it = subst (λ (t : ℕ). find (S .deltas) t ≡ k .0) (k .2) (find-here (S .deltas) ascends (k .0) (log-received S ascends (k .0) (k .1)))
-
-      other : sequenceOf m ≡ s → ⊥
-      other e = fresh (k .0) (log-received S ascends (k .0) (k .1)) (e ∙ sym (k .2))
-
-      within : (t : ℕ) → t ∈ needsOf (find (S .deltas) s) → Logged t
-      within t j = log-closed S ascends (k .0) (k .1) t (subst (λ (y : Message). t ∈ needsOf y) it j)
-
-  keys-agree : (a : Message) → a ∈ logOf S → keyOf (add m S) a ≡ keyOf S a
-  keys-agree a k = ap (λ (e : ℕ). keyWith e a) (block-agrees capacity (sequenceOf a) (a, k, refl))
-
-  covers : ((s : ℕ) → T (unneeded (logOf S) s) → s ∈ needsOf m)
-      → (a : Message) → a ∈ logOf S → (sequenceOf a ∈ needsOf m) ⊎ ((b : Message) × (b ∈ logOf S) × (sequenceOf a ∈ needsOf b))
+  covers : ((s : ℕ) → T (unneeded S s) → s ∈ needs S m)
+      → (a : Message) → a ∈ logOf S → (sequenceOf a ∈ needs S m) ⊎ ((b : Message) × (b ∈ logOf S) × (sequenceOf a ∈ needs S b))
   covers all a k = ⊎-elim (λ t. inr (needed t))
-      (λ t. inl (all (sequenceOf a) (and-i (has (sequenceOf a) (sequencesOf (logOf S))) (not (some? (λ x. has (sequenceOf a) (needsOf x)) (logOf S))) (∈→has (Memᴰ·map sequenceOf k)) t)))
-      (decide (some? (λ x. has (sequenceOf a) (needsOf x)) (logOf S)))
+      (λ t. inl (all (sequenceOf a) (and-i (has (sequenceOf a) (sequencesOf (logOf S))) (not (some? (λ x. has (sequenceOf a) (needs S x)) (logOf S))) (∈→has (Memᴰ·map sequenceOf k)) t)))
+      (decide (some? (λ x. has (sequenceOf a) (needs S x)) (logOf S)))
     where
-      needed : T (some? (λ x. has (sequenceOf a) (needsOf x)) (logOf S)) → (b : Message) × (b ∈ logOf S) × (sequenceOf a ∈ needsOf b)
-      needed t = let r = some-∈ (λ x. has (sequenceOf a) (needsOf x)) (logOf S) t in (r .0, r .1, has→∈ (sequenceOf a) (needsOf (r .0)) (r .2))
+      needed : T (some? (λ x. has (sequenceOf a) (needs S x)) (logOf S)) → (b : Message) × (b ∈ logOf S) × (sequenceOf a ∈ needs S b)
+      needed t = let r = some-∈ (λ x. has (sequenceOf a) (needs S x)) (logOf S) t in (r .0, r .1, has→∈ (sequenceOf a) (needs S (r .0)) (r .2))
 
-  pub log-extends : ((s : ℕ) → s ∈ needsOf m → Logged s) → ((s : ℕ) → T (unneeded (logOf S) s) → s ∈ needsOf m)
+  pub log-extends : ((s : ℕ) → s ∈ needs S m → Logged S s) → ((s : ℕ) → T (unneeded S s) → s ∈ needs S m)
       → (rest : List Message) × (logOf (add m S) ≡ logOf S ++ m ∷ rest)
-  unfolding logOf
+  unfolding logOf needs
   log-extends needed all =
-      extends sequenceOf needsOf less less-total (keyOf S) (keyOf (add m S)) (S .deltas) (insert m (S .deltas)) m (ascending-names (S .deltas) ascends) (keys-differ S ascends)
+      extends sequenceOf (needs S) less less-total (keyOf S) (keyOf (add m S)) (S .deltas) (insert m (S .deltas)) m (ascending-names (S .deltas) ascends) (keys-differ S ascends)
       (keys-differ (add m S) (insert-ascending m (S .deltas) ascends))
       (insert-has m (S .deltas) (λ x k e. absurd (fresh x k e))) (λ a k. insert-keeps m (S .deltas) a k) (λ a k. insert-from m (S .deltas) a k)
-      keys-agree (λ s k. let r = needed s k in subst (λ (t : ℕ). t ∈ after sequenceOf needsOf [] (logOf S)) (r .2) (after-has sequenceOf needsOf (logOf S) [] (r .1)))
+      (keys-agree S ascends m fresh) (λ s k. let r = needed s k in subst (λ (t : ℕ). t ∈ placedBy (logOf S)) (r .2) (after-has sequenceOf (logOf S) [] (r .1)))
       (λ a k e. fresh a (log-received S ascends a k) (sym e)) (covers all)
 
 -- ---- what code 0 says of compose's arguments
@@ -123,14 +87,6 @@ none-applies false false false false false false false q = (tt, tt, tt, tt, tt, 
 not-not : (b : Bool) → T (not (not b)) → T b
 not-not true t = tt
 not-not false t = t
-
-nor-l : (a b : Bool) → T (not (a || b)) → T (not a)
-nor-l true b t = t
-nor-l false b t = tt
-
-nor-r : (a b : Bool) → T (not (a || b)) → T (not b)
-nor-r true b t = absurd t
-nor-r false b t = t
 
 granted : (b line commands : List ℕ) (flag priority room : ℕ) → composeCode b line commands flag priority room ≡ 0 → Granted b line commands flag priority room
 unfolding composeCode
@@ -168,7 +124,7 @@ module _ (b line commands : List ℕ) (flag priority room : ℕ) (g : Granted b 
   message = composed S (number line) commands (eqb flag 1) priority
 
   valid : Valid S
-  valid = subst Valid (image-state b (image-declared b .0 (g .image))) (image-declared b .0 (g .image) .valid)
+  valid = own-valid b (g .image)
 
   priority-fits : priority ≤ fieldLimit
   priority-fits =
@@ -218,7 +174,8 @@ module _ (b line commands : List ℕ) (flag priority room : ℕ) (g : Granted b 
   unfolding composed
   composed-dependencies = made-dependencies (eqb flag 1) own (newGroup (logOf S) own) (newBlock S (eqb flag 1)) priority (newDependencies S own) commands parts-right
 
-  composed-needs : needsOf message ≡ predecessorOf own ++ newDependencies S own
+  composed-needs : needs S message ≡ predecessorOf own ++ newDependencies S own
+  unfolding needs
   composed-needs = ap₂ (λ (s : ℕ) (d : List ℕ). predecessorOf s ++ d) composed-sequence composed-dependencies
 
   composed-new : (a : Message) → a ∈ S .deltas → sequenceOf message ≡ sequenceOf a → ⊥
@@ -228,12 +185,12 @@ module _ (b line commands : List ℕ) (flag priority room : ℕ) (g : Granted b 
   pub composed-extends : (rest : List Message) × (logOf (add message S) ≡ logOf S ++ message ∷ rest)
   composed-extends = log-extends S (valid .ascends) message composed-new needed all
     where
-      needed : (s : ℕ) → s ∈ needsOf message → (a : Message) × (a ∈ logOf S) × (sequenceOf a ≡ s)
+      needed : (s : ℕ) → s ∈ needs S message → Logged S s
       needed s k =
           ⊎-elim (predecessor-logged S valid (number line) (g .free) (g .number-small) s) (dependency-logged S valid (number line) (g .free) (g .number-small) s)
           (List·Memᴰ·append-cases (predecessorOf own) (subst (λ (l : List ℕ). s ∈ l) composed-needs k))
 
-      all : (s : ℕ) → T (unneeded (logOf S) s) → s ∈ needsOf message
+      all : (s : ℕ) → T (unneeded S s) → s ∈ needs S message
       all s t = subst (λ (l : List ℕ). s ∈ l) (sym composed-needs)
           (⊎-elim (λ k. Memᴰ·append-left (newDependencies S own) k) (λ k. Memᴰ·append-right (predecessorOf own) k) (unneeded-named S valid (number line) (g .free) (g .number-small) s t))
 
@@ -241,10 +198,10 @@ module _ (b line commands : List ℕ) (flag priority room : ℕ) (g : Granted b 
   pub composed-accepted : length (S .deltas) < capacity → (room′ : ℕ) → stepRoom ≤ room′ → T (accepts S message room′)
   unfolding accepts
   composed-accepted h room′ r =
-      let a : T (not (smallSteps room′)) = not-T (smallSteps room′) (λ t. let k : room′ < 2032 = ltb→lt room′ stepRoom t in let z : ⊥ = omega arith in absurd z) in
+      let a : T (not (smallSteps room′)) = not-T (smallSteps room′) (λ t. let k : room′ < stepRoom = ltb→lt room′ stepRoom t in let z : ⊥ = omega arith in absurd z) in
       let c : T (passes message) = composed-passes in
       let d : T (not (conflicts S message)) = not-T (conflicts S message) (λ t. new (and-l (present S (sequenceOf message)) _ t)) in
-      let e : T (not (full S message)) = not-T (full S message) (λ t. let k : 64 ≤ length (S .deltas) = leb→le capacity (length (S .deltas)) (and-l (leb capacity (length (S .deltas))) (not (present S (sequenceOf message))) t) in let z : ⊥ = omega arith in absurd z) in
+      let e : T (not (full S message)) = not-T (full S message) (λ t. let k : capacity ≤ length (S .deltas) = leb→le capacity (length (S .deltas)) (and-l (leb capacity (length (S .deltas))) (not (present S (sequenceOf message))) t) in let z : ⊥ = omega arith in absurd z) in
       search and-i depth 6
     where
       new : T (present S (sequenceOf message)) → ⊥
@@ -297,7 +254,7 @@ granted-promise b line commands flag priority room g = record {
     m = composed S′ (number line) commands (eqb flag 1) priority
 
     is : b ≡ imageOf S′
-    is = image-declared b .0 (g .image) .image ∙ ap imageOf (image-state b (image-declared b .0 (g .image)))
+    is = image-own b (g .image)
 
     facts : (steps : List ℕ) → CallFacts S′ (receive S′ m (length steps)) (delivery m steps) (deliver b m steps)
     facts steps = call-facts S′ (valid b line commands flag priority room g) (delivery m steps) (deliver b m steps) (ap (λ (i : List ℕ). deliver i m steps) is)

@@ -1,26 +1,21 @@
 -- A message made of its parts: its fields are the parts, and it passes 3 to 6 where its parts are right.
 use mathlib.Core.Path.{_≡_, refl, sym, _∙_, ap, ap₂, subst}
-use mathlib.Core.Logic.{_⊎_, inl, inr, ⊎-elim}
-use mathlib.Core.Bool.{Bool, true, false, cond, not, _&&_, _||_}
-use mathlib.Core.List.{List, [], _∷_, _++_, map, List·Memᴰ·head, List·Memᴰ·tail, List·Memᴰ·not-nil, Memᴰ·of-map}
-use Prim.Native.Nat.{ℕ, zero, suc, _+_, _*_, _-_, _/_, _%_, _^_, _≤_, _<_}
+use mathlib.Core.Bool.{Bool, true, false, cond, not, _&&_}
+use mathlib.Core.List.{List, [], _∷_, _++_, map, List·Memᴰ·head, List·Memᴰ·tail, Memᴰ·of-map}
+use Prim.Native.Nat.{ℕ, _+_, _*_, _/_, _%_, _^_, _≤_, _<_}
 use native.Mathlib.Omega.{arith}
-use native.Mathlib.Nat.{div-add-mod'}
-use lib.ListN.{length, length-append, length-map, take, drop}
-use lib.Seq.{drop-drop, drop-at, take-length}
-use lib.Dec.{T, eqb, ltb, leb, eqb→eq, eqb-refl, leb→le, le→leb, lt→ltb, ltb→lt, lit<}
+use lib.ListN.{length, length-append, length-map, drop}
+use lib.Seq.{drop-drop, drop-at}
+use lib.Dec.{T, eqb, ltb, leb, eqb→eq, leb→le, le→leb, lt→ltb}
 use Rattle.model.specs.Lists.{_∈_, has, every, ascending}
 use Rattle.model.specs.Bytes.{isBytes, number, bytes, field, parts, join}
 use Rattle.model.specs.Layout.{kindAt, priorityFlagAt, lengthAt, dependenciesOffsetAt, commandsOffsetAt, firstZerosAt, lastZerosAt, headerSize, sequenceSize, commandSize, mostDependencies, mostCommands, fieldLimit}
 use Rattle.model.specs.Message.{Message, hasPriority, dependencyCount, commandCount, commandsStart, totalLength, sequenceOf, groupOf, blockOf, priorityOf, dependenciesOf, commandsOf, predecessorOf, numbered, layoutRight, numbersRight, dependenciesRight, commandRight, blockRight, contentRight, passes}
 use Rattle.model.specs.Compose.{messageOf}
 use Rattle.model.specs.Codes.{commandsSized}
-use Rattle.order.specs.TestLaws.{and-l, and-r, and-i}
+use Rattle.order.specs.TestLaws.{eq→eqb, and-l, and-r, and-i}
 use Rattle.wire_laws.specs.BytesLaws.{length-bytes, number-bytes, bytes-isBytes, isBytes-append, parts-join, length-join}
 use Rattle.wire_laws.specs.MessageLaws.{passes-all}
-
-eq→eqb : (a b : ℕ) → a ≡ b → T (eqb a b)
-eq→eqb a b e = subst (λ (x : ℕ). T (eqb a x)) e (eqb-refl a)
 
 one-byte : (x : ℕ) → number (x ∷ []) ≡ x
 one-byte x = omega arith
@@ -65,13 +60,13 @@ module _ (flag : Bool) (s group block priority : ℕ) (deps commands : List ℕ)
     made-sequence = number-bytes sequenceSize s (p .sequence-fits)
 
     made-group : groupOf made ≡ group
-    made-group = number-bytes 4 group (let h : group ≤ 2147483647 = p .group-fits in omega arith)
+    made-group = number-bytes 4 group (let h : group ≤ fieldLimit = p .group-fits in omega arith)
 
     made-block : blockOf made ≡ block
-    made-block = number-bytes 4 block (let h : block ≤ 2147483647 = p .block-fits in omega arith)
+    made-block = number-bytes 4 block (let h : block ≤ fieldLimit = p .block-fits in omega arith)
 
     made-priority : priorityOf made ≡ priority
-    made-priority = number-bytes 4 priority (let h : priority ≤ 2147483647 = p .priority-fits in omega arith)
+    made-priority = number-bytes 4 priority (let h : priority ≤ fieldLimit = p .priority-fits in omega arith)
 
     made-dependency-count : dependencyCount made ≡ length deps
     made-dependency-count = one-byte (length deps)
@@ -104,8 +99,8 @@ module _ (flag : Bool) (s group block priority : ℕ) (deps commands : List ℕ)
     sized-least : commandSize ≤ length commands
     sized-least = let t : T (commandsSized commands) = p .commands-sized in let h : T (leb commandSize (length commands)) = search (and-l, and-r) depth 6 in leb→le commandSize (length commands) h
 
-    sized-most : length commands ≤ 64
-    sized-most = let t : T (commandsSized commands) = p .commands-sized in let h : T (leb (length commands) 64) = search (and-l, and-r) depth 6 in leb→le (length commands) 64 h
+    sized-most : length commands ≤ commandSize * mostCommands
+    sized-most = let t : T (commandsSized commands) = p .commands-sized in let h : T (leb (length commands) (commandSize * mostCommands)) = search (and-l, and-r) depth 6 in leb→le (length commands) (commandSize * mostCommands) h
 
     sized-eights : length commands % commandSize ≡ 0
     sized-eights = let t : T (commandsSized commands) = p .commands-sized in let h : T (eqb (length commands % commandSize) 0) = search (and-l, and-r) depth 6 in eqb→eq (length commands % commandSize) 0 h
@@ -120,7 +115,7 @@ module _ (flag : Bool) (s group block priority : ℕ) (deps commands : List ℕ)
     made-bytes : T (isBytes made)
     made-bytes =
         let few : length deps ≤ 8 = p .few in
-        let most : length commands ≤ 64 = sized-most in
+        let most : length commands ≤ commandSize * mostCommands = sized-most in
         and-i (ltb (cond flag 1 0) 256) (isBytes (length deps ∷ rest)) (small flag)
         (and-i (ltb (length deps) 256) (isBytes rest) (lt→ltb (length deps) 256 (omega arith))
         (and-i (ltb (length commands / commandSize) 256) (isBytes fields) (lt→ltb (length commands / commandSize) 256 (omega arith)) fields-bytes))
@@ -150,7 +145,7 @@ module _ (flag : Bool) (s group block priority : ℕ) (deps commands : List ℕ)
         let D = dependencyCount made in
         let C = commandCount made in
         let few : length deps ≤ 8 = p .few in
-        let most : length commands ≤ 64 = sized-most in
+        let most : length commands ≤ commandSize * mostCommands = sized-most in
         let least : 8 ≤ length commands = sized-least in
         let d : D ≡ length deps = made-dependency-count in
         let c : C ≡ length commands / 8 = made-command-count in
@@ -162,11 +157,11 @@ module _ (flag : Bool) (s group block priority : ℕ) (deps commands : List ℕ)
         let h₄ : T (leb 1 C) = le→leb 1 C (omega arith) in
         let h₅ : T (leb C mostCommands) = le→leb C 8 (omega arith) in
         let h₆ : T (eqb (field made lengthAt 2) (totalLength D C)) =
-        eq→eqb (field made lengthAt 2) (totalLength D C) (number-bytes 2 (totalLength (length deps) (length commands / commandSize)) (omega arith) ∙ sym t) in
-        let h₇ : T (eqb (length made) (totalLength D C)) = eq→eqb (length made) (totalLength D C) (made-length ∙ sym t) in
+        eq→eqb (number-bytes 2 (totalLength (length deps) (length commands / commandSize)) (omega arith) ∙ sym t) in
+        let h₇ : T (eqb (length made) (totalLength D C)) = eq→eqb (made-length ∙ sym t) in
         let h₈ : T (eqb (field made dependenciesOffsetAt 2) headerSize) = tt in
         let h₉ : T (eqb (field made commandsOffsetAt 2) (commandsStart D)) =
-        eq→eqb (field made commandsOffsetAt 2) (commandsStart D) (number-bytes 2 (commandsStart (length deps)) (omega arith) ∙ sym (ap commandsStart d)) in
+        eq→eqb (number-bytes 2 (commandsStart (length deps)) (omega arith) ∙ sym (ap commandsStart d)) in
         let h₁₀ : T (eqb (field made firstZerosAt 2) 0) = tt in
         let h₁₁ : T (eqb (field made lastZerosAt 4) 0) = tt in
         search and-i depth 14

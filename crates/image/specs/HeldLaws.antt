@@ -1,22 +1,22 @@
 -- The places that are not the log's are those of the held messages, by ascending sequence.
-use mathlib.Core.Path.{_≡_, refl, sym, _∙_, ap, ap₂, subst}
+use mathlib.Core.Path.{_≡_, refl, sym, _∙_, ap, ap₂}
 use mathlib.Core.Logic.{⊎-elim}
 use mathlib.Core.Bool.{Bool, true, false, cond, not, _||_}
-use mathlib.Core.List.{List, [], _∷_, _++_, map, append-nil, List·Memᴰ·head, List·Memᴰ·tail, List·Memᴰ·not-nil, List·Memᴰ·cases-cons, List·Memᴰ·append-cases}
+use mathlib.Core.List.{List, [], _∷_, _++_, map, map-append, append-nil, List·Memᴰ·head, List·Memᴰ·tail, List·Memᴰ·not-nil, List·Memᴰ·cases-cons, List·Memᴰ·append-cases}
 use Prim.Native.Nat.{ℕ, zero, suc, _+_, _≤_, _<_}
 use native.Mathlib.Omega.{arith}
-use native.Mathlib.Nat.{le-of-suc-le-suc}
 use native.Mathlib.Numerals.{add-one}
-use lib.Dec.{T, eqb, eqb→eq, eqb-refl}
 use lib.ListN.{length, take, getD, length-append, length-map}
 use lib.Seq.{take-suc, take-length}
 use Rattle.model.specs.Lists.{_∈_, has, keep}
 use Rattle.model.specs.Message.{Message, sequenceOf}
-use Rattle.model.specs.Order.{Ascending, sequencesOf, logOf, heldOf}
-use Rattle.order.specs.TestLaws.{keep-∈, keep-length}
-use Rattle.table.specs.Table.{messageFrom, deltasOf, setIn}
-use Rattle.image.specs.Places.{messagesAt, below, othersBelow, Placed, Listed}
-use Rattle.image.specs.PlaceLaws.{at-member, listed-placed}
+use Rattle.model.specs.Order.{sequencesOf, logOf, heldOf}
+use Rattle.order.specs.TestLaws.{keep-∈, keep-length, same-eqb}
+use Rattle.laws.specs.LogLaws.{held-by-log}
+use Rattle.table.specs.Table.{messageFrom, deltasOf, deltasAt, setIn}
+use Rattle.table.specs.PlaceLaws.{one-place}
+use Rattle.image.specs.LogPlaces.{below, othersBelow, TablePlaces, LogPlaces}
+use Rattle.image.specs.LogPlaceLaws.{log-inside}
 
 -- ---- one number more
 keep-snoc : {A : Type 0} (p : A → Bool) (l : List A) (x : A) → keep p (l ++ (x ∷ [])) ≡ keep p l ++ cond (p x) (x ∷ []) []
@@ -55,10 +55,6 @@ pub others-less : (count : ℕ) (places : List ℕ) (i : ℕ) → i ∈ othersBe
 others-less count places i k = below-less count i (keep-∈ (λ j. not (has j places)) (below count) k .0)
 
 -- ---- a list kept by its places is kept by its elements
-map-append : {A B : Type 0} (f : A → B) (l k : List A) → map f (l ++ k) ≡ map f l ++ map f k
-map-append f [] k = refl
-map-append {A} {B} f (x ∷ l) k = ap (λ (z : List B). f x ∷ z) (map-append f l k)
-
 map-cond : {A B : Type 0} (f : A → B) (b : Bool) (x : A) → map f (cond b (x ∷ []) []) ≡ cond b (f x ∷ []) []
 map-cond f true x = refl
 map-cond f false x = refl
@@ -74,31 +70,7 @@ keep-places {A} p q l d f (suc n) h =
     (map-cond (λ i. getD l i d) (p n) n ∙ ap (λ (b : Bool). cond b (x ∷ []) []) (f n h))
     ∙ sym (keep-snoc q (take n l) x) ∙ ap (keep q) (sym (take-suc l n d h))
 
--- ---- in an ascending list a sequence stands at one place
-ascending-places : (l : List Message) → Ascending l → (i j : ℕ) → i < j → j < length l → sequenceOf (getD l i []) < sequenceOf (getD l j [])
-ascending-places [] a i j h k = absurd (let z : ⊥ = omega arith in z)
-ascending-places (m ∷ l) a i zero h k = absurd (let z : ⊥ = omega arith in z)
-ascending-places (m ∷ l) a zero (suc j) h k = a .0 (getD l j []) (at-member l j [] (le-of-suc-le-suc k))
-ascending-places (m ∷ l) a (suc i) (suc j) h k = ascending-places l (a .1) i j (le-of-suc-le-suc h) (le-of-suc-le-suc k)
-
-one-place : (l : List Message) → Ascending l → (i j : ℕ) → i < length l → j < length l → sequenceOf (getD l i []) ≡ sequenceOf (getD l j []) → i ≡ j
-one-place l a i j h k e =
-    let before : i < j → ⊥ = λ u. let z : sequenceOf (getD l i []) < sequenceOf (getD l j []) = ascending-places l a i j u k in omega arith in
-    let behind : j < i → ⊥ = λ u. let z : sequenceOf (getD l j []) < sequenceOf (getD l i []) = ascending-places l a j i u h in omega arith in
-    omega arith
-
--- ---- so a place is among places exactly if its sequence is among theirs
-same-test : (a b : Bool) → (T a → T b) → (T b → T a) → a ≡ b
-same-test true true f g = refl
-same-test true false f g = absurd (f tt)
-same-test false true f g = absurd (g tt)
-same-test false false f g = refl
-
-same-eqb : (a b x y : ℕ) → (a ≡ b → x ≡ y) → (x ≡ y → a ≡ b) → eqb a b ≡ eqb x y
-same-eqb a b x y f g =
-    same-test (eqb a b) (eqb x y) (λ t. subst (λ (z : ℕ). T (eqb x z)) (f (eqb→eq a b t)) (eqb-refl x))
-    (λ t. subst (λ (z : ℕ). T (eqb a z)) (g (eqb→eq x y t)) (eqb-refl a))
-
+-- ---- a sequence stands at one place: so a place is among places exactly if its sequence is among theirs
 has-places : (at : ℕ → Message) (i : ℕ) (places : List ℕ) → ((j : ℕ) → j ∈ places → sequenceOf (at i) ≡ sequenceOf (at j) → i ≡ j)
     → has i places ≡ has (sequenceOf (at i)) (sequencesOf (map at places))
 has-places at i [] f = refl
@@ -107,28 +79,31 @@ has-places at i (j ∷ places) f =
     (has-places at i places (λ n k. f n (List·Memᴰ·tail k)))
 
 -- ---- the other places hold the held messages
-pub others-held : (pool starts places : List ℕ) → Listed pool starts places
-    → messagesAt pool starts (othersBelow (length starts) places) ≡ heldOf (setIn pool starts)
-unfolding heldOf
+pub others-held : (pool starts places : List ℕ) → LogPlaces pool starts places
+    → deltasAt (deltasOf pool starts) (othersBelow (length starts) places) ≡ heldOf (setIn pool starts)
 others-held pool starts places l =
-    keep-places (λ i. not (has i places)) (λ m. not (has (sequenceOf m) (sequencesOf (logOf (setIn pool starts))))) deltas [] tests (length starts) (omega (arith, count))
-    ∙ ap (keep (λ m. not (has (sequenceOf m) (sequencesOf (logOf (setIn pool starts)))))) (ap (λ (n : ℕ). take n deltas) (sym count) ∙ take-length deltas)
+    keep-places (λ i. not (has i places)) unlogged deltas [] tests (length starts) (omega (arith, count))
+    ∙ ap (keep unlogged) (ap (λ (n : ℕ). take n deltas) (sym count) ∙ take-length deltas)
+    ∙ sym (held-by-log (setIn pool starts) (l .holds .ascends))
   where
     deltas : List Message
     deltas = deltasOf pool starts
 
+    unlogged : Message → Bool
+    unlogged m = not (has (sequenceOf m) (sequencesOf (logOf (setIn pool starts))))
+
     count : length deltas ≡ length starts
     count = length-map starts (messageFrom pool)
 
-    tests : (i : ℕ) → i < length deltas → not (has i places) ≡ not (has (sequenceOf (getD deltas i [])) (sequencesOf (logOf (setIn pool starts))))
+    tests : (i : ℕ) → i < length deltas → not (has i places) ≡ unlogged (getD deltas i [])
     tests i h = ap not
         (has-places (λ (j : ℕ). getD deltas j []) i places
-        (λ j k. one-place deltas (l .holds .ascends) i j h (omega (arith, count, listed-placed pool starts places l .inside j k)))
+        (λ j k. one-place deltas (l .holds .ascends) i j h (omega (arith, count, log-inside pool starts places l .inside j k)))
         ∙ ap (λ (x : List Message). has (sequenceOf (getD deltas i [])) (sequencesOf x)) (l .log))
 
-pub others-placed : (pool starts places : List ℕ) → Listed pool starts places → Placed pool starts (othersBelow (length starts) places)
-others-placed pool starts places l = record { holds = l .holds; inside = others-less (length starts) places }
+pub others-inside : (pool starts places : List ℕ) → LogPlaces pool starts places → TablePlaces pool starts (othersBelow (length starts) places)
+others-inside pool starts places l = record { holds = l .holds; inside = others-less (length starts) places }
 
-pub others-count : (pool starts places : List ℕ) → Listed pool starts places → length (othersBelow (length starts) places) ≡ length (heldOf (setIn pool starts))
+pub others-count : (pool starts places : List ℕ) → LogPlaces pool starts places → length (othersBelow (length starts) places) ≡ length (heldOf (setIn pool starts))
 others-count pool starts places l =
     sym (length-map (othersBelow (length starts) places) (λ (i : ℕ). getD (deltasOf pool starts) i [])) ∙ ap length (others-held pool starts places l)

@@ -1,6 +1,6 @@
-pub mod Places
-pub mod PlaceLaws
+pub mod LogPlaces
+pub mod LogPlaceLaws
 pub mod HeldLaws
 pub mod Pieces
 pub mod PieceLaws
-pub mod WriteLaws
+pub mod SectionLaws

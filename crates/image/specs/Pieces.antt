@@ -1,21 +1,28 @@
--- An image in pieces: a piece written at a place, and the bytes of the header.
+-- An image in pieces: a piece pasted at a place, and the bytes of the header in its two halves.
 use mathlib.Core.Path.{_≡_}
 use mathlib.Core.List.{List, _++_}
-use Prim.Native.Nat.{ℕ, _+_}
+use Prim.Native.Nat.{ℕ, _+_, _-_}
 use lib.ListN.{length}
 use lib.Seq.{paste}
 use Rattle.model.specs.Bytes.{bytes}
-use Rattle.model.specs.Layout.{setpointsStart, messagesStart}
+use Rattle.model.specs.Layout.{zerosAt, setpointsStart}
 
 -- A list with a piece, the whole of it, in place of what stood from a place on.
-abbrev pub written : List ℕ → ℕ → List ℕ → List ℕ
-written d at b = paste d at b (length b)
+abbrev pub pasted : List ℕ → ℕ → List ℕ → List ℕ
+pasted d at b = paste d at b (length b)
 
--- L, H, the two offsets, the bytes used and six zeros.
-abbrev pub headerBytes : ℕ → ℕ → ℕ → List ℕ
-headerBytes log held used = bytes 2 log ++ bytes 2 held ++ bytes 2 setpointsStart ++ bytes 2 messagesStart ++ bytes 2 used ++ bytes 6 0
+-- L and H.
+abbrev pub countsBytes : ℕ → ℕ → List ℕ
+countsBytes log held = bytes 2 log ++ bytes 2 held
 
--- A piece written from a place on, and the place behind it.
+-- The offsets of setpoints and messages, the bytes used, zeros.
+abbrev pub offsetsBytes : ℕ → ℕ → List ℕ
+offsetsBytes start used = bytes 2 setpointsStart ++ bytes 2 start ++ bytes 2 used ++ bytes (setpointsStart - zerosAt) 0
+
+abbrev pub headerBytes : ℕ → ℕ → ℕ → ℕ → List ℕ
+headerBytes log held start used = countsBytes log held ++ offsetsBytes start used
+
+-- A piece pasted from a place on, and the place behind it.
 pub record Copied (before : List ℕ) (at : ℕ) (piece after : List ℕ) (behind : ℕ) : Type 0 where
-  pub bytes : after ≡ written before at piece
+  pub bytes : after ≡ pasted before at piece
   pub end : behind ≡ at + length piece

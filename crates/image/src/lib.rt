@@ -1,37 +1,43 @@
-// The image of a set of deltas, written from the places of its log.
+// The image of a set of deltas, written section by section from the places of its log.
 pub mod header;
 pub mod held;
-pub mod log;
 pub mod messages;
+pub mod running;
 
 use crate::header::put_header;
 use crate::held::held_places;
-use crate::log::run_log;
-use crate::messages::copy_messages;
+use crate::messages::put_messages;
+use crate::running::run_log;
 use buffer::clear_from;
-use layout::MESSAGES_START;
 use layout::SETPOINTS_START;
 use setpoints::values::put_values;
+use table::start::messages_start;
 ghost use mathlib.Core.Path.{_≡_};
 ghost use lib.ListN.{length};
 ghost use Rattle.model.specs.Layout.{imageSize};
 ghost use Rattle.model.specs.Image.{imageOf};
 ghost use Rattle.model.specs.Calls.{emptyState};
 ghost use Rattle.table.specs.Table.{setIn};
-ghost use Rattle.image.specs.Places.{Writable};
+ghost use Rattle.image.specs.LogPlaces.{ImageInput};
 
 // Writes the image of the set whose messages start at `starts` in the pool. `places` are the log's, in its order.
-pub fn write_image(out: &mut [u8], pool: &[u8], starts: &[usize], places: &[usize])
-    requires { ⌜ Writable (now out) (now pool) (now starts) (now places) ⌝ }
+pub fn write_image(out: &mut [u8], pool: &[u8], starts: &[u16], places: &[u8])
+    requires { ⌜ ImageInput (now out) (now pool) (now starts) (now places) ⌝ }
     ensures { λ _. ⌜ now (out .exit) ≡ imageOf (setIn (now (pool .entry)) (now (starts .entry))) ⌝ }
 {
     let values = run_log(pool, starts, places);
     let held = held_places(starts.len(), places);
     let others = held.places;
     let count = held.count;
-    let behind = copy_messages(out, pool, starts, places, MESSAGES_START);
-    let used = copy_messages(out, pool, starts, &others[0..count], behind);
-    put_header(out, places.len() as u32, count as u32, used as u32);
+    let start = messages_start();
+    let used = put_messages(out, pool, starts, places, &others[0..count], start);
+    put_header(
+        out,
+        places.len() as u32,
+        count as u32,
+        start as u32,
+        used as u32,
+    );
     put_values(out, values, SETPOINTS_START);
     clear_from(out, used);
 }
@@ -42,7 +48,7 @@ pub fn put_empty(out: &mut [u8])
     ensures { λ _. ⌜ now (out .exit) ≡ imageOf emptyState ⌝ }
 {
     let pool = [0u8; 1];
-    let starts = [0usize; 1];
-    let places = [0usize; 1];
+    let starts = [0u16; 1];
+    let places = [0u8; 1];
     write_image(out, &pool[0..0], &starts[0..0], &places[0..0]);
 }

@@ -1,6 +1,6 @@
 -- The codes: the lowest number whose condition holds is answered, 0 exactly where none does, and a refusal leaves every buffer.
 use mathlib.Core.Path.{_≡_, refl, sym, _∙_, ap, subst}
-use mathlib.Core.Logic.{_⊎_, inl, inr, ⊎-elim, _↔_}
+use mathlib.Core.Logic.{_⊎_, inl, inr, ⊎-elim}
 use mathlib.Core.Bool.{Bool, true, false, cond}
 use mathlib.Core.List.{List, [], _∷_, List·Memᴰ·head, List·Memᴰ·tail, List·Memᴰ·not-nil, List·Memᴰ·cases-cons}
 use Prim.Native.Nat.{ℕ, zero, suc, _≤_, _<_}
@@ -14,7 +14,7 @@ use Rattle.model.specs.Message.{Message}
 use Rattle.model.specs.Image.{stateIn}
 use Rattle.model.specs.Compose.{composed}
 use Rattle.model.specs.Codes.{Conditions, lowestCode, emptyConditions, setpointConditions}
-use Rattle.model.specs.Calls.{Emptied, empty, emptyAnswer, Delivered, deliver, deliverCode, deliverAnswer, Composed, compose, composeCode, composeAnswer, Setpoint, setpoint, setpointAnswer}
+use Rattle.model.specs.Calls.{empty, emptyAnswer, deliver, deliverCode, deliverAnswer, compose, composeCode, composeAnswer, setpoint, setpointAnswer}
 
 -- ---- the lowest number
 -- the numbers ascend, from one above `low` on

@@ -2,21 +2,21 @@
 use mathlib.Core.Path.{_≡_, refl, sym, _∙_, ap, ap₂, subst}
 use mathlib.Core.Logic.{_⊎_, inl, inr, ⊎-elim, _↔_}
 use mathlib.Core.Bool.{Bool, true, false, cond, not, _&&_, _||_}
-use mathlib.Core.List.{List, [], _∷_, _++_, map, List·Memᴰ·head, List·Memᴰ·not-nil, Memᴰ·cast, Memᴰ·map, Memᴰ·of-map}
-use Prim.Native.Nat.{ℕ, zero, suc, _+_, _-_, _≤_, _<_}
+use mathlib.Core.List.{List, [], _∷_, _++_, Memᴰ·cast, Memᴰ·map}
+use Prim.Native.Nat.{ℕ}
 use native.Mathlib.Omega.{arith}
 use native.Mathlib.Nat.{suc-ne-zero}
 use lib.ListN.{length}
-use lib.Dec.{T, eqb, leb, eqb-refl, nleb→lt, T-not, not-T}
-use Rattle.model.specs.Lists.{_∈_, has, same}
+use lib.Dec.{T, eqb, leb, nleb→lt}
+use Rattle.model.specs.Lists.{_∈_, same}
 use Rattle.model.specs.Layout.{imageSize, capacity}
 use Rattle.model.specs.Message.{Message, sequenceOf, layoutRight, numbersRight, dependenciesRight, contentRight, passes}
-use Rattle.model.specs.Order.{State, add, insert, find, sequencesOf, logOf}
+use Rattle.model.specs.Order.{State, add, find, sequencesOf}
 use Rattle.model.specs.Image.{imageOf, Valid, stateIn, isImage}
 use Rattle.model.specs.Codes.{Conditions, lowestCode, messageConditions, smallSteps, present, conflicts, full}
-use Rattle.model.specs.Calls.{Delivered, deliverAnswer, deliverCode, deliver}
+use Rattle.model.specs.Calls.{deliverAnswer, deliverCode, deliver}
 use Rattle.model.specs.PlainStation.{accepts, receive}
-use Rattle.order.specs.TestLaws.{is-true, and-l, and-r, and-i, decide, has→∈, ∈→has, same→eq}
+use Rattle.order.specs.TestLaws.{is-true, and-l, and-r, has→∈, ∈→has, same→eq}
 use Rattle.laws.specs.SetLaws.{insert-ascending, insert-from, insert-length, insert-there, find-here}
 use Rattle.laws.specs.ImageLaws.{state-back, image-size, image-passes}
 

@@ -1,31 +1,31 @@
--- The image: of a valid state it has 16,384 bytes and reads back to that state; a buffer passes code 2 by computing exactly if
--- it is declared an image.
+-- The image: where its sections lie; of a valid state it has 16,384 bytes and reads back to that state; a buffer passes code 2 by
+-- computing exactly if it is declared an image.
 use mathlib.Core.Path.{_≡_, refl, sym, _∙_, ap, ap₂, subst}
-use mathlib.Core.Logic.{_↔_, ⊎-elim}
-use mathlib.Core.Bool.{Bool, true, false, _&&_}
-use mathlib.Core.List.{List, [], _∷_, _++_, map, List·Memᴰ·head, List·Memᴰ·tail, append-assoc}
-use Prim.Native.Nat.{ℕ, zero, suc, _+_, _*_, _-_, _≤_, _<_}
+use mathlib.Core.Logic.{_↔_}
+use mathlib.Core.Bool.{_&&_}
+use mathlib.Core.List.{List, [], _∷_, _++_, map, List·Memᴰ·head, List·Memᴰ·tail, Memᴰ·of-map, append-assoc, append-nil}
+use Prim.Native.Nat.{ℕ, _+_, _*_, _-_, _≤_}
 use native.Mathlib.Omega.{arith}
 use lib.ListN.{length, length-append, length-map, length-set, length-replicate, take, drop, replicate}
 use lib.Seq.{drop-at, take-at}
 use lib.Dec.{T, leb, leb→le, le→leb}
-use lib.IntN.{ℤ, pos}
+use lib.IntN.{ℤ}
 use Rattle.model.specs.Lists.{_∈_, every, same}
 use Rattle.model.specs.Bytes.{bytes, field, join, word}
-use Rattle.model.specs.Layout.{lengthAt, imageSize, messagesStart, capacity, tagCount}
+use Rattle.model.specs.Layout.{lengthAt, valueSize, tagCount, valuesSize, imageSize, setpointsStart, capacity, messageRoom}
 use Rattle.model.specs.Message.{Message, commandsOf, passes}
 use Rattle.model.specs.Order.{State, stateOf, logOf, heldOf}
-use Rattle.model.specs.Setpoints.{startValues, runCommand, runCommands, runDelta, runLog, setpointsOf}
-use Rattle.model.specs.Image.{messagesOf, usedOf, imageOf, Valid, IsImage, cut, logCount, heldCount, logIn, messagesIn, setOf, stateIn, isImage}
+use Rattle.model.specs.Setpoints.{startValues, apply, runCommand, runCommands, runDelta, runLog, setpointsOf}
+use Rattle.model.specs.Image.{messagesStart, messagesOf, valuesOf, headerOf, sectionsOf, usedOf, imageOf, Valid, IsImage, cut, logCount, heldCount, messagesStartIn, logIn, messagesIn, setOf, stateIn, isImage}
 use Rattle.order.specs.TestLaws.{and-l, and-r, and-i, every-∈, ∈-every, same-refl, same→eq}
 use Rattle.laws.specs.SetLaws.{setOf-ascending, setOf-same}
-use Rattle.wire_laws.specs.BytesLaws.{length-bytes, number-bytes, length-join, field-append, join-append}
+use Rattle.wire_laws.specs.BytesLaws.{length-bytes, number-bytes, length-join, section-at, field-append, join-append}
 use Rattle.laws.specs.LogLaws.{log-received, log-held, log-length, held-length, places}
 use Rattle.wire_laws.specs.MessageLaws.{Sized, passes-sized, sized-range}
 
 -- ---- 64 values
 length-commands : (l : List (List ℕ)) (t : List ℤ) → length (runCommands l t) ≡ length t
-unfolding runCommand
+unfolding runCommand apply
 length-commands [] t = refl
 length-commands (c ∷ l) t = length-commands l (runCommand c t) ∙ length-set t _ _
 
@@ -35,12 +35,8 @@ length-run [] t = refl
 length-run (m ∷ l) t = length-run l (runDelta m t) ∙ length-commands (commandsOf m) t
 
 pub length-setpoints : (S : State) → length (setpointsOf S) ≡ tagCount
-unfolding setpointsOf
-length-setpoints S = length-run (logOf S) startValues
-
-length-values : (l : List ℤ) → length (join (map (λ v. bytes 4 (word v)) l)) ≡ length l * 4
-length-values [] = omega arith
-length-values (v ∷ l) = length-append (bytes 4 (word v)) (join (map (λ v. bytes 4 (word v)) l)) ∙ omega (arith, length-bytes 4 (word v), length-values l)
+unfolding setpointsOf startValues
+length-setpoints S = length-run (logOf S) (startValues S)
 
 -- ---- messages end to end, cut by their length fields
 pub cut-join : (l : List Message) (rest : List ℕ) → ((m : Message) → m ∈ l → Sized m) → cut (length l) (join l ++ rest) ≡ l
@@ -52,40 +48,82 @@ cut-join (m ∷ l) rest h =
     rw (append-assoc, e, take-at m (join l ++ rest) (length m) refl, drop-at m (join l ++ rest) (length m) refl)
     (ap (λ (k : List Message). m ∷ k) (cut-join l rest (λ x k. h x (List·Memᴰ·tail k))))
 
-join-length : (l : List Message) → ((m : Message) → m ∈ l → length m ≤ 200) → length (join l) ≤ 200 * length l
+join-length : (l : List Message) → ((m : Message) → m ∈ l → length m ≤ messageRoom) → length (join l) ≤ messageRoom * length l
 join-length [] h = omega arith
 join-length (m ∷ l) h = omega (arith, length-append m (join l), h m (List·Memᴰ·head refl), join-length l (λ x k. h x (List·Memᴰ·tail k)))
+
+-- ---- the sections, and where they lie
+-- the sections before the messages
+abbrev pub frontOf : State → List (List ℕ)
+frontOf S = take 2 (sectionsOf S)
+
+pub front-is : (S : State) → frontOf S ≡ headerOf S ∷ valuesOf S ∷ []
+unfolding sectionsOf
+front-is S = refl
+
+pub length-header : (S : State) → length (headerOf S) ≡ setpointsStart
+unfolding headerOf
+length-header S = refl
+
+pub length-values : (S : State) → length (valuesOf S) ≡ valuesSize
+unfolding valuesOf
+length-values S =
+    let words : List (List ℕ) = map (λ v. bytes valueSize (word v)) (setpointsOf S) in
+    length-join valueSize words (λ b k. let r = Memᴰ·of-map (λ v. bytes valueSize (word v)) (setpointsOf S) k in ap length (sym (r .2)) ∙ length-bytes valueSize (word (r .0)))
+    ∙ omega (arith, length-map (setpointsOf S) (λ v. bytes valueSize (word v)), length-setpoints S)
+
+-- the messages start past those before them
+pub messages-start : (S : State) → length (join (frontOf S)) ≡ messagesStart S
+unfolding sectionsOf messagesStart
+messages-start S =
+    length-append (headerOf S) (valuesOf S ++ []) ∙ omega (arith, length-append (valuesOf S) [], length-header S, length-values S)
+
+pub used-front : (S : State) → usedOf S ≡ join (frontOf S) ++ messagesOf S
+unfolding usedOf sectionsOf
+used-front S = sym (join-append (frontOf S) (messagesOf S ∷ [])) ∙ ap (λ (b : List ℕ). join (frontOf S) ++ b) (append-nil (messagesOf S))
+
+pub messages-at : (S : State) (rest : List ℕ) → drop (messagesStart S) (usedOf S ++ rest) ≡ messagesOf S ++ rest
+unfolding usedOf sectionsOf
+messages-at S rest = ap (λ (n : ℕ). drop n (usedOf S ++ rest)) (sym (messages-start S)) ∙ section-at (sectionsOf S) 2 rest (omega arith)
+
+pub used-length : (S : State) → length (usedOf S) ≡ messagesStart S + length (messagesOf S)
+used-length S = ap length (used-front S) ∙ length-append (join (frontOf S)) (messagesOf S) ∙ ap (λ (n : ℕ). n + length (messagesOf S)) (messages-start S)
+
+-- in a buffer of an image's size they start inside
+pub start-inside : (b : List ℕ) → length b ≡ imageSize → messagesStartIn b ≤ length b
+unfolding messagesStartIn
+start-inside b e = omega arith
 
 module _ (S : State) (valid : Valid S) where
   sized : (m : Message) → m ∈ logOf S ++ heldOf S → Sized m
   sized m k = passes-sized m (valid .pass m (log-held S (valid .ascends) m .0 k))
 
   count-log : logCount (imageOf S) ≡ length (logOf S)
-  unfolding imageOf usedOf
+  unfolding imageOf usedOf sectionsOf headerOf
   count-log = number-bytes 2 (length (logOf S)) (omega (arith, log-length S (valid .ascends), valid .fits))
 
   count-held : heldCount (imageOf S) ≡ length (heldOf S)
-  unfolding imageOf usedOf
+  unfolding imageOf usedOf sectionsOf headerOf
   count-held = number-bytes 2 (length (heldOf S)) (omega (arith, held-length S (valid .ascends), valid .fits))
 
-  -- past the setpoints stand the messages, and then zeros
+  -- of the image they start where the state's do
+  pub start-back : messagesStartIn (imageOf S) ≡ messagesStart S
+  unfolding messagesStart messagesStartIn
+  start-back = refl
+
+  -- from there on stand the messages, and then zeros
   pub record Body : Type 0 where
     pub zeros : List ℕ
-    pub body : drop messagesStart (imageOf S) ≡ join (logOf S ++ heldOf S) ++ zeros
+    pub body : drop (messagesStartIn (imageOf S)) (imageOf S) ≡ join (logOf S ++ heldOf S) ++ zeros
 
   pub image-body : Body
-  unfolding imageOf usedOf messagesOf
+  unfolding imageOf messagesOf
   image-body =
-      let values : List ℕ = join (map (λ v. bytes 4 (word v)) (setpointsOf S)) in
-      let M : List ℕ = join (logOf S) ++ join (heldOf S) in
       let Z : List ℕ = replicate (imageSize - length (usedOf S)) 0 in
       record {
         zeros = Z;
-        body = ap (drop 256) (append-assoc values M Z) ∙ drop-at values (M ++ Z) 256 four ∙ ap (λ (x : List ℕ). x ++ Z) (join-append (logOf S) (heldOf S));
+        body = ap (λ (n : ℕ). drop n (imageOf S)) start-back ∙ messages-at S Z ∙ ap (λ (x : List ℕ). x ++ Z) (join-append (logOf S) (heldOf S));
       }
-    where
-      four : length (join (map (λ v. bytes 4 (word v)) (setpointsOf S))) ≡ 256
-      four = omega (arith, length-values (setpointsOf S), length-setpoints S)
 
   pub messages-back : messagesIn (imageOf S) ≡ logOf S ++ heldOf S
   messages-back =
@@ -102,18 +140,19 @@ module _ (S : State) (valid : Valid S) where
   pub state-back : stateIn (imageOf S) ≡ S
   state-back = ap stateOf (ap setOf messages-back ∙ setOf-same (S .deltas) (logOf S ++ heldOf S) (valid .ascends) (log-held S (valid .ascends)))
 
-  pub used-fits : length (usedOf S) ≤ imageSize
-  unfolding usedOf messagesOf
-  used-fits = omega (
+  -- the messages of a valid state fit behind what stands before them
+  pub messages-room : messagesStart S + length (messagesOf S) ≤ imageSize
+  unfolding messagesStart messagesOf
+  messages-room = omega (
     arith,
-    length-append (join (map (λ v. bytes 4 (word v)) (setpointsOf S))) (join (logOf S) ++ join (heldOf S)),
-    length-values (setpointsOf S),
-    length-setpoints S,
     places S (valid .ascends),
     valid .fits,
     ap length (join-append (logOf S) (heldOf S)),
     join-length (logOf S ++ heldOf S) (λ m k. sized-range m (sized m k) .1),
   )
+
+  pub used-fits : length (usedOf S) ≤ imageSize
+  used-fits = omega (arith, used-length S, messages-room)
 
   pub image-size : length (imageOf S) ≡ imageSize
   unfolding imageOf
@@ -158,3 +197,13 @@ image-declared b = (image-computed b, λ i. subst (λ (x : List ℕ). T (isImage
 -- an image is the image of one state
 pub image-state : (b : List ℕ) (i : IsImage b) → i .state ≡ stateIn b
 image-state b i = sym (state-back (i .state) (i .valid)) ∙ ap stateIn (sym (i .image))
+
+-- and that of its own state, which is valid, and whose log it has
+pub image-own : (b : List ℕ) → T (isImage b) → b ≡ imageOf (stateIn b)
+image-own b t = image-declared b .0 t .image ∙ ap imageOf (image-state b (image-declared b .0 t))
+
+pub own-valid : (b : List ℕ) → T (isImage b) → Valid (stateIn b)
+own-valid b t = subst Valid (image-state b (image-declared b .0 t)) (image-declared b .0 t .valid)
+
+pub own-log : (b : List ℕ) → T (isImage b) → logIn b ≡ logOf (stateIn b)
+own-log b t = ap logIn (image-own b t) ∙ log-back (stateIn b) (own-valid b t)

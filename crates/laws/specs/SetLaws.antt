@@ -2,20 +2,17 @@
 use mathlib.Core.Path.{_≡_, refl, sym, _∙_, ap, ap₂, subst}
 use mathlib.Core.Logic.{_⊎_, inl, inr, ⊎-elim}
 use mathlib.Core.Bool.{Bool, true, false, cond, not}
-use mathlib.Core.List.{List, [], _∷_, _++_, map, List·Memᴰ·head, List·Memᴰ·tail, List·Memᴰ·not-nil, List·Memᴰ·cases-cons, Memᴰ·cast, Memᴰ·of-map, Memᴰ·map}
-use Prim.Native.Nat.{ℕ, zero, suc, _≤_, _<_}
+use mathlib.Core.List.{List, [], _∷_, map, List·Memᴰ·head, List·Memᴰ·tail, List·Memᴰ·not-nil, List·Memᴰ·cases-cons, Memᴰ·cast, Memᴰ·of-map}
+use Prim.Native.Nat.{ℕ, suc, _≤_, _<_}
 use native.Mathlib.Omega.{arith}
 use native.Mathlib.Nat.{lt-irrefl}
 use lib.ListN.{length}
-use lib.Dec.{T, eqb, ltb, eqb→eq, ltb→lt, nltb→le, eqb-refl, T-not}
-use Rattle.model.specs.Lists.{_∈_, has}
+use lib.Dec.{T, eqb, ltb, eqb→eq, ltb→lt, nltb→le}
+use Rattle.model.specs.Lists.{_∈_}
 use Rattle.model.specs.Message.{Message, sequenceOf}
 use Rattle.model.specs.Order.{Ascending, insert, find}
 use Rattle.model.specs.Image.{setOf}
-use Rattle.order.specs.TestLaws.{Same, decide}
-
-pub not-eqb : (a b : ℕ) → T (not (eqb a b)) → a ≡ b → ⊥
-not-eqb a b t e = T-not (eqb a b) t (subst (λ (z : ℕ). T (eqb a z)) e (eqb-refl a))
+use Rattle.order.specs.TestLaws.{Same, not-eqb}
 
 pub insert-from : (m : Message) (S : List Message) (a : Message) → a ∈ insert m S → (a ≡ m) ⊎ (a ∈ S)
 insert-from m [] a h = List·Memᴰ·cases-cons h
@@ -64,6 +61,23 @@ ascending-names (x ∷ S) h a b p q e = go (ascending-names S (h .1) a b) (List�
     go ih (inl u) (inr v) = absurd (lt-irrefl (sequenceOf a) (omega (arith, h .0 b v, ap sequenceOf u)))
     go ih (inr u) (inl v) = absurd (lt-irrefl (sequenceOf a) (omega (arith, h .0 a u, ap sequenceOf v)))
     go ih (inr u) (inr v) = ih u v e
+
+pub find-skip : (m : Message) (l : List Message) (s : ℕ) → (sequenceOf m ≡ s → ⊥) → find (m ∷ l) s ≡ find l s
+find-skip m l s n = go (eqb (sequenceOf m) s) (eqb→eq (sequenceOf m) s)
+  where
+    go : (c : Bool) → (T c → sequenceOf m ≡ s) → cond c m (find l s) ≡ find l s
+    go true f = absurd (n (f tt))
+    go false f = refl
+
+-- a message that joins the set leaves what is found of other sequences
+pub find-insert : (m : Message) (l : List Message) (s : ℕ) → (sequenceOf m ≡ s → ⊥) → find (insert m l) s ≡ find l s
+find-insert m [] s n = find-skip m [] s n
+find-insert m (x ∷ l) s n = go (ltb (sequenceOf m) (sequenceOf x)) (eqb (sequenceOf m) (sequenceOf x)) (find-insert m l s n)
+  where
+    go : (b c : Bool) → find (insert m l) s ≡ find l s → find (cond b (m ∷ x ∷ l) (cond c (x ∷ l) (x ∷ insert m l))) s ≡ find (x ∷ l) s
+    go true c ih = find-skip m (x ∷ l) s n
+    go false true ih = refl
+    go false false ih = ap (cond (eqb (sequenceOf x) s) x) ih
 
 pub find-here : (S : List Message) → Ascending S → (m : Message) → m ∈ S → find S (sequenceOf m) ≡ m
 find-here [] h m k = absurd (List·Memᴰ·not-nil k)

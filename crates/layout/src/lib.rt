@@ -1,5 +1,5 @@
-// The offsets and sizes of document 01 in bytes, and its counts, by the names of `Layout` in the definitions. Every crate that
-// reads or writes a message, an image or a step takes them from here.
+// The offsets and sizes of document 01 in bytes, its counts and its limits, by the names of `Layout` in the definitions. Every
+// crate that reads or writes a message, an image or a step takes them from here.
 
 // ---- a delta on the wire: the header
 pub const KIND_AT: usize = 0;
@@ -34,7 +34,13 @@ pub const HEADER_SIZE: usize = 40;
 
 pub const SEQUENCE_SIZE: usize = 12;
 
+// how many numbers a line has, 0000 among them
+pub const NUMBERS_OF_LINE: u32 = 65536;
+
 pub const MOST_DEPENDENCIES: usize = 8;
+
+// the most that group, block and priority may be
+pub const FIELD_LIMIT: u32 = 2147483647;
 
 // ---- a command
 pub const COMMAND_SIZE: usize = 8;
@@ -51,7 +57,31 @@ pub const VALUE_AT: usize = 4;
 
 pub const VALUE_SIZE: usize = 4;
 
+pub const TAG_COUNT: usize = 64;
+
+pub const LOWEST_VALUE: i32 = -1000000;
+
+pub const HIGHEST_VALUE: i32 = 1000000;
+
+// all tags' values
+pub const VALUES_SIZE: usize = VALUE_SIZE * TAG_COUNT;
+
+// the two as the words that stand in a command, by two's complement
+pub const LOWEST_VALUE_WORD: u32 = (LOWEST_VALUE as i64 + 4294967296) as u32;
+
+pub const HIGHEST_VALUE_WORD: u32 = HIGHEST_VALUE as u32;
+
+// the longest message
+pub const LONGEST_MESSAGE: usize = HEADER_SIZE
+    + SEQUENCE_SIZE * MOST_DEPENDENCIES
+    + COMMAND_SIZE * MOST_COMMANDS;
+
 // ---- the station image
+pub const IMAGE_SIZE: usize = 16384;
+
+// an image, and the longest message behind it
+pub const POOL_SIZE: usize = IMAGE_SIZE + LONGEST_MESSAGE;
+
 pub const LOG_COUNT_AT: usize = 0;
 
 pub const HELD_COUNT_AT: usize = 2;
@@ -65,9 +95,8 @@ pub const USED_AT: usize = 8;
 
 pub const ZEROS_AT: usize = 10;
 
+// past the header; where the messages start, `messages_start` of the table says
 pub const SETPOINTS_START: usize = 16;
-
-pub const MESSAGES_START: usize = 272;
 
 // the most deltas that an image holds
 pub const CAPACITY: usize = 64;
@@ -77,3 +106,9 @@ pub const STEP_SIZE: usize = 16;
 
 // where a step's sequence stands
 pub const STEP_SEQUENCE_AT: usize = 4;
+
+// the most steps of a delivery: 63 undos, since the old log lacks the new delta, and 64 executions
+pub const MOST_STEPS: usize = (CAPACITY - 1) + CAPACITY;
+
+// a step buffer, at least
+pub const STEP_ROOM: usize = STEP_SIZE * MOST_STEPS;

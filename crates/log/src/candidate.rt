@@ -1,57 +1,42 @@
 // A delta that may come next, and the lower of two by key.
-use crate::entry::message_at;
-use crate::ready::effective;
-use crate::ready::ready;
+use closure::ready::ready;
+use key::Key;
 use key::key_less;
-use key::own_block;
-use message::header::read_header;
 ghost use mathlib.Core.Path.{_≡_};
 ghost use Prim.Native.Nat.{_<_};
 ghost use lib.ListN.{length};
-ghost use Rattle.table.specs.Table.{deltasOf, Holds};
-ghost use Rattle.log.specs.Next.{Tables, Within, candidateIn, lowerOf};
+ghost use Rattle.needs.specs.Rows.{RowFits};
+ghost use Rattle.closure.specs.Ready.{marksSize};
+ghost use Rattle.log.specs.Next.{candidateIn, lowerOf};
 
-// The index of the delta that comes next, with its effective block.
+// The index of the delta that comes next, with its key.
 pub enum Next {
-    At(usize, u32),
+    At(usize, Key),
     Nothing,
 }
 
 // The delta at an index, where it is ready.
-pub fn candidate(
-    pool: &[u8],
-    starts: &[usize],
-    needs: &[usize],
-    placed: &[u8],
-    blocks: &[u32],
-    i: usize,
-) -> Next
-    requires { ⌜ Tables (now pool) (now starts) (now needs) (now placed) (now blocks) × (i < length (now starts)) ⌝ }
-    ensures { λ r. ⌜ r ≡ candidateIn (deltasOf (now (pool .entry)) (now (starts .entry))) (now (needs .entry)) (now (placed .entry)) (now (blocks .entry)) i ⌝ }
+pub fn candidate(rows: &[u8], counts: &[u8], placed: &[u8], i: usize, key: Key) -> Next
+    requires { ⌜ RowFits (now rows) (now counts) i × (length (now placed) ≡ marksSize) × (i < marksSize) ⌝ }
+    ensures { λ r. ⌜ r ≡ candidateIn (now (rows .entry)) (now (counts .entry)) (now (placed .entry)) i key ⌝ }
 {
-    if !ready(needs, placed, i) {
+    if !ready(rows, counts, placed, i) {
         return Next::Nothing;
     }
-    let header = read_header(message_at(pool, starts, i));
-    let priority = header.priority;
-    let block = effective(needs, blocks, i, own_block(priority));
-    Next::At(i, block)
+    Next::At(i, key)
 }
 
 // Of two the one of the lower key; the first where only that one is there.
-pub fn lower(pool: &[u8], starts: &[usize], a: Next, b: Next) -> Next
-    requires { ⌜ Holds (now pool) (now starts) × Within (length (now starts)) a × Within (length (now starts)) b ⌝ }
-    ensures { λ r. ⌜ r ≡ lowerOf (deltasOf (now (pool .entry)) (now (starts .entry))) a b ⌝ }
+pub fn lower(a: Next, b: Next) -> Next
+    ensures { λ r. ⌜ r ≡ lowerOf a b ⌝ }
 {
-    let Next::At(i, block_i) = a else {
+    let Next::At(_, first) = a else {
         return b;
     };
-    let Next::At(j, block_j) = b else {
+    let Next::At(_, second) = b else {
         return a;
     };
-    let first = read_header(message_at(pool, starts, i));
-    let second = read_header(message_at(pool, starts, j));
-    if key_less(block_j, second, block_i, first) {
+    if key_less(second, first) {
         return b;
     }
     a

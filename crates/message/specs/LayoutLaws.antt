@@ -6,72 +6,72 @@ use native.Mathlib.Omega.{arith}
 use lib.ListN.{length}
 use lib.Dec.{T, eqb, leb, eqb→eq, leb→le, le→leb}
 use Rattle.model.specs.Bytes.{isBytes, field}
+use Rattle.model.specs.Layout.{kindAt, priorityFlagAt, mostDependencies, mostCommands, lengthAt, dependenciesOffsetAt, commandsOffsetAt, firstZerosAt, lastZerosAt, headerSize}
 use Rattle.model.specs.Message.{Message, dependencyCount, commandCount, totalLength, commandsStart, layoutRight}
-use Rattle.order.specs.TestLaws.{and-l, and-r, and-i}
+use Rattle.order.specs.TestLaws.{and-l, and-r, and-i, is-true, false-of, eq→eqb}
 use Rattle.wire_laws.specs.MessageLaws.{layout-sized, sized-range}
 use Rattle.message.specs.Check.{countsRight, offsetsRight}
-use Rattle.sequence.specs.Decisions.{eq→eqb, T-true, T-false}
 
 pub record Counts (m : Message) : Type 0 where
-  pub kind : field m 0 1 ≡ 1
-  pub flag : field m 1 1 ≤ 1
-  pub dependencies : dependencyCount m ≤ 8
+  pub kind : field m kindAt 1 ≡ 1
+  pub flag : field m priorityFlagAt 1 ≤ 1
+  pub dependencies : dependencyCount m ≤ mostDependencies
   pub some-command : 1 ≤ commandCount m
-  pub commands : commandCount m ≤ 8
+  pub commands : commandCount m ≤ mostCommands
 
-pub counts-out : (m : Message) → T (countsRight m) → Counts m
+counts-out : (m : Message) → T (countsRight m) → Counts m
 unfolding countsRight
 counts-out m t = record {
-  kind = eqb→eq (field m 0 1) 1 (search (and-l, and-r) depth 8);
-  flag = leb→le (field m 1 1) 1 (search (and-l, and-r) depth 8);
-  dependencies = leb→le (dependencyCount m) 8 (search (and-l, and-r) depth 8);
+  kind = eqb→eq (field m kindAt 1) 1 (search (and-l, and-r) depth 8);
+  flag = leb→le (field m priorityFlagAt 1) 1 (search (and-l, and-r) depth 8);
+  dependencies = leb→le (dependencyCount m) mostDependencies (search (and-l, and-r) depth 8);
   some-command = leb→le 1 (commandCount m) (search (and-l, and-r) depth 8);
-  commands = leb→le (commandCount m) 8 (search (and-l, and-r) depth 8);
+  commands = leb→le (commandCount m) mostCommands (search (and-l, and-r) depth 8);
 }
 
-pub counts-in : (m : Message) → Counts m → T (countsRight m)
+counts-in : (m : Message) → Counts m → T (countsRight m)
 unfolding countsRight
 counts-in m f =
-    let a : T (eqb (field m 0 1) 1) = eq→eqb (f .kind) in
-    let b : T (leb (field m 1 1) 1) = le→leb _ _ (f .flag) in
-    let c : T (leb (dependencyCount m) 8) = le→leb _ _ (f .dependencies) in
+    let a : T (eqb (field m kindAt 1) 1) = eq→eqb (f .kind) in
+    let b : T (leb (field m priorityFlagAt 1) 1) = le→leb _ _ (f .flag) in
+    let c : T (leb (dependencyCount m) mostDependencies) = le→leb _ _ (f .dependencies) in
     let d : T (leb 1 (commandCount m)) = le→leb _ _ (f .some-command) in
-    let e : T (leb (commandCount m) 8) = le→leb _ _ (f .commands) in
+    let e : T (leb (commandCount m) mostCommands) = le→leb _ _ (f .commands) in
     search and-i depth 8
 
 pub record Offsets (m : Message) : Type 0 where
-  pub stated : field m 4 2 ≡ totalLength (dependencyCount m) (commandCount m)
+  pub stated : field m lengthAt 2 ≡ totalLength (dependencyCount m) (commandCount m)
   pub total : length m ≡ totalLength (dependencyCount m) (commandCount m)
-  pub dependencies : field m 6 2 ≡ 40
-  pub commands : field m 8 2 ≡ commandsStart (dependencyCount m)
-  pub first-zeros : field m 10 2 ≡ 0
-  pub last-zeros : field m 36 4 ≡ 0
+  pub dependencies : field m dependenciesOffsetAt 2 ≡ headerSize
+  pub commands : field m commandsOffsetAt 2 ≡ commandsStart (dependencyCount m)
+  pub first-zeros : field m firstZerosAt 2 ≡ 0
+  pub last-zeros : field m lastZerosAt 4 ≡ 0
 
-pub offsets-out : (m : Message) → T (offsetsRight m) → Offsets m
+offsets-out : (m : Message) → T (offsetsRight m) → Offsets m
 unfolding offsetsRight
 offsets-out m t =
     let D = dependencyCount m in
     let C = commandCount m in
     record {
-      stated = eqb→eq (field m 4 2) (totalLength D C) (search (and-l, and-r) depth 9);
+      stated = eqb→eq (field m lengthAt 2) (totalLength D C) (search (and-l, and-r) depth 9);
       total = eqb→eq (length m) (totalLength D C) (search (and-l, and-r) depth 9);
-      dependencies = eqb→eq (field m 6 2) 40 (search (and-l, and-r) depth 9);
-      commands = eqb→eq (field m 8 2) (commandsStart D) (search (and-l, and-r) depth 9);
-      first-zeros = eqb→eq (field m 10 2) 0 (search (and-l, and-r) depth 9);
-      last-zeros = eqb→eq (field m 36 4) 0 (search (and-l, and-r) depth 9);
+      dependencies = eqb→eq (field m dependenciesOffsetAt 2) headerSize (search (and-l, and-r) depth 9);
+      commands = eqb→eq (field m commandsOffsetAt 2) (commandsStart D) (search (and-l, and-r) depth 9);
+      first-zeros = eqb→eq (field m firstZerosAt 2) 0 (search (and-l, and-r) depth 9);
+      last-zeros = eqb→eq (field m lastZerosAt 4) 0 (search (and-l, and-r) depth 9);
     }
 
-pub offsets-in : (m : Message) → Offsets m → T (offsetsRight m)
+offsets-in : (m : Message) → Offsets m → T (offsetsRight m)
 unfolding offsetsRight
 offsets-in m f =
     let D = dependencyCount m in
     let C = commandCount m in
-    let a : T (eqb (field m 4 2) (totalLength D C)) = eq→eqb (f .stated) in
+    let a : T (eqb (field m lengthAt 2) (totalLength D C)) = eq→eqb (f .stated) in
     let b : T (eqb (length m) (totalLength D C)) = eq→eqb (f .total) in
-    let c : T (eqb (field m 6 2) 40) = eq→eqb (f .dependencies) in
-    let d : T (eqb (field m 8 2) (commandsStart D)) = eq→eqb (f .commands) in
-    let e : T (eqb (field m 10 2) 0) = eq→eqb (f .first-zeros) in
-    let g : T (eqb (field m 36 4) 0) = eq→eqb (f .last-zeros) in
+    let c : T (eqb (field m dependenciesOffsetAt 2) headerSize) = eq→eqb (f .dependencies) in
+    let d : T (eqb (field m commandsOffsetAt 2) (commandsStart D)) = eq→eqb (f .commands) in
+    let e : T (eqb (field m firstZerosAt 2) 0) = eq→eqb (f .first-zeros) in
+    let g : T (eqb (field m lastZerosAt 4) 0) = eq→eqb (f .last-zeros) in
     search and-i depth 8
 
 -- the two parts are the whole, of bytes
@@ -89,18 +89,18 @@ layout-parts m t = go (isBytes m) t _ _ _ _ _ _ _ _ _ _ _
     go false t a b c d e f g h i j k = absurd t
 
 -- fewer bytes than a header's are no message
-pub short-wrong : (m : Message) → length m < 40 → layoutRight m ≡ false
-short-wrong m h = T-false (layoutRight m) (λ t. let r = sized-range m (layout-sized m t) in omega arith)
+pub short-wrong : (m : Message) → length m < headerSize → layoutRight m ≡ false
+short-wrong m h = false-of (layoutRight m) (λ t. let r = sized-range m (layout-sized m t) in omega arith)
 
 -- each part as the answer of its check
-pub counts-wrong : (m : Message) → (Counts m → ⊥) → false ≡ countsRight m
-counts-wrong m f = sym (T-false (countsRight m) (λ t. f (counts-out m t)))
+pub counts-wrong : {m : Message} → (Counts m → ⊥) → false ≡ countsRight m
+counts-wrong {m} f = sym (false-of (countsRight m) (λ t. f (counts-out m t)))
 
-pub counts-right : (m : Message) → Counts m → true ≡ countsRight m
-counts-right m f = sym (T-true (countsRight m) (counts-in m f))
+pub counts-right : {m : Message} → Counts m → true ≡ countsRight m
+counts-right {m} f = sym (is-true (countsRight m) (counts-in m f))
 
-pub offsets-wrong : (m : Message) → (Offsets m → ⊥) → false ≡ offsetsRight m
-offsets-wrong m f = sym (T-false (offsetsRight m) (λ t. f (offsets-out m t)))
+pub offsets-wrong : {m : Message} → (Offsets m → ⊥) → false ≡ offsetsRight m
+offsets-wrong {m} f = sym (false-of (offsetsRight m) (λ t. f (offsets-out m t)))
 
-pub offsets-right : (m : Message) → Offsets m → true ≡ offsetsRight m
-offsets-right m f = sym (T-true (offsetsRight m) (offsets-in m f))
+pub offsets-right : {m : Message} → Offsets m → true ≡ offsetsRight m
+offsets-right {m} f = sym (is-true (offsetsRight m) (offsets-in m f))

@@ -1,9 +1,5 @@
 pub mod Check
+pub mod LayoutLaws
 pub mod Header
 pub mod HeaderLaws
-pub mod LayoutLaws
-pub mod ListLaws
-pub mod CommandLaws
-pub mod ContentLaws
-pub mod Parsed
-pub mod ParsedLaws
+pub mod DependencyLaws

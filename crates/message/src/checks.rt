@@ -19,6 +19,7 @@ use layout::SEQUENCE_SIZE;
 ghost use mathlib.Core.Path.{_≡_};
 ghost use Prim.Native.Nat.{_≤_};
 ghost use lib.ListN.{length};
+ghost use Rattle.model.specs.Layout.{headerSize};
 ghost use Rattle.model.specs.Message.{layoutRight};
 ghost use Rattle.message.specs.Check.{right, countsRight, offsetsRight};
 
@@ -30,7 +31,7 @@ pub enum Check {
 
 // Kind, byte 1, and the counts.
 fn check_counts(m: &[u8]) -> Check
-    requires { ⌜ 40 ≤ length (now m) ⌝ }
+    requires { ⌜ headerSize ≤ length (now m) ⌝ }
     ensures { λ r. ⌜ right r ≡ countsRight (now (m .entry)) ⌝ }
 {
     if byte(m, KIND_AT) != 1 {
@@ -55,7 +56,7 @@ fn check_counts(m: &[u8]) -> Check
 
 // The length, also against the bytes handed over, the offsets, and the bytes that are zero.
 fn check_offsets(m: &[u8]) -> Check
-    requires { ⌜ 40 ≤ length (now m) ⌝ }
+    requires { ⌜ headerSize ≤ length (now m) ⌝ }
     ensures { λ r. ⌜ right r ≡ offsetsRight (now (m .entry)) ⌝ }
 {
     let dependencies = byte(m, DEPENDENCY_COUNT_AT) as usize;

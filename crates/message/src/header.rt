@@ -13,6 +13,7 @@ use sequence::read_sequence;
 ghost use mathlib.Core.Path.{_≡_};
 ghost use Prim.Native.Nat.{_≤_};
 ghost use lib.ListN.{length};
+ghost use Rattle.model.specs.Layout.{headerSize};
 ghost use Rattle.message.specs.Header.{priorityIn, headerOf};
 
 // No priority, or a block with a priority.
@@ -32,7 +33,7 @@ pub struct Header {
 
 // Block and priority, where byte 1 says that they are given.
 fn read_priority(m: &[u8]) -> Priority
-    requires { ⌜ 40 ≤ length (now m) ⌝ }
+    requires { ⌜ headerSize ≤ length (now m) ⌝ }
     ensures { λ r. ⌜ r ≡ priorityIn (now (m .entry)) ⌝ }
 {
     if byte(m, PRIORITY_FLAG_AT) != 1 {
@@ -45,7 +46,7 @@ fn read_priority(m: &[u8]) -> Priority
 
 // The header of a message that has one.
 pub fn read_header(m: &[u8]) -> Header
-    requires { ⌜ 40 ≤ length (now m) ⌝ }
+    requires { ⌜ headerSize ≤ length (now m) ⌝ }
     ensures { λ r. ⌜ r ≡ headerOf (now (m .entry)) ⌝ }
 {
     let sequence = read_sequence(m, SEQUENCE_AT);

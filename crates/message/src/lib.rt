@@ -1,8 +1,4 @@
-// A delta on the wire: the header, the checks of codes 3 to 6, and parse.
+// A delta on the wire: its layout, its header and its dependencies, and the checks of codes 3 to 5.
 pub mod checks;
-pub mod commands;
-pub mod content;
 pub mod dependencies;
 pub mod header;
-pub mod limits;
-pub mod parse;

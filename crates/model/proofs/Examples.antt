@@ -1,80 +1,22 @@
 -- The starred examples of document 01, and A1's bytes: inputs and outcomes side by side, and one proof over the list of them.
 -- Each delivery is a whole call of `deliver` on an image that began as the one that `empty` writes.
 use mathlib.Core.Path.{_≡_, refl}
-use mathlib.Core.Bool.{true, false}
-use mathlib.Core.Option.{Option, some, none}
+use mathlib.Core.Bool.{false}
+use mathlib.Core.Option.{Option, some}
 use mathlib.Core.List.{List, [], _∷_, _++_, map}
-use Prim.Native.Nat.{ℕ, suc, _+_, _*_, _^_}
-use lib.ListN.{length, take, getD, replicate}
-use lib.IntN.{ℤ, pos, negsuc}
-use Rattle.model.specs.Bytes.{bytes, word, field}
-use Rattle.model.specs.Layout.{imageSize, stepRoom, messageRoom}
-use Rattle.model.specs.Message.{Message, sequenceOf, layoutRight, numbersRight, dependenciesRight, contentRight, commandRight, passes}
-use Rattle.model.specs.Order.{sequencesOf, logOf, heldOf}
-use Rattle.model.specs.Setpoints.{stop, raise, operate, runCommand, runDelta, setpointsOf}
-use Rattle.model.specs.Image.{messagesOf, usedOf, imageOf, logIn, stateIn, isImage}
+use Prim.Native.Nat.{ℕ, _+_}
+use lib.ListN.{take, replicate}
+use lib.IntN.{ℤ, pos}
+use Rattle.model.specs.Bytes.{bytes, field}
+use Rattle.model.specs.Layout.{messageRoom}
+use Rattle.model.specs.Message.{Message, layoutRight, numbersRight, dependenciesRight, contentRight, commandRight, passes}
+use Rattle.model.specs.Order.{sequencesOf, needs, executablesOf, logOf, heldOf}
+use Rattle.model.specs.Setpoints.{startValues, stop, raise, operate, changeOf, apply, runCommand, runDelta, setpointsOf}
+use Rattle.model.specs.Image.{messagesStart, messagesOf, valuesOf, headerOf, sectionsOf, usedOf, imageOf, messagesStartIn, logIn, stateIn, isImage}
 use Rattle.model.specs.Steps.{Step, undo, execute, readSteps}
 use Rattle.model.specs.Compose.{messageOf, newDependencies, composed}
 use Rattle.model.specs.Calls.{empty, Delivered, deliver, deliverCode, compose, composeCode, setpoint}
-
--- ---- the deltas of the examples
--- "Line A is UID 00000000000A, creator 00000001; B and C alike."
-abbrev lineNumber : ℕ → ℕ
-lineNumber uid = uid * 2 ^ 32 + 1
-
-abbrev A : ℕ → ℕ
-A n = lineNumber 0xA * 65536 + n
-
-abbrev B : ℕ → ℕ
-B n = lineNumber 0xB * 65536 + n
-
-abbrev C : ℕ → ℕ
-C n = lineNumber 0xC * 65536 + n
-
-abbrev command : ℕ → ℕ → ℤ → List ℕ
-command operation tag v = operation ∷ tag ∷ 0 ∷ 0 ∷ bytes 4 (word v)
-
--- "Group 1 and no dependency unless said."
-abbrev plain : ℕ → List ℕ → List ℕ → Message
-plain s dependencies commands = messageOf false s 1 0 0 dependencies commands
-
-abbrev urgent : ℕ → ℕ → ℕ → List ℕ → Message
-urgent s block priority commands = messageOf true s 1 block priority [] commands
-
--- "A1 sets tag 3 to 1500; B1 adds -20 to tag 3."
-abbrev a1 : Message
-a1 = plain (A 1) [] (command 1 3 (pos 1500))
-
-abbrev a2 : Message
-a2 = plain (A 2) [] (command 1 3 (pos 7))
-
-abbrev b1 : Message
-b1 = plain (B 1) [] (command 2 3 (negsuc 19))
-
-abbrev c2 : Message
-c2 = plain (C 2) [] (command 2 4 (pos 1))
-
-abbrev stopped : Message
-stopped = plain (A 1) [] (command 1 3 (pos 999990) ++ command 2 3 (pos 20) ++ command 2 3 (negsuc 19))
-
-abbrev b1-5 : Message
-b1-5 = urgent (B 1) 1 5 (command 2 3 (negsuc 19))
-
-abbrev c1-7 : Message
-c1-7 = urgent (C 1) 1 7 (command 2 4 (pos 20))
-
--- "3 raises the tag to v if it is lower": to 3 it does nothing after 5, to 9 it raises.
-abbrev raised : Message
-raised = plain (A 1) [] (command 1 3 (pos 5) ++ command 3 3 (pos 3) ++ command 3 3 (pos 9) ++ command 3 3 (negsuc 0))
-
-abbrev a1-group-2 : Message
-a1-group-2 = messageOf false (A 1) 2 0 0 [] (command 1 3 (pos 1500))
-
-abbrev a1-naming-b1 : Message
-a1-naming-b1 = plain (A 1) (B 1 ∷ []) (command 1 3 (pos 1500))
-
-abbrev b1-naming-a1 : Message
-b1-naming-a1 = plain (B 1) (A 1 ∷ []) (command 2 3 (negsuc 19))
+use Rattle.model.proofs.ExampleMessages.{lineNumber, A, B, C, command, a1, a2, b1, c2, stopped, b1-5, c1-7, raised, a1-group-2, a1-naming-b1, b1-naming-a1, stepBuffer, begun}
 
 -- ---- an example: what is done, and what comes of it
 data Input : Type 0 where
@@ -87,9 +29,6 @@ data Outcome : Type 0 where
   message : ℕ → List ℕ → Outcome
   -- each delivery's code and steps; then L, H, the bytes used, the log, the held ones and tag 3
   station : List (ℕ × Option (List Step)) → ℕ → ℕ → ℕ → List ℕ → List ℕ → ℤ → Outcome
-
-abbrev stepBuffer : List ℕ
-stepBuffer = replicate stepRoom 0xEE
 
 abbrev answer : Delivered → ℕ × Option (List Step)
 answer d = (d .code, readSteps (d .undos + d .executions) (d .steps))
@@ -104,9 +43,6 @@ run done b (m ∷ l) = let d = deliver b m stepBuffer in run (done ++ answer d �
 abbrev imageOfAll : List ℕ → List Message → List ℕ
 imageOfAll b [] = b
 imageOfAll b (m ∷ l) = imageOfAll (deliver b m stepBuffer .image) l
-
-abbrev begun : List ℕ
-begun = empty (replicate imageSize 0xEE) .image
 
 abbrev outcomeOf : Input → Outcome
 outcomeOf (encode m) = message 0 m
@@ -175,5 +111,10 @@ examples =
 
 -- Every example has the outcome that stands beside it.
 examples-hold : map (λ e. outcomeOf (e .0)) examples ≡ map (λ e. e .1) examples
-unfolding examples empty deliver deliverCode compose composeCode setpoint composed newDependencies isImage imageOf usedOf messagesOf setpointsOf logOf heldOf runDelta runCommand operate raise stop passes layoutRight numbersRight dependenciesRight contentRight commandRight
+unfolding examples empty deliver deliverCode compose composeCode setpoint composed newDependencies isImage imageOf usedOf sectionsOf headerOf valuesOf messagesOf messagesStart messagesStartIn setpointsOf startValues logOf heldOf executablesOf needs runDelta runCommand apply changeOf operate raise stop passes layoutRight numbersRight dependenciesRight contentRight commandRight
 examples-hold = refl
+
+-- A change: 20 more on 999990 at tag 1, of which 10 are left by the stop.
+change-holds : changeOf (command 2 1 (pos 20)) (pos 5 ∷ pos 999990 ∷ []) ≡ record { tag = 1; before = pos 999990; after = pos 1000000 }
+unfolding changeOf operate stop
+change-holds = refl

@@ -1,2 +1,4 @@
+pub mod ExampleMessages
 pub mod Examples
+pub mod CodeExamples
 pub mod CodeLists

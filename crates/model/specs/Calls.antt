@@ -7,11 +7,10 @@ use lib.ListN.{length, drop, getD}
 use lib.Dec.{eqb}
 use lib.IntN.{ℤ, pos}
 use Rattle.model.specs.Bytes.{number}
-use Rattle.model.specs.Layout.{messagesStart}
 use Rattle.model.specs.Message.{Message}
 use Rattle.model.specs.Order.{State, stateOf, add, sequencesOf, logOf}
 use Rattle.model.specs.Setpoints.{setpointsOf}
-use Rattle.model.specs.Image.{imageOf, stateIn, logIn}
+use Rattle.model.specs.Image.{imageOf, messagesStartIn, stateIn, logIn}
 use Rattle.model.specs.Steps.{stepsOf, undosOf, executionsOf, stepsBytes}
 use Rattle.model.specs.Compose.{composed}
 use Rattle.model.specs.Codes.{lowestCode, emptyConditions, deliverConditions, composeConditions, readConditions, logMessageConditions, setpointConditions}
@@ -113,7 +112,7 @@ pub record Read : Type 0 where
 
 -- "It starts at the first message of the log."
 unfoldable pub start : List ℕ → Reader
-start b = record { image = b; offset = messagesStart }
+start b = record { image = b; offset = messagesStartIn b }
 
 -- The message of a list that lies at an offset, the first of them at `at`; empty where none does.
 abbrev pub messageAt : ℕ → List Message → ℕ → Message
@@ -122,7 +121,7 @@ messageAt at (m ∷ l) offset = cond (eqb at offset) m (messageAt (at + length m
 
 -- "Past the last one of the log, or on a buffer that answers 1 or 2, it gives an empty part and stays there."
 abbrev pub nextMessage : ℕ → List ℕ → ℕ → Message
-nextMessage zero b offset = messageAt messagesStart (logIn b) offset
+nextMessage zero b offset = messageAt (messagesStartIn b) (logIn b) offset
 nextMessage (suc n) b offset = []
 
 unfoldable pub next : Reader → Read

@@ -1,5 +1,5 @@
 -- Compose: the message that it writes, as a function of the state.
-use mathlib.Core.Bool.{Bool, cond, not, _&&_, _||_}
+use mathlib.Core.Bool.{Bool, cond, not, _&&_}
 use mathlib.Core.List.{List, [], _∷_, _++_, map}
 use Prim.Native.Nat.{ℕ, suc, _+_, _*_, _/_}
 use lib.ListN.{length}
@@ -7,8 +7,8 @@ use lib.Dec.{eqb, ltb}
 use Rattle.model.specs.Lists.{has, some?, keep, greatest}
 use Rattle.model.specs.Bytes.{bytes, join}
 use Rattle.model.specs.Layout.{headerSize, sequenceSize, numbersOfLine, commandSize}
-use Rattle.model.specs.Message.{Message, commandsStart, totalLength, sequenceOf, groupOf, lineOf, numberOf, predecessorOf, needsOf}
-use Rattle.model.specs.Order.{State, sequencesOf, effectiveBlock, logOf}
+use Rattle.model.specs.Message.{Message, commandsStart, totalLength, sequenceOf, groupOf, lineOf, numberOf, predecessorOf}
+use Rattle.model.specs.Order.{State, sequencesOf, needs, effectiveBlock, logOf}
 
 -- A message from its parts, by the table of 'A delta on the wire'.
 abbrev pub messageOf : Bool → ℕ → ℕ → ℕ → ℕ → List ℕ → List ℕ → Message
@@ -27,11 +27,11 @@ abbrev pub newSequence : List Message → ℕ → ℕ
 newSequence log line = line * numbersOfLine + newNumber log line
 
 -- "Dependencies are the log deltas that no other log delta needs, less the predecessor": by ascending sequence.
-abbrev pub unneeded : List Message → ℕ → Bool
-unneeded log s = has s (sequencesOf log) && not (some? (λ m. has s (needsOf m)) log)
+abbrev pub unneeded : State → ℕ → Bool
+unneeded S s = has s (sequencesOf (logOf S)) && not (some? (λ m. has s (needs S m)) (logOf S))
 
 unfoldable pub newDependencies : State → ℕ → List ℕ
-newDependencies S s = let log = logOf S in keep (λ d. unneeded log d && not (has d (predecessorOf s))) (sequencesOf (S .deltas))
+newDependencies S s = keep (λ d. unneeded S d && not (has d (predecessorOf s))) (sequencesOf (S .deltas))
 
 abbrev pub lastSequence : List Message → ℕ
 lastSequence [] = 0

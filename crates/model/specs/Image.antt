@@ -2,36 +2,49 @@
 use mathlib.Core.Path.{_≡_}
 use mathlib.Core.Bool.{Bool, _&&_}
 use mathlib.Core.List.{List, [], _∷_, _++_, map}
-use Prim.Native.Nat.{ℕ, zero, suc, _+_, _-_, _≤_}
+use Prim.Native.Nat.{ℕ, zero, suc, _+_, _-_}
 use lib.ListN.{length, take, drop, replicate}
-use lib.Dec.{T, leb}
-use lib.IntN.{ℤ}
-use Rattle.model.specs.Lists.{_∈_, every, same}
+use lib.Dec.{leb}
+use Rattle.model.specs.Lists.{every, same}
 use Rattle.model.specs.Bytes.{bytes, field, join, word}
-use Rattle.model.specs.Layout.{lengthAt, imageSize, logCountAt, heldCountAt, setpointsStart, messagesStart, capacity}
+use Rattle.model.specs.Layout.{lengthAt, valueSize, valuesSize, imageSize, logCountAt, heldCountAt, zerosAt, setpointsStart, capacity}
 use Rattle.model.specs.Message.{Message, passes}
-use Rattle.model.specs.Order.{State, stateOf, Ascending, insert, logOf, heldOf}
+use Rattle.model.specs.Order.{State, stateOf, RightSet, insert, logOf, heldOf}
 use Rattle.model.specs.Setpoints.{setpointsOf}
+
+-- ---- the sections, one behind the other
+-- Where the messages start: past the header and the values.
+unfoldable pub messagesStart : State → ℕ
+messagesStart S = setpointsStart + valuesSize
 
 -- "Then the log's messages in order, the held ones by ascending sequence"
 unfoldable pub messagesOf : State → List ℕ
 messagesOf S = join (logOf S) ++ join (heldOf S)
 
--- The bytes used: L, H, the two offsets, the bytes used, six zeros, 64 values, the messages.
+-- "Then 64 values of four bytes, as the log leaves them."
+unfoldable pub valuesOf : State → List ℕ
+valuesOf S = join (map (λ v. bytes valueSize (word v)) (setpointsOf S))
+
+-- The header: log count, held count, the offsets of setpoints and of messages, the bytes used, zeros.
+unfoldable pub headerOf : State → List ℕ
+headerOf S =
+    bytes 2 (length (logOf S)) ++ bytes 2 (length (heldOf S)) ++ bytes 2 setpointsStart ++ bytes 2 (messagesStart S)
+    ++ bytes 2 (messagesStart S + length (messagesOf S)) ++ bytes (setpointsStart - zerosAt) 0
+
+unfoldable pub sectionsOf : State → List (List ℕ)
+sectionsOf S = headerOf S ∷ valuesOf S ∷ messagesOf S ∷ []
+
+-- The bytes used.
 unfoldable pub usedOf : State → List ℕ
-usedOf S =
-    bytes 2 (length (logOf S)) ++ bytes 2 (length (heldOf S)) ++ bytes 2 setpointsStart ++ bytes 2 messagesStart
-    ++ bytes 2 (messagesStart + length (messagesOf S)) ++ bytes 6 0 ++ join (map (λ v. bytes 4 (word v)) (setpointsOf S)) ++ messagesOf S
+usedOf S = join (sectionsOf S)
 
 -- "and zeros to the end"
 unfoldable pub imageOf : State → List ℕ
 imageOf S = usedOf S ++ replicate (imageSize - length (usedOf S)) 0
 
 -- ---- declared: "image of a set of at most 64 deltas that pass 3 to 6, no sequence twice"
-pub record Valid (S : State) : Type 0 where
-  pub ascends : Ascending (S .deltas)
-  pub fits : length (S .deltas) ≤ capacity
-  pub pass : (m : Message) → m ∈ S .deltas → T (passes m)
+abbrev pub Valid : State → Type 0
+Valid S = RightSet (S .deltas)
 
 pub record IsImage (b : List ℕ) : Type 0 where
   pub state : State
@@ -49,12 +62,16 @@ logCount b = field b logCountAt 2
 abbrev pub heldCount : List ℕ → ℕ
 heldCount b = field b heldCountAt 2
 
+-- Where the messages of a buffer start: of an image, where its state's do.
+unfoldable pub messagesStartIn : List ℕ → ℕ
+messagesStartIn b = setpointsStart + valuesSize
+
 -- The image's log, and all of its messages.
 abbrev pub logIn : List ℕ → List Message
-logIn b = cut (logCount b) (drop messagesStart b)
+logIn b = cut (logCount b) (drop (messagesStartIn b) b)
 
 abbrev pub messagesIn : List ℕ → List Message
-messagesIn b = cut (logCount b + heldCount b) (drop messagesStart b)
+messagesIn b = cut (logCount b + heldCount b) (drop (messagesStartIn b) b)
 
 abbrev pub setOf : List Message → List Message
 setOf [] = []

@@ -1,5 +1,5 @@
 -- The offsets, sizes and limits of document 01, in bytes unless said otherwise.
-use Prim.Native.Nat.{ℕ}
+use Prim.Native.Nat.{ℕ, _+_, _*_, _-_}
 use lib.IntN.{ℤ, pos, negsuc}
 
 -- ---- a delta on the wire: the header's fields
@@ -83,8 +83,16 @@ commandZerosAt = 2
 abbrev pub valueAt : ℕ
 valueAt = 4
 
+-- of a value, in a command and in an image
+abbrev pub valueSize : ℕ
+valueSize = 4
+
 abbrev pub tagCount : ℕ
 tagCount = 64
+
+-- of all tags' values
+abbrev pub valuesSize : ℕ
+valuesSize = valueSize * tagCount
 
 abbrev pub lowestValue : ℤ
 lowestValue = negsuc 999999
@@ -102,13 +110,23 @@ logCountAt = 0
 abbrev pub heldCountAt : ℕ
 heldCountAt = 2
 
--- the setpoints, at the offset that bytes 4-5 hold
+abbrev pub setpointsOffsetAt : ℕ
+setpointsOffsetAt = 4
+
+abbrev pub messagesOffsetAt : ℕ
+messagesOffsetAt = 6
+
+-- how many bytes are used
+abbrev pub usedAt : ℕ
+usedAt = 8
+
+-- bytes 10-15, zero
+abbrev pub zerosAt : ℕ
+zerosAt = 10
+
+-- the setpoints, past the header. Where the messages start depends on the image: see `messagesStart` in `Image`.
 abbrev pub setpointsStart : ℕ
 setpointsStart = 16
-
--- the messages, at the offset that bytes 6-7 hold
-abbrev pub messagesStart : ℕ
-messagesStart = 272
 
 -- the most deltas that an image holds
 abbrev pub capacity : ℕ
@@ -122,8 +140,12 @@ stepSize = 16
 abbrev pub stepSequenceAt : ℕ
 stepSequenceAt = 4
 
+-- the most steps of a delivery: 63 undos, since the old log lacks the new delta, and 64 executions
+abbrev pub mostSteps : ℕ
+mostSteps = (capacity - 1) + capacity
+
 abbrev pub stepRoom : ℕ
-stepRoom = 2032
+stepRoom = stepSize * mostSteps
 
 abbrev pub messageRoom : ℕ
 messageRoom = 200

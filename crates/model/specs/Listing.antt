@@ -2,13 +2,45 @@
 -- `Order` puts deltas in their place. Nothing here knows of bytes.
 use mathlib.Core.Path.{_≡_}
 use mathlib.Core.Logic.{_⊎_}
-use mathlib.Core.Bool.{Bool, true, false, cond, not, _&&_}
+use mathlib.Core.Bool.{Bool, cond, not, _&&_}
 use mathlib.Core.Option.{Option, some, none}
 use mathlib.Core.List.{List, [], _∷_, _++_}
 use Prim.Native.Nat.{ℕ, zero, suc}
 use lib.ListN.{length}
 use lib.Dec.{T}
 use Rattle.model.specs.Lists.{_∈_, has, hasAll, keep}
+
+module _ {A : Type 0} (name : A → ℕ) where
+  -- The names of the items placed one after the other, after the names `done`: the last one first.
+  abbrev pub after : List ℕ → List A → List ℕ
+  after done [] = done
+  after done (a ∷ l) = after (name a ∷ done) l
+
+  -- An item, and what follows once it is placed; nothing where there is none.
+  abbrev pub place : (List ℕ → List A) → List ℕ → Option A → List A
+  place rest done none = []
+  place rest done (some a) = a ∷ rest (name a ∷ done)
+
+-- The first of a list, as good as any.
+abbrev pub anyOf : {A : Type 0} → List A → Option A
+anyOf [] = none
+anyOf (a ∷ l) = some a
+
+module _ {A : Type 0} {K : Type 0} (key : A → K) (less : K → K → Bool) where
+  -- The first list is not after the second "when keys are compared place by place".
+  abbrev pub NotAfter : List A → List A → Type 0
+  NotAfter [] l = Unit {0}
+  NotAfter (a ∷ k) [] = ⊥
+  NotAfter (a ∷ k) (b ∷ l) = T (less (key a) (key b)) ⊎ ((key a ≡ key b) × NotAfter k l)
+
+  -- The one of the lowest key.
+  abbrev pub lower : A → Option A → Option A
+  lower a none = some a
+  lower a (some b) = cond (less (key b) (key a)) (some b) (some a)
+
+  abbrev pub lowestOf : List A → Option A
+  lowestOf [] = none
+  lowestOf (a ∷ l) = lower a (lowestOf l)
 
 module _ {A : Type 0} (name : A → ℕ) (needs : A → List ℕ) where
   -- May follow the names `done`: it is not among them, and all that it needs is.
@@ -33,34 +65,34 @@ module _ {A : Type 0} (name : A → ℕ) (needs : A → List ℕ) where
     pub sound : (a : A) → a ∈ l → (a ∈ S) × Executable S a
     pub complete : (a : A) → a ∈ S → Executable S a → a ∈ l
 
-  module _ {K : Type 0} (key : A → K) (less : K → K → Bool) where
-    -- The first list is not after the second "when keys are compared place by place".
-    abbrev pub NotAfter : List A → List A → Type 0
-    NotAfter [] l = Unit {0}
-    NotAfter (a ∷ k) [] = ⊥
-    NotAfter (a ∷ k) (b ∷ l) = T (less (key a) (key b)) ⊎ ((key a ≡ key b) × NotAfter k l)
+  -- ---- reach
+  -- The names that an item reaches: those that it needs, and those that a received item which it needs reaches.
+  pub data Reaches (S : List A) : A → ℕ → Type 0 where
+    needed : {a : A} {s : ℕ} → s ∈ needs a → Reaches S a s
+    through : {a b : A} {s : ℕ} → b ∈ S → name b ∈ needs a → Reaches S b s → Reaches S a s
 
+  -- "all it needs, step by step back, has been received and contains no ring": all that it reaches is received,
+  -- and neither it nor an item that it reaches reaches itself
+  pub record Grounded (S : List A) (a : A) : Type 0 where
+    pub received : (s : ℕ) → Reaches S a s → (b : A) × (b ∈ S) × (name b ≡ s)
+    pub no-ring : Reaches S a (name a) → ⊥
+    pub no-ring-behind : (b : A) → b ∈ S → Reaches S a (name b) → Reaches S b (name b) → ⊥
+
+  -- ---- computed: of all that are ready a chosen one is placed, again and again, until none is ready
+  abbrev pub grow : (List A → Option A) → List A → ℕ → List ℕ → List A
+  grow choose S zero done = []
+  grow choose S (suc n) done = place name (grow choose S n) done (choose (keep (ready done) S))
+
+  -- Each executable item once: whichever is ready is placed.
+  abbrev pub closureOf : List A → List A
+  closureOf S = grow anyOf S (length S) []
+
+  module _ {K : Type 0} (key : A → K) (less : K → K → Bool) where
     -- "the first of all such listings"
     pub record First (S l : List A) : Type 0 where
       pub complete : Complete S l
-      pub first : (k : List A) → Complete S k → NotAfter l k
+      pub first : (k : List A) → Complete S k → NotAfter key less l k
 
-    -- ---- the same list, computed: of all that are ready, the one of the lowest key, again and again
-    abbrev pub lower : A → Option A → Option A
-    lower a none = some a
-    lower a (some b) = cond (less (key b) (key a)) (some b) (some a)
-
-    abbrev pub lowestOf : List A → Option A
-    lowestOf [] = none
-    lowestOf (a ∷ l) = lower a (lowestOf l)
-
-    abbrev pub place : (List ℕ → List A) → List ℕ → Option A → List A
-    place rest done none = []
-    place rest done (some a) = a ∷ rest (name a ∷ done)
-
-    abbrev pub grow : List A → ℕ → List ℕ → List A
-    grow S zero done = []
-    grow S (suc n) done = place (grow S n) done (lowestOf (keep (ready done) S))
-
+    -- The same list, computed: the one of the lowest key is placed.
     abbrev pub firstOf : List A → List A
-    firstOf S = grow S (length S) []
+    firstOf S = grow (lowestOf key less) S (length S) []

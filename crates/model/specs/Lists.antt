@@ -1,5 +1,5 @@
 -- Membership, and the tests on lists that the definitions compute with.
-use mathlib.Core.Bool.{Bool, true, false, cond, not, _&&_, _||_}
+use mathlib.Core.Bool.{Bool, true, false, cond, _&&_, _||_}
 use mathlib.Core.List.{List, [], _∷_, List·Memᴰ}
 use Prim.Native.Nat.{ℕ, max}
 use lib.Dec.{eqb, ltb}

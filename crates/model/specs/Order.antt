@@ -1,14 +1,15 @@
 -- What runs, and in which order: the state of a station, executable deltas, the effective block, the key, the log and the held ones.
 use mathlib.Core.Bool.{Bool, true, false, cond, not, _&&_, _||_}
-use mathlib.Core.List.{List, [], _∷_, _++_, map}
-use Prim.Native.Nat.{ℕ, zero, suc, _-_, _<_, max}
-use lib.Dec.{eqb, ltb}
+use mathlib.Core.List.{List, [], _∷_, map}
+use Prim.Native.Nat.{ℕ, zero, suc, _-_, _≤_, _<_, max}
+use lib.ListN.{length}
+use lib.Dec.{T, eqb, ltb}
 use Rattle.model.specs.Lists.{_∈_, has, keep, greatest}
 use Rattle.model.specs.Layout.{fieldLimit, capacity}
-use Rattle.model.specs.Message.{Message, sequenceOf, hasPriority, groupOf, blockOf, priorityOf, needsOf}
+use Rattle.model.specs.Message.{Message, sequenceOf, hasPriority, groupOf, blockOf, priorityOf, needsOf, passes}
 use Rattle.model.specs.Listing as L
 
--- The state of a station: the deltas that it received, a set. A set is kept as a list that ascends strictly by sequence (see `Valid`).
+-- The state of a station: the deltas that it received, a set. A set is kept as a list that ascends strictly by sequence (see `RightSet`).
 pub record State : Type 0 where
   pub deltas : List Message
 
@@ -18,6 +19,12 @@ stateOf l = record { deltas = l }
 abbrev pub Ascending : List Message → Type 0
 Ascending [] = Unit {0}
 Ascending (m ∷ l) = ((x : Message) → x ∈ l → sequenceOf m < sequenceOf x) × Ascending l
+
+-- "a set of at most 64 deltas that pass 3 to 6, no sequence twice"
+pub record RightSet (l : List Message) : Type 0 where
+  pub ascends : Ascending l
+  pub fits : length l ≤ capacity
+  pub pass : (m : Message) → m ∈ l → T (passes m)
 
 -- A message joins the set. One of the same sequence stays as it is.
 abbrev pub insert : Message → List Message → List Message
@@ -36,16 +43,47 @@ abbrev pub find : List Message → ℕ → Message
 find [] s = []
 find (m ∷ l) s = cond (eqb (sequenceOf m) s) m (find l s)
 
+-- ---- what a delta waits for, at a station of this state: all that it needs
+unfoldable pub needs : State → Message → List ℕ
+needs S m = needsOf m
+
+-- The sequences that are placed when these deltas are, the last one first.
+abbrev pub placedBy : List Message → List ℕ
+placedBy l = L.after sequenceOf [] l
+
+-- It is not placed, and all that it needs is.
+abbrev pub ready : State → List ℕ → Message → Bool
+ready S = L.ready sequenceOf (needs S)
+
+-- "without repeats", and "each one's needs come earlier"
+abbrev pub Listing : State → List ℕ → List Message → Type 0
+Listing S = L.Listing sequenceOf (needs S)
+
+abbrev pub Executable : State → Message → Type 0
+Executable S m = L.Executable sequenceOf (needs S) (S .deltas) m
+
+-- "all it needs, step by step back, has been received and contains no ring"
+abbrev pub Grounded : State → Message → Type 0
+Grounded S m = L.Grounded sequenceOf (needs S) (S .deltas) m
+
+-- The executable deltas, each after its needs.
+unfoldable pub executablesOf : State → List Message
+executablesOf S = L.closureOf sequenceOf (needs S) (S .deltas)
+
+-- "All others are held": by ascending sequence.
+unfoldable pub heldOf : State → List Message
+heldOf S = let executable = sequencesOf (executablesOf S) in keep (λ m. not (has (sequenceOf m) executable)) (S .deltas)
+
 -- ---- the key
 -- "The effective block is the greater of its own block (0 without priority) and the effective blocks of its needs":
 -- along needs of needs, 64 deep, which is as far as the needs of an executable delta reach among 64. `laws` shows that
 -- equation of every executable delta; the number of a held one is used nowhere.
-abbrev pub blockAlong : ℕ → List Message → ℕ → ℕ
-blockAlong zero l s = 0
-blockAlong (suc n) l s = max (blockOf (find l s)) (greatest (blockAlong n l) (needsOf (find l s)))
+abbrev pub blockAlong : State → ℕ → ℕ → ℕ
+blockAlong S zero s = 0
+blockAlong S (suc n) s = max (blockOf (find (S .deltas) s)) (greatest (blockAlong S n) (needs S (find (S .deltas) s)))
 
 abbrev pub effectiveBlock : State → Message → ℕ
-effectiveBlock S m = blockAlong capacity (S .deltas) (sequenceOf m)
+effectiveBlock S m = blockAlong S capacity (sequenceOf m)
 
 -- "effective block, lower first; then explicit priority before none, and the greater priority first;
 -- then group, lower first; then sequence, lower first": five numbers, each lower first.
@@ -61,19 +99,15 @@ less [] (b ∷ k) = true
 less (a ∷ l) [] = false
 less (a ∷ l) (b ∷ k) = ltb a b || (eqb a b && less l k)
 
--- ---- declared
-abbrev pub Executable : State → Message → Type 0
-Executable S m = L.Executable sequenceOf needsOf (S .deltas) m
-
+-- ---- the log, declared and computed
 -- "The log lists each executable delta once, needs before, and is the first of all such listings
 -- when keys are compared place by place."
 abbrev pub IsLog : State → List Message → Type 0
-IsLog S l = L.First sequenceOf needsOf (keyOf S) less (S .deltas) l
+IsLog S l = L.First sequenceOf (needs S) (keyOf S) less (S .deltas) l
 
--- ---- computed
+-- What follows in the log after the placed sequences: of all that are ready the one of the lowest key, again and again.
+abbrev pub logFrom : State → ℕ → List ℕ → List Message
+logFrom S = L.grow sequenceOf (needs S) (L.lowestOf (keyOf S) less) (S .deltas)
+
 unfoldable pub logOf : State → List Message
-logOf S = L.firstOf sequenceOf needsOf (keyOf S) less (S .deltas)
-
--- "All others are held": by ascending sequence.
-unfoldable pub heldOf : State → List Message
-heldOf S = let logged = sequencesOf (logOf S) in keep (λ m. not (has (sequenceOf m) logged)) (S .deltas)
+logOf S = logFrom S (length (S .deltas)) []

@@ -3,11 +3,11 @@ use mathlib.Core.Bool.{Bool, cond, _||_}
 use mathlib.Core.List.{List, [], _∷_, _++_}
 use Prim.Native.Nat.{ℕ, zero, suc, _+_, _/_, _%_}
 use lib.ListN.{length, take, drop, replicate}
-use lib.Dec.{eqb, ltb}
-use Rattle.model.specs.Bytes.{field, join}
+use lib.Dec.{ltb}
+use Rattle.model.specs.Bytes.{field}
 use Rattle.model.specs.Layout.{lengthAt, stepRoom, inputLimit, shortestCut, longestCut}
 use Rattle.model.specs.Image.{imageOf, logCount, heldCount}
-use Rattle.model.specs.Calls.{emptyState, Delivered, deliver}
+use Rattle.model.specs.Calls.{emptyState, deliver}
 
 -- A number in decimal: its last `n` digits, without zeros in front. No number that is printed has more than five.
 abbrev pub digits : ℕ → ℕ → List ℕ

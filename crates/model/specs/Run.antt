@@ -1,6 +1,6 @@
 -- Demand 3 over a whole run, as one record. `Agreement` says what has to hold of an empty and a deliver call that are known by
--- what they promise: `begins b`, that empty answered 0 and wrote b, and `answers b c a`, that the call c on the image b answered a.
--- `Begins` and `Answers` are those of the definitions; of the code they are the postconditions of its functions.
+-- what they promise: `begins given b`, that empty was given this, answered 0 and wrote b, and `answers b c a`, that the call c on
+-- the image b answered a. `Begins` and `Answers` are those of the definitions; of the code they are the postconditions of its functions.
 use mathlib.Core.Path.{_≡_}
 use mathlib.Core.Logic.{_↔_}
 use mathlib.Core.Bool.{Bool, cond}
@@ -16,6 +16,10 @@ use Rattle.model.specs.Image.{imageOf, logIn}
 use Rattle.model.specs.Steps.{Step, undo, execute, undosOf, executionsOf, readSteps, Plays}
 use Rattle.model.specs.Calls.{Delivered, emptyState, empty, deliverCode, deliver}
 use Rattle.model.specs.PlainStation.{accepts, receive}
+
+-- What empty was given: the buffer as lent.
+pub record Given : Type 0 where
+  pub buffer : List ℕ
 
 -- A call of a list: deliver, with its message and its step buffer as lent.
 pub data Call : Type 0 where
@@ -39,16 +43,28 @@ Run answers begun (e ∷ earlier) = answers (imageAfter begun earlier) (e .call)
 abbrev pub accepts? : State → Call → Bool
 accepts? S (delivery m steps) = accepts S m (length steps)
 
+-- "Its state is a set of messages, empty at first."
+abbrev pub stateBegun : Given → State
+stateBegun given = emptyState
+
 abbrev pub stateNext : State → Call → State
 stateNext S (delivery m steps) = receive S m (length steps)
 
-abbrev pub stateAfter : List Event → State
-stateAfter [] = emptyState
-stateAfter (e ∷ earlier) = stateNext (stateAfter earlier) (e .call)
+abbrev pub stateAfter : Given → List Event → State
+stateAfter given [] = stateBegun given
+stateAfter given (e ∷ earlier) = stateNext (stateAfter given earlier) (e .call)
 
 -- its log, as a list of sequences
-abbrev pub logAfter : List Event → List ℕ
-logAfter events = sequencesOf (logOf (stateAfter events))
+abbrev pub logAfter : Given → List Event → List ℕ
+logAfter given events = sequencesOf (logOf (stateAfter given events))
+
+-- the log that a call's steps are played from: as it was left
+abbrev pub playedFrom : Call → List ℕ → List ℕ
+playedFrom (delivery m steps) log = log
+
+-- a call's old log: the one before it, as its steps find it
+abbrev pub oldLog : Given → Event → List Event → List ℕ
+oldLog given e earlier = playedFrom (e .call) (logAfter given earlier)
 
 -- the lowest number that applies
 abbrev pub codeFor : List ℕ → Call → ℕ
@@ -62,6 +78,10 @@ abbrev pub acceptedIn : List Event → List Message
 acceptedIn [] = []
 acceptedIn (e ∷ earlier) = cond (eqb (e .answer .code) 0) (messageOfCall (e .call) ∷ acceptedIn earlier) (acceptedIn earlier)
 
+-- two stations that are promised equal images: the same messages were accepted
+abbrev pub SameAccepted : Given → List Event → Given → List Event → Type 0
+SameAccepted given events other others = (m : Message) → m ∈ acceptedIn events ↔ m ∈ acceptedIn others
+
 -- ---- "The steps of a call are the records at the front of its step buffer: as many undos as its answer counts,
 -- then as many executions as its answer counts; a refused call has none" (its counts are 0)
 pub record StepsTaken (e : Event) (undone executed : List ℕ) : Type 0 where
@@ -74,37 +94,41 @@ abbrev pub Played : List Event → List ℕ → Type 0
 Played [] log = log ≡ []
 Played (e ∷ earlier) log =
     (old : List ℕ) × (undone : List ℕ) × (executed : List ℕ) × Played earlier old × StepsTaken e undone executed
-    × Plays old (map undo undone ++ map execute executed) log
+    × Plays (playedFrom (e .call) old) (map undo undone ++ map execute executed) log
 
 -- ---- the demand, of every list of calls from an image that empty wrote
-pub record Agreement (begins : List ℕ → Type 0) (answers : List ℕ → Call → Delivered → Type 0) : Type 0 where
+pub record Agreement (begins : Given → List ℕ → Type 0) (answers : List ℕ → Call → Delivered → Type 0) : Type 0 where
   -- "Deliver answers 0 exactly where the plain station accepts, and otherwise the lowest number that applies."
-  pub accepted : (b : List ℕ) → begins b → (e : Event) (earlier : List Event) → Run answers b (e ∷ earlier)
-      → (e .answer .code ≡ 0) ↔ T (accepts? (stateAfter earlier) (e .call))
-  pub code : (b : List ℕ) → begins b → (e : Event) (earlier : List Event) → Run answers b (e ∷ earlier)
+  pub accepted : (given : Given) (b : List ℕ) → begins given b → (e : Event) (earlier : List Event) → Run answers b (e ∷ earlier)
+      → (e .answer .code ≡ 0) ↔ T (accepts? (stateAfter given earlier) (e .call))
+  pub code : (given : Given) (b : List ℕ) → begins given b → (e : Event) (earlier : List Event) → Run answers b (e ∷ earlier)
       → e .answer .code ≡ codeFor (imageAfter b earlier) (e .call)
   -- "Its log and image are those of the set": the image is the plain station's.
-  pub image : (b : List ℕ) → begins b → (events : List Event) → Run answers b events → imageAfter b events ≡ imageOf (stateAfter events)
+  pub image : (given : Given) (b : List ℕ) → begins given b → (events : List Event) → Run answers b events
+      → imageAfter b events ≡ imageOf (stateAfter given events)
   -- "So a set of deltas has one image": equal accepted sets give equal images, on any two stations.
-  pub equal : (b c : List ℕ) → begins b → begins c → (events others : List Event) → Run answers b events → Run answers c others
-      → ((m : Message) → m ∈ acceptedIn events ↔ m ∈ acceptedIn others) → imageAfter b events ≡ imageAfter c others
+  pub equal : (given other : Given) (b c : List ℕ) → begins given b → begins other c → (events others : List Event)
+      → Run answers b events → Run answers c others → SameAccepted given events other others → imageAfter b events ≡ imageAfter c others
   -- "After each call the played log, the image's log and the plain station's log are the same sequences in the same order."
-  pub played : (b : List ℕ) → begins b → (events : List Event) → Run answers b events → (log : List ℕ) → Played events log ↔ (log ≡ logAfter events)
-  pub imageLog : (b : List ℕ) → begins b → (events : List Event) → Run answers b events → sequencesOf (logIn (imageAfter b events)) ≡ logAfter events
+  pub played : (given : Given) (b : List ℕ) → begins given b → (events : List Event) → Run answers b events
+      → (log : List ℕ) → Played events log ↔ (log ≡ logAfter given events)
+  pub imageLog : (given : Given) (b : List ℕ) → begins given b → (events : List Event) → Run answers b events
+      → sequencesOf (logIn (imageAfter b events)) ≡ logAfter given events
   -- "The number of a delivery's undos is the length of its old log less that of the longest common start,
   -- and of its executions the length of its new log less the same."
-  pub undos : (b : List ℕ) → begins b → (e : Event) (earlier : List Event) → Run answers b (e ∷ earlier)
-      → e .answer .undos ≡ undosOf (logAfter earlier) (logAfter (e ∷ earlier))
-  pub executions : (b : List ℕ) → begins b → (e : Event) (earlier : List Event) → Run answers b (e ∷ earlier)
-      → e .answer .executions ≡ executionsOf (logAfter earlier) (logAfter (e ∷ earlier))
+  pub undos : (given : Given) (b : List ℕ) → begins given b → (e : Event) (earlier : List Event) → Run answers b (e ∷ earlier)
+      → e .answer .undos ≡ undosOf (oldLog given e earlier) (logAfter given (e ∷ earlier))
+  pub executions : (given : Given) (b : List ℕ) → begins given b → (e : Event) (earlier : List Event) → Run answers b (e ∷ earlier)
+      → e .answer .executions ≡ executionsOf (oldLog given e earlier) (logAfter given (e ∷ earlier))
   -- "Its rivals are all lists of undos and executions that can be played from its old log to its new one, both kinds counted
   -- together": no rival is shorter.
-  pub fewest : (b : List ℕ) → begins b → (e : Event) (earlier : List Event) → Run answers b (e ∷ earlier)
-      → (rival : List Step) → Plays (logAfter earlier) rival (logAfter (e ∷ earlier)) → e .answer .undos + e .answer .executions ≤ length rival
+  pub fewest : (given : Given) (b : List ℕ) → begins given b → (e : Event) (earlier : List Event) → Run answers b (e ∷ earlier)
+      → (rival : List Step) → Plays (oldLog given e earlier) rival (logAfter given (e ∷ earlier))
+      → e .answer .undos + e .answer .executions ≤ length rival
 
 -- ---- the calls of the definitions
-abbrev pub Begins : List ℕ → Type 0
-Begins b = (lent : List ℕ) × (empty lent .code ≡ 0) × (b ≡ empty lent .image)
+abbrev pub Begins : Given → List ℕ → Type 0
+Begins given b = (empty (given .buffer) .code ≡ 0) × (b ≡ empty (given .buffer) .image)
 
 abbrev pub Answers : List ℕ → Call → Delivered → Type 0
 Answers b (delivery m steps) a = a ≡ deliver b m steps

@@ -1,5 +1,5 @@
 -- Setpoints: a command, a delta's commands, and the 64 values that a log leaves.
-use mathlib.Core.Bool.{Bool, cond}
+use mathlib.Core.Bool.{cond}
 use mathlib.Core.List.{List, [], _∷_}
 use Prim.Native.Nat.{ℕ}
 use lib.ListN.{getD, set, replicate}
@@ -11,13 +11,13 @@ use Rattle.model.specs.Layout.{operationAt, tagAt, tagCount, lowestValue
 use Rattle.model.specs.Message.{Message, commandsOf, valueOf}
 use Rattle.model.specs.Order.{State, logOf}
 
--- "64 setpoints, all zero at first"
-abbrev pub startValues : List ℤ
-startValues = replicate tagCount (pos 0)
+-- "64 setpoints, all zero at first", whatever the state
+unfoldable pub startValues : State → List ℤ
+startValues S = replicate tagCount (pos 0)
 
--- "The sum is stopped at -1000000 and at 1000000."
-unfoldable pub stop : ℤ → ℤ
-stop z = cond (ltZ z lowestValue) lowestValue (cond (ltZ highestValue z) highestValue z)
+-- "The sum is stopped at -1000000 and at 1000000": at the low and at the high that `operate` hands over.
+unfoldable pub stop : ℤ → ℤ → ℤ → ℤ
+stop low high z = cond (ltZ z low) low (cond (ltZ high z) high z)
 
 -- "raises the tag to v if it is lower"
 unfoldable pub raise : ℤ → ℤ → ℤ
@@ -25,12 +25,25 @@ raise x v = cond (ltZ x v) v x
 
 -- "Operation 1 sets the tag to v; 2 adds v; 3 raises the tag": x is the tag's value.
 unfoldable pub operate : ℕ → ℤ → ℤ → ℤ
-operate operation x v = cond (eqb operation 1) v (cond (eqb operation 2) (stop (x +ℤ v)) (raise x v))
+operate operation x v = cond (eqb operation 1) v (cond (eqb operation 2) (stop lowestValue highestValue (x +ℤ v)) (raise x v))
+
+-- A command's change, a term of ours: its tag, and the tag's value before and after.
+pub record Change : Type 0 where
+  pub tag : ℕ
+  pub before : ℤ
+  pub after : ℤ
+
+unfoldable pub changeOf : List ℕ → List ℤ → Change
+changeOf c values =
+    let tag = field c tagAt 1 in
+    let before = getD values tag (pos 0) in
+    record { tag = tag; before = before; after = operate (field c operationAt 1) before (valueOf c) }
+
+unfoldable pub apply : Change → List ℤ → List ℤ
+apply change values = set values (change .tag) (change .after)
 
 unfoldable pub runCommand : List ℕ → List ℤ → List ℤ
-runCommand c values =
-    let tag = field c tagAt 1 in
-    set values tag (operate (field c operationAt 1) (getD values tag (pos 0)) (valueOf c))
+runCommand c values = apply (changeOf c values) values
 
 abbrev pub runCommands : List (List ℕ) → List ℤ → List ℤ
 runCommands [] values = values
@@ -45,4 +58,4 @@ runLog [] values = values
 runLog (m ∷ l) values = runLog l (runDelta m values)
 
 unfoldable pub setpointsOf : State → List ℤ
-setpointsOf S = runLog (logOf S) startValues
+setpointsOf S = runLog (logOf S) (startValues S)

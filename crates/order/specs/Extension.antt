@@ -1,19 +1,19 @@
 -- One more item, which needs every listed item that no listed one needs: the list goes on with it.
-use mathlib.Core.Path.{_≡_, refl, sym, _∙_, ap, ap₂, subst}
+use mathlib.Core.Path.{_≡_, refl, sym, _∙_, ap, subst}
 use mathlib.Core.Logic.{_⊎_, inl, inr, ⊎-elim}
-use mathlib.Core.Bool.{Bool, true, false, not, _&&_, _||_}
+use mathlib.Core.Bool.{Bool, not}
 use mathlib.Core.Option.{Option, some, none}
 use mathlib.Core.List.{List, [], _∷_, _++_, List·Memᴰ·head, List·Memᴰ·tail, List·Memᴰ·not-nil, List·Memᴰ·cases-cons, List·Memᴰ·append-cases, List·Memᴰ·eq-of-singleton, Memᴰ·cast}
-use Prim.Native.Nat.{ℕ, zero, suc, _+_, _-_, _≤_, _<_}
+use Prim.Native.Nat.{ℕ, suc, _+_, _-_, _≤_}
 use native.Mathlib.Omega.{arith}
 use native.Mathlib.Nat.{zero-add, suc-add}
 use lib.ListN.{length, length-append}
 use lib.Dec.{T, T-not, not-T}
 use Rattle.model.specs.Lists.{_∈_, has, hasAll, keep}
-use Rattle.model.specs.Listing.{ready, Listing, Complete, lowestOf, place, grow, firstOf}
-use Rattle.order.specs.TestLaws.{has→∈, ∈→has, hasAll→∈, ∈→hasAll, and-i, decide}
+use Rattle.model.specs.Listing.{after, ready, Listing, Complete, lowestOf, place, grow, firstOf}
+use Rattle.order.specs.TestLaws.{has→∈, ∈→has, hasAll→∈, ∈→hasAll, and-i}
 use Rattle.order.specs.KeyOrder.{Total}
-use Rattle.order.specs.ListingLaws.{after, Stuck, Next, Next?, next-is, grow-ind, first-complete, ready-fresh, ready-needs, listing-snoc, listing-length, complete-stuck, after-has, after-from, not-self}
+use Rattle.order.specs.ListingLaws.{stuck-placed, Next, Next?, next-is, grow-ind, first-complete, ready-fresh, ready-needs, listing-snoc, listing-length, complete-stuck, after-has, after-from, not-self}
 
 module _ {A : Type 0} (name : A → ℕ) (needs : A → List ℕ) where
   -- each of l is needed by m, or by one that stands before, or by one of l
@@ -49,12 +49,12 @@ module _ {A : Type 0} (name : A → ℕ) (needs : A → List ℕ) where
 
   module _ {K : Type 0} (key : A → K) (less : K → K → Bool) (tot : Total less) (S : List A) (keys : (a b : A) → a ∈ S → b ∈ S → key a ≡ key b → a ≡ b) where
     -- the next one is placed
-    pub grow-next : (n : ℕ) (done : List ℕ) (a : A) → Next name needs key less tot S done a → grow name needs key less S (suc n) done ≡ a ∷ grow name needs key less S n (name a ∷ done)
-    grow-next n done a x = go (lowestOf name needs key less (keep (ready name needs done) S)) (next-is name needs key less tot S done)
+    pub grow-next : (n : ℕ) (done : List ℕ) (a : A) → Next name needs key less tot S done a → grow name needs (lowestOf key less) S (suc n) done ≡ a ∷ grow name needs (lowestOf key less) S n (name a ∷ done)
+    grow-next n done a x = go (lowestOf key less (keep (ready name needs done) S)) (next-is name needs key less tot S done)
       where
-        go : (o : Option A) → Next? name needs key less tot S done o → place name needs key less (grow name needs key less S n) done o ≡ a ∷ grow name needs key less S n (name a ∷ done)
+        go : (o : Option A) → Next? name needs key less tot S done o → place name (grow name needs (lowestOf key less) S n) done o ≡ a ∷ grow name needs (lowestOf key less) S n (name a ∷ done)
         go none st = absurd (st a (x .of) (x .is-ready))
-        go (some b) y = ap (λ (c : A). c ∷ grow name needs key less S n (name c ∷ done)) (keys b a (y .of) (x .of)
+        go (some b) y = ap (λ (c : A). c ∷ grow name needs (lowestOf key less) S n (name c ∷ done)) (keys b a (y .of) (x .of)
             (tot .tri (key b) (key a) (x .is-least b (y .of) (y .is-ready)) (y .is-least a (x .of) (x .is-ready))))
 
   module _ {K : Type 0} (less : K → K → Bool) (tot : Total less) (key key′ : A → K) (S R : List A) (m : A)
@@ -69,25 +69,22 @@ module _ {A : Type 0} (name : A → ℕ) (needs : A → List ℕ) where
     full = first-complete name needs key less tot S names keys
 
     end : List ℕ
-    end = after name needs [] L
+    end = after name [] L
 
     -- what is ready while the log is placed is of the log
-    ready-in : (d : List ℕ) → ((s : ℕ) → s ∈ d → s ∈ after name needs [] L) → (b : A) → b ∈ S → T (ready name needs d b) → b ∈ L
-    ready-in d sub b k t = ⊎-elim (λ q. absurd (List·Memᴰ·not-nil q)) (λ r. Memᴰ·cast (names b (r .0) k (full .sound (r .0) (r .1) .0) (sym (r .2))) (r .1)) (after-from name needs L [] there)
+    ready-in : (d : List ℕ) → ((s : ℕ) → s ∈ d → s ∈ after name [] L) → (b : A) → b ∈ S → T (ready name needs d b) → b ∈ L
+    ready-in d sub b k t = ⊎-elim (λ q. absurd (List·Memᴰ·not-nil q)) (λ r. Memᴰ·cast (names b (r .0) k (full .sound (r .0) (r .1) .0) (sym (r .2))) (r .1)) (after-from name L [] there)
       where
-        there : name b ∈ after name needs [] L
-        there = ⊎-elim (λ q. has→∈ (name b) (after name needs [] L) q)
-            (λ q. absurd (complete-stuck name needs S L full b k (and-i (not (has (name b) (after name needs [] L))) (hasAll (needs b) (after name needs [] L)) q
-            (∈→hasAll (needs b) (after name needs [] L) (λ s j. sub s (hasAll→∈ (needs b) d (ready-needs name needs d b t) s j))))))
-            (decide (has (name b) (after name needs [] L)))
+        there : name b ∈ after name [] L
+        there = stuck-placed name needs S (after name [] L) (complete-stuck name needs S L full) b k (λ s j. sub s (hasAll→∈ (needs b) d (ready-needs name needs d b t) s j))
 
     module _ (agree : (a : A) → a ∈ L → key′ a ≡ key a)
-        (needed : (s : ℕ) → s ∈ needs m → s ∈ after name needs [] L)
+        (needed : (s : ℕ) → s ∈ needs m → s ∈ after name [] L)
         (unnamed : (a : A) → a ∈ L → name a ≡ name m → ⊥)
         (covers : (a : A) → a ∈ L → (name a ∈ needs m) ⊎ ((b : A) × (b ∈ L) × (name a ∈ needs b))) where
       -- the state while the log is placed
       record Placing (d : List ℕ) : Type 0 where
-        within : (s : ℕ) → s ∈ d → s ∈ after name needs [] L
+        within : (s : ℕ) → s ∈ d → s ∈ after name [] L
         closed : (b : A) → b ∈ L → name b ∈ d → (s : ℕ) → s ∈ needs b → s ∈ d
 
       next-too : (d : List ℕ) (a : A) → Placing d → a ∈ L → Next name needs key less tot S d a → Next name needs key′ less tot R d a
@@ -103,7 +100,7 @@ module _ {A : Type 0} (name : A → ℕ) (needs : A → List ℕ) where
 
       placing-next : (d : List ℕ) (a : A) → Placing d → a ∈ L → T (ready name needs d a) → Placing (name a ∷ d)
       placing-next d a pl k t = record {
-        within = λ s j. ⊎-elim (λ e. Memᴰ·cast e (after-has name needs L [] k)) (λ i. pl .within s i) (List·Memᴰ·cases-cons j);
+        within = λ s j. ⊎-elim (λ e. Memᴰ·cast e (after-has name L [] k)) (λ i. pl .within s i) (List·Memᴰ·cases-cons j);
         closed = λ b j i s q. List·Memᴰ·tail (⊎-elim
             (λ e. hasAll→∈ (needs a) d (ready-needs name needs d a t) s (subst (λ (y : A). s ∈ needs y) (names b a (full .sound b j .0) (full .sound a k .0) e) q))
             (λ i′. pl .closed b j i′ s q) (List·Memᴰ·cases-cons i));
@@ -114,27 +111,27 @@ module _ {A : Type 0} (name : A → ℕ) (needs : A → List ℕ) where
       Run d (a ∷ l) = Next name needs key less tot S d a × Run (name a ∷ d) l
 
       goes-on : (l : List A) (d : List ℕ) (n : ℕ) → Placing d → ((b : A) → b ∈ l → b ∈ L) → Run d l
-          → grow name needs key′ less R (length l + n) d ≡ l ++ grow name needs key′ less R n (after name needs d l)
+          → grow name needs (lowestOf key′ less) R (length l + n) d ≡ l ++ grow name needs (lowestOf key′ less) R n (after name d l)
       goes-on [] d n pl all r = rw zero-add
       goes-on (a ∷ l) d n pl all r =
-          ap (λ (i : ℕ). grow name needs key′ less R i d) (suc-add (length l) n)
+          ap (λ (i : ℕ). grow name needs (lowestOf key′ less) R i d) (suc-add (length l) n)
           ∙ grow-next key′ less tot R keys′ (length l + n) d a (next-too d a pl (all a (List·Memᴰ·head refl)) (r .0))
           ∙ ap (λ (k : List A). a ∷ k) (goes-on l (name a ∷ d) n (placing-next d a pl (all a (List·Memᴰ·head refl)) (r .0 .is-ready)) (λ b j. all b (List·Memᴰ·tail j)) (r .1))
 
-      m-ready : T (ready name needs (after name needs [] L) m)
-      m-ready = and-i (not (has (name m) (after name needs [] L))) (hasAll (needs m) (after name needs [] L))
-          (not-T (has (name m) (after name needs [] L)) (λ t. none-so (after-from name needs L [] (has→∈ (name m) (after name needs [] L) t))))
-          (∈→hasAll (needs m) (after name needs [] L) needed)
+      m-ready : T (ready name needs (after name [] L) m)
+      m-ready = and-i (not (has (name m) (after name [] L))) (hasAll (needs m) (after name [] L))
+          (not-T (has (name m) (after name [] L)) (λ t. none-so (after-from name L [] (has→∈ (name m) (after name [] L) t))))
+          (∈→hasAll (needs m) (after name [] L) needed)
         where
           none-so : (name m ∈ []) ⊎ ((a : A) × (a ∈ L) × (name a ≡ name m)) → ⊥
           none-so (inl q) = List·Memᴰ·not-nil q
           none-so (inr r) = unnamed (r .0) (r .1) (r .2)
 
-      last-one : Next name needs key′ less tot R (after name needs [] L) m
+      last-one : Next name needs key′ less tot R (after name [] L) m
       last-one = record {
         of = new;
         is-ready = m-ready;
-        is-least = λ b j t. ⊎-elim (λ e. subst (λ (y : A). T (not (less (key′ y) (key′ m)))) (sym e) (not-self name needs key′ less tot (key′ m))) (λ i. absurd (complete-stuck name needs S L full b i t)) (only b j);
+        is-least = λ b j t. ⊎-elim (λ e. subst (λ (y : A). T (not (less (key′ y) (key′ m)))) (sym e) (not-self less tot (key′ m))) (λ i. absurd (complete-stuck name needs S L full b i t)) (only b j);
       }
 
       fits : suc (length L) ≤ length R
@@ -148,10 +145,10 @@ module _ {A : Type 0} (name : A → ℕ) (needs : A → List ℕ) where
       -- The list goes on with m: nothing is taken back, and m comes first.
       pub extends : (rest : List A) × (firstOf name needs key′ less R ≡ L ++ m ∷ rest)
       extends = (
-        grow name needs key′ less R k (name m ∷ after name needs [] L),
-        ap (λ (i : ℕ). grow name needs key′ less R i []) enough
+        grow name needs (lowestOf key′ less) R k (name m ∷ after name [] L),
+        ap (λ (i : ℕ). grow name needs (lowestOf key′ less) R i []) enough
             ∙ goes-on L [] (suc k) start (λ b j. j) (grow-ind name needs key less tot S Run (λ d. tt) (λ d a l x ih. (x, ih)) (length S) [])
-            ∙ ap (λ (l : List A). L ++ l) (grow-next key′ less tot R keys′ k (after name needs [] L) m last-one),
+            ∙ ap (λ (l : List A). L ++ l) (grow-next key′ less tot R keys′ k (after name [] L) m last-one),
       )
         where
           k : ℕ

@@ -1,14 +1,14 @@
 -- A strict total order, as a test, and that keys are under one: lists of numbers, compared place by place.
-use mathlib.Core.Path.{_≡_, refl, sym, _∙_, ap, ap₂, subst}
+use mathlib.Core.Path.{_≡_, refl, sym, _∙_, ap₂, subst}
 use mathlib.Core.Logic.{_⊎_, inl, inr, ⊎-elim}
-use mathlib.Core.Bool.{Bool, true, false, not, _&&_, _||_}
+use mathlib.Core.Bool.{Bool, not, _&&_}
 use mathlib.Core.List.{List, [], _∷_}
-use Prim.Native.Nat.{ℕ, zero, suc, _≤_, _<_}
+use Prim.Native.Nat.{ℕ, _<_}
 use native.Mathlib.Omega.{arith}
 use native.Mathlib.Nat.{lt-irrefl}
-use lib.Dec.{T, eqb, ltb, eqb→eq, eqb-refl, ltb→lt, lt→ltb, nltb→le, T-not, not-T}
+use lib.Dec.{T, eqb, ltb, eqb→eq, eqb-refl, ltb→lt, lt→ltb, T-not, not-T}
 use Rattle.model.specs.Order.{less}
-use Rattle.order.specs.TestLaws.{and-l, and-r, and-i, or-l, or-r, or-e, decide}
+use Rattle.order.specs.TestLaws.{and-l, and-r, and-i, or-l, or-r, or-e}
 
 pub record Total {K : Type 0} (less : K → K → Bool) : Type 0 where
   pub irr : (a : K) → T (less a a) → ⊥

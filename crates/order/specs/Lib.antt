@@ -1,5 +1,11 @@
+pub mod ListLaws
 pub mod TestLaws
+pub mod ScanLaws
 pub mod KeyOrder
 pub mod StepLaws
+pub mod CommonLaws
 pub mod ListingLaws
 pub mod Extension
+pub mod ListingPlaces
+pub mod InPlace
+pub mod Reach

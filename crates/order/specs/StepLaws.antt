@@ -1,14 +1,14 @@
 -- The steps from one log to the next can be played, and no list that can be played is shorter.
 use mathlib.Core.Path.{_≡_, refl, sym, _∙_, ap, ap₂, subst}
-use mathlib.Core.Logic.{_⊎_, inl, inr, ⊎-elim}
 use mathlib.Core.Bool.{Bool, true, false, cond}
-use mathlib.Core.List.{List, [], _∷_, _++_, map, reverse, reverseAux, append-nil, append-assoc, append-cancel-right}
-use Prim.Native.Nat.{ℕ, zero, suc, _+_, _-_, _≤_, _<_}
+use mathlib.Core.List.{List, [], _∷_, _++_, map, reverse, reverseAux, append-nil, append-cancel-right}
+use Prim.Native.Nat.{ℕ, suc, _+_, _≤_}
 use native.Mathlib.Omega.{arith}
-use native.Mathlib.Nat.{le-of-eq, le-of-lt, le-trans, le-refl}
+use native.Mathlib.Nat.{le-of-eq}
 use lib.ListN.{length, take, drop, length-append, take-append-drop, length-map, length-reverse, length-drop}
 use lib.Seq.{append-snoc, drop-length, drop-append-seam}
-use lib.Dec.{T, eqb, eqb→eq, eqb-refl}
+use lib.Dec.{T, eqb, eqb-refl}
+use Rattle.order.specs.CommonLaws.{common-start}
 use Rattle.model.specs.Steps.{Step, undo, execute, common, stepsOf, undosOf, executionsOf, Plays}
 
 -- ---- they can be played
@@ -20,16 +20,6 @@ play-undos (x ∷ q) r p ss k h =
 play-executes : (q p : List ℕ) → Plays p (map execute q) (p ++ q)
 play-executes [] p = sym (append-nil p)
 play-executes (x ∷ q) p = subst (λ (l : List ℕ). Plays (p ++ x ∷ []) (map execute q) l) (append-snoc p x q) (play-executes q (p ++ x ∷ []))
-
-common-start : (l k : List ℕ) → take (common l k) l ≡ take (common l k) k
-common-start [] [] = refl
-common-start [] (b ∷ k) = refl
-common-start (a ∷ l) [] = refl
-common-start (a ∷ l) (b ∷ k) = go (eqb a b) (eqb→eq a b) (common-start l k)
-  where
-    go : (c : Bool) → (T c → a ≡ b) → take (common l k) l ≡ take (common l k) k → take (cond c (suc (common l k)) 0) (a ∷ l) ≡ take (cond c (suc (common l k)) 0) (b ∷ k)
-    go true f h = ap₂ _∷_ (f tt) h
-    go false f h = refl
 
 pub steps-play : (l k : List ℕ) → Plays l (stepsOf l k) k
 steps-play l k =

@@ -2,13 +2,14 @@
 use mathlib.Core.Path.{_≡_, refl, sym, ap, ap₂, subst}
 use mathlib.Core.Logic.{_⊎_, inl, inr, ⊎-elim}
 use mathlib.Core.Bool.{Bool, true, false, cond, not, _&&_, _||_}
-use mathlib.Core.List.{List, [], _∷_, _++_, map, List·Memᴰ·head, List·Memᴰ·tail, List·Memᴰ·not-nil, List·Memᴰ·cases-cons, Memᴰ·cast}
-use Prim.Native.Nat.{ℕ, zero, suc, _≤_, _<_, max}
+use mathlib.Core.List.{List, [], _∷_, List·Memᴰ·head, List·Memᴰ·tail, List·Memᴰ·not-nil, List·Memᴰ·cases-cons, Memᴰ·cast}
+use Prim.Native.Nat.{ℕ, _≤_, _<_, max}
 use native.Mathlib.Omega.{arith}
 use native.Mathlib.Nat.{le-refl}
 use lib.ListN.{length}
-use lib.Dec.{T, eqb, ltb, eqb→eq, eqb-refl, ltb→lt, lt→ltb, T-not, not-T}
-use Rattle.model.specs.Lists.{_∈_, has, hasAll, every, some?, keep, greatest, same, ascending}
+use lib.Dec.{T, eqb, ltb, leb, eqb→eq, eqb-refl, ltb→lt, lt→ltb, leb→le, le→leb, T-not, not-T}
+use borrow.Author.Tests.{eq-eqb}
+use Rattle.model.specs.Lists.{_∈_, has, hasAll, every, some?, keep, greatest, same}
 
 -- ---- the laws of tests
 pub and-l : (a b : Bool) → T (a && b) → T a
@@ -44,10 +45,53 @@ pub is-false : (b : Bool) → T (not b) → b ≡ false
 is-false true t = absurd t
 is-false false t = refl
 
+pub false-of : (b : Bool) → (T b → ⊥) → b ≡ false
+false-of b f = is-false b (not-T b f)
+
+pub true-T : (b : Bool) → b ≡ true → T b
+true-T b e = subst T (sym e) tt
+
+pub and-true : (a : Bool) → a && true ≡ a
+and-true true = refl
+and-true false = refl
+
+pub nor-l : (a b : Bool) → T (not (a || b)) → T (not a)
+nor-l true b t = t
+nor-l false b t = tt
+
+pub nor-r : (a b : Bool) → T (not (a || b)) → T (not b)
+nor-r true b t = absurd t
+nor-r false b t = t
+
+pub not-eqb : (a b : ℕ) → T (not (eqb a b)) → a ≡ b → ⊥
+not-eqb a b t e = T-not (eqb a b) t (subst (λ (z : ℕ). T (eqb a z)) e (eqb-refl a))
+
+pub eq→eqb : {a b : ℕ} → a ≡ b → T (eqb a b)
+eq→eqb {a} {b} e = true-T (eqb a b) (eq-eqb a b e)
+
 -- a test is passed or its negation is
 pub decide : (b : Bool) → T b ⊎ T (not b)
 decide true = inl tt
 decide false = inr tt
+
+-- tests that decide the same statement are equal
+pub same-test : (a b : Bool) → (T a → T b) → (T b → T a) → a ≡ b
+same-test true true f g = refl
+same-test true false f g = absurd (f tt)
+same-test false true f g = absurd (g tt)
+same-test false false f g = refl
+
+pub same-ltb : (a b c d : ℕ) → (a < b → c < d) → (c < d → a < b) → ltb a b ≡ ltb c d
+same-ltb a b c d f g =
+    same-test (ltb a b) (ltb c d) (λ t. lt→ltb c d (f (ltb→lt a b t))) (λ t. lt→ltb a b (g (ltb→lt c d t)))
+
+pub same-leb : (a b c d : ℕ) → (a ≤ b → c ≤ d) → (c ≤ d → a ≤ b) → leb a b ≡ leb c d
+same-leb a b c d f g =
+    same-test (leb a b) (leb c d) (λ t. le→leb c d (f (leb→le a b t))) (λ t. le→leb a b (g (leb→le c d t)))
+
+pub same-eqb : (a b c d : ℕ) → (a ≡ b → c ≡ d) → (c ≡ d → a ≡ b) → eqb a b ≡ eqb c d
+same-eqb a b c d f g =
+    same-test (eqb a b) (eqb c d) (λ t. eq→eqb (f (eqb→eq a b t))) (λ t. eq→eqb (g (eqb→eq c d t)))
 
 -- ---- the tests on lists, as membership
 pub has→∈ : (s : ℕ) (l : List ℕ) → T (has s l) → s ∈ l
@@ -130,6 +174,12 @@ greatest-≥ f (x ∷ l) a m = ⊎-elim (λ e. omega (arith, ap f e)) (λ k. ome
 pub greatest-cong : {A : Type 0} (f g : A → ℕ) (l : List A) → ((a : A) → a ∈ l → f a ≡ g a) → greatest f l ≡ greatest g l
 greatest-cong f g [] h = refl
 greatest-cong f g (a ∷ l) h = ap₂ max (h a (List·Memᴰ·head refl)) (greatest-cong f g l (λ b k. h b (List·Memᴰ·tail k)))
+
+-- two tests that agree on a list keep the same of it
+pub keep-cong : {A : Type 0} (p q : A → Bool) (l : List A) → ((a : A) → a ∈ l → p a ≡ q a) → keep p l ≡ keep q l
+keep-cong p q [] h = refl
+keep-cong {A} p q (a ∷ l) h =
+    ap₂ (λ (b : Bool) (k : List A). cond b (a ∷ k) k) (h a (List·Memᴰ·head refl)) (keep-cong p q l (λ b k. h b (List·Memᴰ·tail k)))
 
 -- how many items a test keeps
 pub keep-length : {A : Type 0} (p : A → Bool) (l : List A) → length (keep p l) ≤ length l

@@ -4,23 +4,23 @@ use mathlib.Core.Logic.{_⊎_, inl, inr, ⊎-elim, _↔_}
 use mathlib.Core.Bool.{Bool, true, false, cond}
 use mathlib.Core.Option.{Option, some, none}
 use mathlib.Core.List.{List, [], _∷_, _++_, map, reverse, List·Memᴰ·head, List·Memᴰ·tail, List·Memᴰ·not-nil, List·Memᴰ·cases-cons, List·Memᴰ·append-cases, Memᴰ·cast, Memᴰ·of-map}
-use Prim.Native.Nat.{ℕ, zero, suc, _+_, _-_, _^_, _≤_, _<_}
+use Prim.Native.Nat.{ℕ, zero, suc, _+_, _^_, _<_}
 use native.Mathlib.Omega.{arith}
-use native.Mathlib.Nat.{suc-ne-zero, le-of-eq, sub-self}
-use lib.ListN.{length, length-map, length-reverse, length-drop, drop, length-append}
+use native.Mathlib.Nat.{suc-ne-zero}
+use lib.ListN.{length, length-reverse, length-drop, drop}
 use lib.Seq.{drop-length}
-use lib.Dec.{T, eqb, eqb→eq, eqb-refl}
+use lib.Dec.{T, eqb, eqb→eq}
 use Rattle.model.specs.Lists.{_∈_}
-use Rattle.model.specs.Layout.{sequenceSize, capacity}
+use Rattle.model.specs.Layout.{sequenceSize}
 use Rattle.model.specs.Message.{Message, sequenceOf}
-use Rattle.model.specs.Order.{State, add, sequencesOf, logOf}
+use Rattle.model.specs.Order.{State, stateOf, add, sequencesOf, logOf}
 use Rattle.model.specs.Image.{imageOf, Valid, logIn}
 use Rattle.model.specs.Steps.{Step, undo, execute, common, stepsOf, undosOf, executionsOf, stepsBytes, readSteps, Plays}
 use Rattle.model.specs.Codes.{lowestCode, emptyConditions}
-use Rattle.model.specs.Calls.{Delivered, deliverAnswer, deliverCode, deliver, emptyState, Emptied, emptyAnswer, empty}
-use Rattle.model.specs.PlainStation.{accepts, receive}
-use Rattle.model.specs.Run.{Call, delivery, Event, imageAfter, Run, accepts?, stateNext, stateAfter, logAfter, codeFor, messageOfCall, acceptedIn, StepsTaken, Played, Agreement, Begins, Answers}
-use Rattle.order.specs.StepLaws.{steps-play, steps-fewest, steps-counted, common-self, common-le, plays-unique}
+use Rattle.model.specs.Calls.{Delivered, deliverAnswer, emptyState, emptyAnswer, empty}
+use Rattle.model.specs.PlainStation.{receive}
+use Rattle.model.specs.Run.{Given, Call, delivery, Event, imageAfter, Run, accepts?, stateBegun, stateNext, stateAfter, logAfter, playedFrom, oldLog, codeFor, messageOfCall, acceptedIn, SameAccepted, StepsTaken, Played, Agreement, Begins, Answers}
+use Rattle.order.specs.StepLaws.{steps-play, steps-fewest, steps-counted, common-self, plays-unique}
 use Rattle.order.specs.TestLaws.{Same}
 use Rattle.laws.specs.SetLaws.{insert-from, insert-keeps, insert-has, ascending-unique}
 use Rattle.laws.specs.LogLaws.{log-received}
@@ -34,9 +34,9 @@ pub record CallFacts (S next : State) (c : Call) (a : Delivered) : Type 0 where
   pub accepted : (a .code ≡ 0) ↔ T (accepts? S c)
   pub code : a .code ≡ codeFor (imageOf S) c
   pub image : a .image ≡ imageOf next
-  pub undos : a .undos ≡ undosOf (sequencesOf (logOf S)) (sequencesOf (logOf next))
-  pub executions : a .executions ≡ executionsOf (sequencesOf (logOf S)) (sequencesOf (logOf next))
-  pub read : readSteps (a .undos + a .executions) (a .steps) ≡ some (stepsOf (sequencesOf (logOf S)) (sequencesOf (logOf next)))
+  pub undos : a .undos ≡ undosOf (playedFrom c (sequencesOf (logOf S))) (sequencesOf (logOf next))
+  pub executions : a .executions ≡ executionsOf (playedFrom c (sequencesOf (logOf S))) (sequencesOf (logOf next))
+  pub read : readSteps (a .undos + a .executions) (a .steps) ≡ some (stepsOf (playedFrom c (sequencesOf (logOf S))) (sequencesOf (logOf next)))
 
 -- no step from a log to itself
 pub undos-self : (l : List ℕ) → undosOf l l ≡ 0
@@ -130,15 +130,15 @@ empty-valid = record { ascends = tt; fits = omega arith; pass = λ m k. absurd (
 next-valid : (S : State) → Valid S → (c : Call) → Valid (stateNext S c)
 next-valid S valid (delivery m steps) = receive-valid S valid m (length steps)
 
-pub state-valid : (events : List Event) → Valid (stateAfter events)
-state-valid [] = empty-valid
-state-valid (e ∷ earlier) = next-valid (stateAfter earlier) (state-valid earlier) (e .call)
+pub state-valid : (given : Given) (events : List Event) → Valid (stateAfter given events)
+state-valid given [] = empty-valid
+state-valid given (e ∷ earlier) = next-valid (stateAfter given earlier) (state-valid given earlier) (e .call)
 
-begins-image : (b : List ℕ) → Begins b → b ≡ imageOf emptyState
+begins-image : (given : Given) (b : List ℕ) → Begins given b → b ≡ imageOf (stateBegun given)
 unfolding empty
-begins-image b r = r .2 ∙ go (lowestCode (emptyConditions (r .0))) (r .1)
+begins-image given b r = r .1 ∙ go (lowestCode (emptyConditions (given .buffer))) (r .0)
   where
-    go : (n : ℕ) → emptyAnswer n (r .0) .code ≡ 0 → emptyAnswer n (r .0) .image ≡ imageOf emptyState
+    go : (n : ℕ) → emptyAnswer n (given .buffer) .code ≡ 0 → emptyAnswer n (given .buffer) .image ≡ imageOf emptyState
     go zero e = refl
     go (suc n) e = absurd (suc-ne-zero n e)
 
@@ -146,15 +146,15 @@ begins-image b r = r .2 ∙ go (lowestCode (emptyConditions (r .0))) (r .1)
 on-image : (b : List ℕ) (S : State) → Valid S → b ≡ imageOf S → (c : Call) (a : Delivered) → Answers b c a → CallFacts S (stateNext S c) c a
 on-image b S valid e c a h = call-facts S valid c a (subst (λ (i : List ℕ). Answers i c a) e h)
 
-run-image : (b : List ℕ) → Begins b → (events : List Event) → Run Answers b events → imageAfter b events ≡ imageOf (stateAfter events)
-run-image b begun [] run = begins-image b begun
-run-image b begun (e ∷ earlier) run =
-    on-image (imageAfter b earlier) (stateAfter earlier) (state-valid earlier) (run-image b begun earlier (run .1)) (e .call) (e .answer) (run .0) .image
+run-image : (given : Given) (b : List ℕ) → Begins given b → (events : List Event) → Run Answers b events → imageAfter b events ≡ imageOf (stateAfter given events)
+run-image given b begun [] run = begins-image given b begun
+run-image given b begun (e ∷ earlier) run =
+    on-image (imageAfter b earlier) (stateAfter given earlier) (state-valid given earlier) (run-image given b begun earlier (run .1)) (e .call) (e .answer) (run .0) .image
 
-event-facts : (b : List ℕ) → Begins b → (e : Event) (earlier : List Event) → Run Answers b (e ∷ earlier)
-    → CallFacts (stateAfter earlier) (stateAfter (e ∷ earlier)) (e .call) (e .answer)
-event-facts b begun e earlier run =
-    on-image (imageAfter b earlier) (stateAfter earlier) (state-valid earlier) (run-image b begun earlier (run .1)) (e .call) (e .answer) (run .0)
+event-facts : (given : Given) (b : List ℕ) → Begins given b → (e : Event) (earlier : List Event) → Run Answers b (e ∷ earlier)
+    → CallFacts (stateAfter given earlier) (stateAfter given (e ∷ earlier)) (e .call) (e .answer)
+event-facts given b begun e earlier run =
+    on-image (imageAfter b earlier) (stateAfter given earlier) (state-valid given earlier) (run-image given b begun earlier (run .1)) (e .call) (e .answer) (run .0)
 
 -- ---- the accepted messages are the set
 keeps-set : (S : State) → Valid S → (c : Call) → T (accepts? S c) → Same (stateNext S c .deltas) (messageOfCall c ∷ S .deltas)
@@ -166,45 +166,45 @@ keeps-set S valid (delivery m steps) t = subst (λ (R : State). Same (R .deltas)
 keeps-refused : (S : State) → (c : Call) → ¬ T (accepts? S c) → stateNext S c ≡ S
 keeps-refused S (delivery m steps) h = receive-refused S m (length steps) (λ e. h (code-zero S m (length steps) .0 e))
 
-pub accepted-set : (b : List ℕ) → Begins b → (events : List Event) → Run Answers b events → Same (stateAfter events .deltas) (acceptedIn events)
-accepted-set b begun [] run = λ m. (λ k. k, λ k. k)
-accepted-set b begun (e ∷ earlier) run = go (eqb (e .answer .code) 0) (eqb→eq (e .answer .code) 0) (λ z. subst (λ (n : ℕ). T (eqb n 0)) (sym z) tt) (accepted-set b begun earlier (run .1))
+pub accepted-set : (given : Given) (b : List ℕ) → Begins given b → (events : List Event) → Run Answers b events → Same (stateAfter given events .deltas) (acceptedIn events)
+accepted-set given b begun [] run = λ m. (λ k. k, λ k. k)
+accepted-set given b begun (e ∷ earlier) run = go (eqb (e .answer .code) 0) (eqb→eq (e .answer .code) 0) (λ z. subst (λ (n : ℕ). T (eqb n 0)) (sym z) tt) (accepted-set given b begun earlier (run .1))
   where
-    facts : CallFacts (stateAfter earlier) (stateAfter (e ∷ earlier)) (e .call) (e .answer)
-    facts = event-facts b begun e earlier run
+    facts : CallFacts (stateAfter given earlier) (stateAfter given (e ∷ earlier)) (e .call) (e .answer)
+    facts = event-facts given b begun e earlier run
 
-    go : (t : Bool) → (T t → e .answer .code ≡ 0) → (e .answer .code ≡ 0 → T t) → Same (stateAfter earlier .deltas) (acceptedIn earlier)
-        → Same (stateNext (stateAfter earlier) (e .call) .deltas) (cond t (messageOfCall (e .call) ∷ acceptedIn earlier) (acceptedIn earlier))
+    go : (t : Bool) → (T t → e .answer .code ≡ 0) → (e .answer .code ≡ 0 → T t) → Same (stateAfter given earlier .deltas) (acceptedIn earlier)
+        → Same (stateNext (stateAfter given earlier) (e .call) .deltas) (cond t (messageOfCall (e .call) ∷ acceptedIn earlier) (acceptedIn earlier))
     go true f g ih = λ m.
-        let s = keeps-set (stateAfter earlier) (state-valid earlier) (e .call) (facts .accepted .0 (f tt)) m in (
+        let s = keeps-set (stateAfter given earlier) (state-valid given earlier) (e .call) (facts .accepted .0 (f tt)) m in (
           λ k. ⊎-elim (λ q. List·Memᴰ·head q) (λ j. List·Memᴰ·tail (ih m .0 j)) (List·Memᴰ·cases-cons (s .0 k)),
           λ k. s .1 (⊎-elim (λ q. List·Memᴰ·head q) (λ j. List·Memᴰ·tail (ih m .1 j)) (List·Memᴰ·cases-cons k)),
         )
     go false f g ih =
-        subst (λ (R : State). Same (R .deltas) (acceptedIn earlier)) (sym (keeps-refused (stateAfter earlier) (e .call) (λ t. g (facts .accepted .1 t)))) ih
+        subst (λ (R : State). Same (R .deltas) (acceptedIn earlier)) (sym (keeps-refused (stateAfter given earlier) (e .call) (λ t. g (facts .accepted .1 t)))) ih
 
-same-images : (b c : List ℕ) → Begins b → Begins c → (events others : List Event) → Run Answers b events → Run Answers c others
-    → ((m : Message) → m ∈ acceptedIn events ↔ m ∈ acceptedIn others) → imageAfter b events ≡ imageAfter c others
-same-images b c p q events others r t f =
-    run-image b p events r ∙ ap (λ (l : List Message). imageOf (Rattle.model.specs.Order.stateOf l)) sets ∙ sym (run-image c q others t)
+same-images : (given other : Given) (b c : List ℕ) → Begins given b → Begins other c → (events others : List Event)
+    → Run Answers b events → Run Answers c others → SameAccepted given events other others → imageAfter b events ≡ imageAfter c others
+same-images given other b c p q events others r t f =
+    run-image given b p events r ∙ ap (λ (l : List Message). imageOf (stateOf l)) sets ∙ sym (run-image other c q others t)
   where
-    sets : stateAfter events .deltas ≡ stateAfter others .deltas
-    sets = ascending-unique (stateAfter events .deltas) (stateAfter others .deltas) (state-valid events .ascends) (state-valid others .ascends) (λ m. (
-      λ k. accepted-set c q others t m .1 (f m .0 (accepted-set b p events r m .0 k)),
-      λ k. accepted-set b p events r m .1 (f m .1 (accepted-set c q others t m .0 k)),
+    sets : stateAfter given events .deltas ≡ stateAfter other others .deltas
+    sets = ascending-unique (stateAfter given events .deltas) (stateAfter other others .deltas) (state-valid given events .ascends) (state-valid other others .ascends) (λ m. (
+      λ k. accepted-set other c q others t m .1 (f m .0 (accepted-set given b p events r m .0 k)),
+      λ k. accepted-set given b p events r m .1 (f m .1 (accepted-set other c q others t m .0 k)),
     ))
 
 -- ---- the played log
 undone-length : (old new : List ℕ) → length (reverse (drop (common old new) old)) ≡ undosOf old new
 undone-length old new = length-reverse (drop (common old new) old) ∙ length-drop (common old new) old
 
-taken : (S next : State) (e : Event) → CallFacts S next (e .call) (e .answer)
-    → StepsTaken e (reverse (drop (common (sequencesOf (logOf S)) (sequencesOf (logOf next))) (sequencesOf (logOf S))))
-    (drop (common (sequencesOf (logOf S)) (sequencesOf (logOf next))) (sequencesOf (logOf next)))
-taken S next e facts = record {
-  read = facts .read;
-  undos = undone-length (sequencesOf (logOf S)) (sequencesOf (logOf next)) ∙ sym (facts .undos);
-  executions = length-drop (common (sequencesOf (logOf S)) (sequencesOf (logOf next))) (sequencesOf (logOf next)) ∙ sym (facts .executions);
+taken : (old new : List ℕ) (S next : State) (e : Event) → CallFacts S next (e .call) (e .answer)
+    → old ≡ playedFrom (e .call) (sequencesOf (logOf S)) → new ≡ sequencesOf (logOf next)
+    → StepsTaken e (reverse (drop (common old new) old)) (drop (common old new) new)
+taken old new S next e facts p q = record {
+  read = facts .read ∙ ap₂ (λ (k l : List ℕ). some (stepsOf k l)) (sym p) (sym q);
+  undos = undone-length old new ∙ ap₂ undosOf p q ∙ sym (facts .undos);
+  executions = length-drop (common old new) new ∙ ap₂ executionsOf p q ∙ sym (facts .executions);
 }
 
 some-inj : {A : Type 0} (x y : A) → some x ≡ some y → x ≡ y
@@ -214,30 +214,33 @@ some-inj x y e = ap (or-else x) e
     or-else d none = d
     or-else d (some a) = a
 
-pub plays-log : (b : List ℕ) → Begins b → (events : List Event) → Run Answers b events → (log : List ℕ) → Played events log ↔ (log ≡ logAfter events)
+pub plays-log : (given : Given) (b : List ℕ) → Begins given b → (events : List Event) → Run Answers b events → (log : List ℕ) → Played events log ↔ (log ≡ logAfter given events)
 unfolding logOf
-plays-log b begun [] run log = (λ e. e, λ e. e)
-plays-log b begun (e ∷ earlier) run log = go (event-facts b begun e earlier run) (plays-log b begun earlier (run .1))
+plays-log given b begun [] run log = (λ e. e, λ e. e)
+plays-log given b begun (e ∷ earlier) run log = go (event-facts given b begun e earlier run) (plays-log given b begun earlier (run .1))
   where
+    left : List ℕ
+    left = logAfter given earlier
+
     old : List ℕ
-    old = logAfter earlier
+    old = oldLog given e earlier
 
     new : List ℕ
-    new = logAfter (e ∷ earlier)
+    new = logAfter given (e ∷ earlier)
 
-    go : CallFacts (stateAfter earlier) (stateAfter (e ∷ earlier)) (e .call) (e .answer) → ((l : List ℕ) → Played earlier l ↔ (l ≡ old))
+    go : CallFacts (stateAfter given earlier) (stateAfter given (e ∷ earlier)) (e .call) (e .answer) → ((l : List ℕ) → Played earlier l ↔ (l ≡ left))
         → Played (e ∷ earlier) log ↔ (log ≡ new)
     go facts ih = (
       λ p. plays-unique (stepsOf old new) old log new
           (subst (λ (ss : List Step). Plays old ss log) (some-inj _ _ (sym (p .4 .read) ∙ facts .read))
-          (subst (λ (l : List ℕ). Plays l (map undo (p .1) ++ map execute (p .2)) log) (ih (p .0) .0 (p .3)) (p .5)))
+          (subst (λ (l : List ℕ). Plays (playedFrom (e .call) l) (map undo (p .1) ++ map execute (p .2)) log) (ih (p .0) .0 (p .3)) (p .5)))
           (steps-play old new),
       λ q. (
-        old,
+        left,
         reverse (drop (common old new) old),
         drop (common old new) new,
-        ih old .1 refl,
-        taken (stateAfter earlier) (stateAfter (e ∷ earlier)) e facts,
+        ih left .1 refl,
+        taken old new (stateAfter given earlier) (stateAfter given (e ∷ earlier)) e facts refl refl,
         subst (Plays old (stepsOf old new)) (sym q) (steps-play old new),
       ),
     )
@@ -245,17 +248,17 @@ plays-log b begun (e ∷ earlier) run log = go (event-facts b begun e earlier ru
 -- ---- the theorem
 pub agreement : Agreement Begins Answers
 agreement = record {
-  accepted = λ b begun e earlier run. event-facts b begun e earlier run .accepted;
-  code = λ b begun e earlier run. event-facts b begun e earlier run .code ∙ ap (λ (i : List ℕ). codeFor i (e .call)) (sym (run-image b begun earlier (run .1)));
+  accepted = λ given b begun e earlier run. event-facts given b begun e earlier run .accepted;
+  code = λ given b begun e earlier run. event-facts given b begun e earlier run .code ∙ ap (λ (i : List ℕ). codeFor i (e .call)) (sym (run-image given b begun earlier (run .1)));
   image = run-image;
   equal = same-images;
   played = plays-log;
-  imageLog = λ b begun events run. ap (λ (i : List ℕ). sequencesOf (logIn i)) (run-image b begun events run) ∙ ap sequencesOf (log-back (stateAfter events) (state-valid events));
-  undos = λ b begun e earlier run. event-facts b begun e earlier run .undos;
-  executions = λ b begun e earlier run. event-facts b begun e earlier run .executions;
-  fewest = λ b begun e earlier run rival plays.
-      let f = event-facts b begun e earlier run in
-      omega (arith, f .undos, f .executions, steps-counted (logAfter earlier) (logAfter (e ∷ earlier)), steps-fewest (logAfter earlier) (logAfter (e ∷ earlier)) rival plays);
+  imageLog = λ given b begun events run. ap (λ (i : List ℕ). sequencesOf (logIn i)) (run-image given b begun events run) ∙ ap sequencesOf (log-back (stateAfter given events) (state-valid given events));
+  undos = λ given b begun e earlier run. event-facts given b begun e earlier run .undos;
+  executions = λ given b begun e earlier run. event-facts given b begun e earlier run .executions;
+  fewest = λ given b begun e earlier run rival plays.
+      let f = event-facts given b begun e earlier run in
+      omega (arith, f .undos, f .executions, steps-counted (oldLog given e earlier) (logAfter given (e ∷ earlier)), steps-fewest (oldLog given e earlier) (logAfter given (e ∷ earlier)) rival plays);
 }
 
 -- ---- and so of every empty and deliver that promise what the definitions answer
@@ -264,18 +267,18 @@ run-of : (answers : List ℕ → Call → Delivered → Type 0) → ((b : List �
 run-of answers f b [] run = tt
 run-of answers f b (e ∷ earlier) run = (f (imageAfter b earlier) (e .call) (e .answer) (run .0), run-of answers f b earlier (run .1))
 
-pub agreement-of : (begins : List ℕ → Type 0) (answers : List ℕ → Call → Delivered → Type 0) → ((b : List ℕ) → begins b → Begins b)
+pub agreement-of : (begins : Given → List ℕ → Type 0) (answers : List ℕ → Call → Delivered → Type 0) → ((given : Given) (b : List ℕ) → begins given b → Begins given b)
     → ((b : List ℕ) (c : Call) (a : Delivered) → answers b c a → Answers b c a) → Agreement begins answers
 agreement-of begins answers f g = record {
-  accepted = λ b begun e earlier run. agreement .accepted b (f b begun) e earlier (same-run b (e ∷ earlier) run);
-  code = λ b begun e earlier run. agreement .code b (f b begun) e earlier (same-run b (e ∷ earlier) run);
-  image = λ b begun events run. agreement .image b (f b begun) events (same-run b events run);
-  equal = λ b c p q events others r t. agreement .equal b c (f b p) (f c q) events others (same-run b events r) (same-run c others t);
-  played = λ b begun events run. agreement .played b (f b begun) events (same-run b events run);
-  imageLog = λ b begun events run. agreement .imageLog b (f b begun) events (same-run b events run);
-  undos = λ b begun e earlier run. agreement .undos b (f b begun) e earlier (same-run b (e ∷ earlier) run);
-  executions = λ b begun e earlier run. agreement .executions b (f b begun) e earlier (same-run b (e ∷ earlier) run);
-  fewest = λ b begun e earlier run. agreement .fewest b (f b begun) e earlier (same-run b (e ∷ earlier) run);
+  accepted = λ given b begun e earlier run. agreement .accepted given b (f given b begun) e earlier (same-run b (e ∷ earlier) run);
+  code = λ given b begun e earlier run. agreement .code given b (f given b begun) e earlier (same-run b (e ∷ earlier) run);
+  image = λ given b begun events run. agreement .image given b (f given b begun) events (same-run b events run);
+  equal = λ given other b c p q events others r t. agreement .equal given other b c (f given b p) (f other c q) events others (same-run b events r) (same-run c others t);
+  played = λ given b begun events run. agreement .played given b (f given b begun) events (same-run b events run);
+  imageLog = λ given b begun events run. agreement .imageLog given b (f given b begun) events (same-run b events run);
+  undos = λ given b begun e earlier run. agreement .undos given b (f given b begun) e earlier (same-run b (e ∷ earlier) run);
+  executions = λ given b begun e earlier run. agreement .executions given b (f given b begun) e earlier (same-run b (e ∷ earlier) run);
+  fewest = λ given b begun e earlier run. agreement .fewest given b (f given b begun) e earlier (same-run b (e ∷ earlier) run);
 }
   where
     same-run : (b : List ℕ) (events : List Event) → Run answers b events → Run Answers b events

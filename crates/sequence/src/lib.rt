@@ -1,16 +1,15 @@
 // Sequences as two numbers: how they are read, compared and taken apart.
 use buffer::get_u32;
 use buffer::get_u64;
+use layout::NUMBERS_OF_LINE;
 ghost use mathlib.Core.Path.{_≡_};
 ghost use Prim.Native.Nat.{_+_, _≤_};
 ghost use lib.ListN.{length};
 ghost use lib.Dec.{eqb, ltb};
 ghost use Rattle.model.specs.Bytes.{field};
+ghost use Rattle.model.specs.Layout.{sequenceSize};
 ghost use Rattle.model.specs.Message.{numberOf, lineOf, predecessorOf};
 ghost use Rattle.sequence.specs.Sequence.{sequenceNumber, predecessorList};
-
-// How many numbers a line has, 0000 among them.
-pub const NUMBERS_OF_LINE: u32 = 65536;
 
 // The twelve bytes of a sequence: the first eight, and the last four.
 pub struct Sequence {
@@ -26,8 +25,8 @@ pub enum Predecessor {
 
 // The sequence that stands at a place.
 pub fn read_sequence(s: &[u8], at: usize) -> Sequence
-    requires { ⌜ at + 12 ≤ length (now s) ⌝ }
-    ensures { λ r. ⌜ sequenceNumber r ≡ field (now (s .entry)) at 12 ⌝ }
+    requires { ⌜ at + sequenceSize ≤ length (now s) ⌝ }
+    ensures { λ r. ⌜ sequenceNumber r ≡ field (now (s .entry)) at sequenceSize ⌝ }
 {
     let high = get_u64(s, at);
     let low = get_u32(s, at + 8);

@@ -1,31 +1,18 @@
 -- Commands in a run of bytes, run from a place on; and that those of a right message are its own.
-use mathlib.Core.Path.{_≡_, refl, sym, ap, ap₂, _∙_}
-use mathlib.Core.List.{List, [], _∷_}
-use Prim.Native.Nat.{ℕ, zero, suc, _+_, _*_, _-_, _/_, _≤_, _<_}
+use mathlib.Core.Path.{_≡_, sym, ap, _∙_}
+use mathlib.Core.List.{List}
+use Prim.Native.Nat.{ℕ, suc, _+_, _*_, _-_, _/_, _≤_, _<_}
 use native.Mathlib.Omega.{arith}
 use lib.Dec.{T}
 use lib.IntN.{ℤ}
 use lib.ListN.{length, take, drop, length-drop}
-use lib.Seq.{take-take, drop-drop}
-use Rattle.model.specs.Bytes.{number, field, parts, integer}
-use Rattle.model.specs.Layout.{commandSize, operationAt, tagAt, valueAt}
+use lib.Seq.{drop-drop}
+use Rattle.model.specs.Bytes.{parts}
+use Rattle.model.specs.Layout.{commandSize}
 use Rattle.model.specs.Message.{Message, dependencyCount, commandCount, commandsStart, commandsOf, layoutRight, passes}
 use Rattle.model.specs.Setpoints.{runCommand, runCommands, runDelta}
-use Rattle.wire_laws.specs.BytesLaws.{field-part}
 use Rattle.wire_laws.specs.MessageLaws.{layout-sized, passes-layout}
-use Rattle.setpoints.specs.Commands.{commandsIn, operateTag}
-
--- ---- the command at a place, by the three fields read there
-pub run-read : (c : List ℕ) (at : ℕ) (values : List ℤ) {tag operation : ℕ} {v : ℤ}
-    → tag ≡ field c (at + tagAt) 1 → operation ≡ field c (at + operationAt) 1 → v ≡ integer (field c (at + valueAt) 4)
-    → operateTag values tag operation v ≡ runCommand (take commandSize (drop at c)) values
-unfolding runCommand
-run-read c at values {tag} p q r =
-    ap₂ (operateTag values tag)
-    (q ∙ sym (field-part c at commandSize operationAt 1 (omega arith)))
-    (r ∙ ap integer (sym (field-part c at commandSize valueAt 4 (omega arith))))
-    ∙ ap (λ (t : ℕ). operateTag values t (field (take commandSize (drop at c)) operationAt 1) (integer (field (take commandSize (drop at c)) valueAt 4)))
-    (p ∙ sym (field-part c at commandSize tagAt 1 (omega arith)))
+use Rattle.setpoints.specs.Commands.{commandsIn}
 
 -- ---- the commands from a place on: none where fewer than eight bytes are left, else one and those behind it
 pub run-end : (c : List ℕ) (at : ℕ) (values : List ℤ) → length c - at < commandSize → values ≡ runCommands (commandsIn (drop at c)) values
@@ -44,7 +31,7 @@ run-next c at values h =
 pub commandsIn-message : (m : Message) → T (layoutRight m) → commandsIn (drop (commandsStart (dependencyCount m)) m) ≡ commandsOf m
 commandsIn-message m t =
     let start = commandsStart (dependencyCount m) in
-    let e : length m ≡ start + 8 * commandCount m = layout-sized m t .total in
+    let e : length m ≡ start + commandSize * commandCount m = layout-sized m t .total in
     ap (λ (n : ℕ). parts n commandSize (drop start m)) {x = length (drop start m) / commandSize} {y = commandCount m} (omega (arith, length-drop start m))
 
 -- so a delta that passes 3 to 6 is run

@@ -1,3 +1,5 @@
+pub mod Changes
+pub mod ChangeLaws
 pub mod Commands
 pub mod CommandLaws
 pub mod Words

@@ -1,4 +1,4 @@
--- Values as bytes, four for each; and that they can be written one after the other.
+-- Values as bytes, four each; and that they can be written one after the other.
 use mathlib.Core.Path.{_≡_, refl, sym, ap, ap₂, _∙_}
 use mathlib.Core.List.{List, [], _∷_, _++_, map, append-assoc, append-nil}
 use Prim.Native.Nat.{ℕ, _+_, _*_, _≤_, _<_}
@@ -8,33 +8,34 @@ use lib.IntN.{ℤ, pos}
 use lib.ListN.{length, take, getD, length-append}
 use lib.Seq.{paste, take-suc, length-take-le}
 use Rattle.model.specs.Bytes.{bytes, join, word}
+use Rattle.model.specs.Layout.{valueSize}
 use Rattle.wire_laws.specs.BytesLaws.{length-bytes}
 use Rattle.buffer.specs.PasteLaws.{paste-paste}
 
 abbrev pub wordsOf : List ℤ → List ℕ
-wordsOf values = join (map (λ v. bytes 4 (word v)) values)
+wordsOf values = join (map (λ v. bytes valueSize (word v)) values)
 
-pub words-length : (values : List ℤ) → length (wordsOf values) ≡ 4 * length values
+pub words-length : (values : List ℤ) → length (wordsOf values) ≡ valueSize * length values
 words-length [] = refl
 words-length (v ∷ values) =
-    length-append (bytes 4 (word v)) (wordsOf values) ∙ omega (arith, length-bytes 4 (word v), words-length values)
+    length-append (bytes valueSize (word v)) (wordsOf values) ∙ omega (arith, length-bytes valueSize (word v), words-length values)
 
 -- one value more
-words-snoc : (values : List ℤ) (v : ℤ) → wordsOf values ++ bytes 4 (word v) ≡ wordsOf (values ++ (v ∷ []))
-words-snoc [] v = sym (append-nil (bytes 4 (word v)))
+words-snoc : (values : List ℤ) (v : ℤ) → wordsOf values ++ bytes valueSize (word v) ≡ wordsOf (values ++ (v ∷ []))
+words-snoc [] v = sym (append-nil (bytes valueSize (word v)))
 words-snoc (x ∷ values) v =
-    append-assoc (bytes 4 (word x)) (wordsOf values) (bytes 4 (word v)) ∙ ap (λ (b : List ℕ). bytes 4 (word x) ++ b) (words-snoc values v)
+    append-assoc (bytes valueSize (word x)) (wordsOf values) (bytes valueSize (word v)) ∙ ap (λ (b : List ℕ). bytes valueSize (word x) ++ b) (words-snoc values v)
 
-words-more : (values : List ℤ) (i : ℕ) → i < length values → wordsOf (take i values) ++ bytes 4 (word (getD values i (pos 0))) ≡ wordsOf (take (i + 1) values)
+words-more : (values : List ℤ) (i : ℕ) → i < length values → wordsOf (take i values) ++ bytes valueSize (word (getD values i (pos 0))) ≡ wordsOf (take (i + 1) values)
 words-more values i h =
     words-snoc (take i values) (getD values i (pos 0)) ∙ ap wordsOf (sym (take-suc values i (pos 0) h)) ∙ ap (λ (n : ℕ). wordsOf (take n values)) (sym (add-one i))
 
 -- the first i values are written, and then the value at i: so are the first i + 1
-pub words-next : (b : List ℕ) (at : ℕ) (values : List ℤ) (i : ℕ) → i < length values → at + 4 * i ≤ length b
-    → paste (paste b at (wordsOf (take i values)) (4 * i)) (at + 4 * i) (bytes 4 (word (getD values i (pos 0)))) 4
-    ≡ paste b at (wordsOf (take (i + 1) values)) (4 * (i + 1))
+pub words-next : (b : List ℕ) (at : ℕ) (values : List ℤ) (i : ℕ) → i < length values → at + valueSize * i ≤ length b
+    → paste (paste b at (wordsOf (take i values)) (valueSize * i)) (at + valueSize * i) (bytes valueSize (word (getD values i (pos 0)))) valueSize
+    ≡ paste b at (wordsOf (take (i + 1) values)) (valueSize * (i + 1))
 words-next b at values i h k =
-    let e : 4 * i + 4 ≡ 4 * (i + 1) = omega arith in
-    paste-paste b at (wordsOf (take i values)) (bytes 4 (word (getD values i (pos 0)))) (4 * i) 4 k
-    (words-length (take i values) ∙ ap (λ (n : ℕ). 4 * n) (length-take-le i values (omega arith)))
+    let e : valueSize * i + valueSize ≡ valueSize * (i + 1) = omega arith in
+    paste-paste b at (wordsOf (take i values)) (bytes valueSize (word (getD values i (pos 0)))) (valueSize * i) valueSize k
+    (words-length (take i values) ∙ ap (λ (n : ℕ). valueSize * n) (length-take-le i values (omega arith)))
     ∙ ap₂ (paste b at) (words-more values i h) e

@@ -1,27 +1,33 @@
 // The three operations of a command, on a tag's value x and the command's value v.
-use crate::limits;
+use layout::HIGHEST_VALUE;
+use layout::LOWEST_VALUE;
 ghost use mathlib.Core.Path.{_≡_};
 ghost use lib.IntN.{_+ℤ_};
-ghost use Rattle.model.specs.Setpoints.{stop, raise};
 ghost use Rattle.model.specs.Setpoints as model;
 
-// The sum, stopped at the lowest and at the highest value. It is taken at 64 bits, so it never wraps.
-pub fn add_stopped(x: i32, v: i32) -> i32
-    ensures { λ r. ⌜ r ≡ stop (x +ℤ v) ⌝ }
+// The sum at 64 bits, where it never wraps.
+fn sum(x: i32, v: i32) -> i64
+    ensures { λ r. ⌜ r ≡ x +ℤ v ⌝ }
 {
-    let sum = (x as i64) + (v as i64);
-    if sum < (limits::LOWEST_VALUE as i64) {
-        return limits::LOWEST_VALUE;
+    (x as i64) + (v as i64)
+}
+
+// The number, stopped at low and at high.
+fn stop(low: i32, high: i32, z: i64) -> i32
+    ensures { λ r. ⌜ r ≡ model.stop low high z ⌝ }
+{
+    if z < (low as i64) {
+        return low;
     }
-    if (limits::HIGHEST_VALUE as i64) < sum {
-        return limits::HIGHEST_VALUE;
+    if (high as i64) < z {
+        return high;
     }
-    sum as i32
+    z as i32
 }
 
 // The greater of the two.
-pub fn raise_to(x: i32, v: i32) -> i32
-    ensures { λ r. ⌜ r ≡ raise x v ⌝ }
+fn raise_to(x: i32, v: i32) -> i32
+    ensures { λ r. ⌜ r ≡ model.raise x v ⌝ }
 {
     if x < v {
         return v;
@@ -37,7 +43,7 @@ pub fn operate(operation: u32, x: i32, v: i32) -> i32
         return v;
     }
     if operation == 2 {
-        return add_stopped(x, v);
+        return stop(LOWEST_VALUE, HIGHEST_VALUE, sum(x, v));
     }
     raise_to(x, v)
 }

@@ -1,7 +1,7 @@
-pub mod Answer
-pub mod Names
-pub mod NameLaws
+pub mod LogNames
+pub mod LogNameLaws
+pub mod PlacedLogs
 pub mod Room
 pub mod RoomLaws
 pub mod Step
-pub mod StepLaws
+pub mod StepRecordLaws

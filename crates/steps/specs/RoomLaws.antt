@@ -5,8 +5,8 @@ use native.Mathlib.Omega.{arith}
 use lib.ListN.{length}
 use Rattle.model.specs.Layout.{stepSize}
 use Rattle.order.specs.StepLaws.{common-le}
-use Rattle.steps.specs.Names.{namesOf}
-use Rattle.steps.specs.NameLaws.{length-names}
+use Rattle.steps.specs.LogNames.{namesOf}
+use Rattle.steps.specs.LogNameLaws.{length-names}
 use Rattle.steps.specs.Room.{RestFits, StepsFit}
 
 module _ {pool starts old new : List ℕ} {kept size : ℕ} (f : StepsFit pool starts old new kept size) where

@@ -7,7 +7,7 @@ ghost use Prim.Native.Nat.{_+_, _≤_};
 ghost use lib.ListN.{length};
 ghost use lib.Seq.{paste};
 ghost use Rattle.model.specs.Bytes.{bytes};
-ghost use Rattle.model.specs.Layout.{sequenceSize, stepSize};
+ghost use Rattle.model.specs.Layout.{sequenceSize, stepSize, stepSequenceAt};
 ghost use Rattle.model.specs.Steps.{stepBytes};
 ghost use Rattle.sequence.specs.Sequence.{sequenceNumber};
 ghost use Rattle.steps.specs.Step.{namedStep};
@@ -21,7 +21,7 @@ pub enum Step {
 // Writes a step's kind, the number of its first four bytes, and its sequence.
 fn put_record(steps: &mut [u8], at: usize, kind: u32, s: Sequence)
     requires { ⌜ at + stepSize ≤ length (now steps) ⌝ }
-    ensures { λ _. ⌜ now (steps .exit) ≡ paste (now (steps .entry)) at (bytes 4 kind ++ bytes sequenceSize (sequenceNumber s)) stepSize ⌝ }
+    ensures { λ _. ⌜ now (steps .exit) ≡ paste (now (steps .entry)) at (bytes stepSequenceAt kind ++ bytes sequenceSize (sequenceNumber s)) stepSize ⌝ }
 {
     let from = at + layout::STEP_SEQUENCE_AT;
     buffer::put_u32(steps, at, kind);

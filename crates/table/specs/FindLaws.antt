@@ -10,19 +10,18 @@ use lib.Dec.{ltb, ltb→lt, nltb→le}
 use Rattle.model.specs.Lists.{_∈_, has}
 use Rattle.model.specs.Message.{Message, sequenceOf}
 use Rattle.model.specs.Order.{sequencesOf, find}
-use Rattle.order.specs.TestLaws.{decide, has→∈, ∈→has}
+use Rattle.order.specs.TestLaws.{decide, is-true, false-of, has→∈, ∈→has}
+use Rattle.order.specs.ListLaws.{getD-∈, ∈-getD}
 use Rattle.laws.specs.SetLaws.{find-here}
-use Rattle.sequence.specs.Decisions.{T-true, T-false}
 use Rattle.table.specs.Table.{messageFrom, deltasOf, Holds}
 use Rattle.table.specs.Places.{sequenceIn, IsPresent, IsAbsent}
-use Rattle.table.specs.PlaceLaws.{at-member, IsAt, member-at}
 
 module _ (pool starts : List ℕ) (s i : ℕ) (present : IsPresent pool starts s i) where
   pub present-member : getD (deltasOf pool starts) i [] ∈ deltasOf pool starts
-  present-member = at-member (deltasOf pool starts) i (omega (arith, length-map starts (messageFrom pool), present .inside))
+  present-member = getD-∈ (deltasOf pool starts) i [] (omega (arith, length-map starts (messageFrom pool), present .inside))
 
   pub present-has : has s (sequencesOf (deltasOf pool starts)) ≡ true
-  present-has = T-true (has s (sequencesOf (deltasOf pool starts))) (∈→has (Memᴰ·cast (sym (present .here)) (Memᴰ·map sequenceOf present-member)))
+  present-has = is-true (has s (sequencesOf (deltasOf pool starts))) (∈→has (Memᴰ·cast (sym (present .here)) (Memᴰ·map sequenceOf present-member)))
 
   pub present-find : Holds pool starts → find (deltasOf pool starts) s ≡ getD (deltasOf pool starts) i []
   present-find holds =
@@ -38,10 +37,10 @@ module _ (pool starts : List ℕ) (s p : ℕ) (absent : IsAbsent pool starts s p
 
   pub absent-member : (m : Message) → m ∈ deltasOf pool starts → sequenceOf m ≡ s → ⊥
   absent-member m k e =
-      let r : IsAt (deltasOf pool starts) m = member-at (deltasOf pool starts) m k in
-      no-place (r .place) (omega (arith, length-map starts (messageFrom pool), r .inside)) (ap sequenceOf (r .here) ∙ e)
+      let r = ∈-getD [] k in
+      no-place (r .0) (omega (arith, length-map starts (messageFrom pool), r .1)) (ap sequenceOf (r .2) ∙ e)
 
   pub absent-has : has s (sequencesOf (deltasOf pool starts)) ≡ false
-  absent-has = T-false (has s (sequencesOf (deltasOf pool starts))) (λ t.
+  absent-has = false-of (has s (sequencesOf (deltasOf pool starts))) (λ t.
       let r = Memᴰ·of-map sequenceOf (deltasOf pool starts) (has→∈ s (sequencesOf (deltasOf pool starts)) t) in
       absent-member (r .0) (r .1) (r .2))

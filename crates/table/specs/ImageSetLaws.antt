@@ -8,10 +8,10 @@ use lib.ListN.{length, drop}
 use lib.Dec.{T}
 use Rattle.model.specs.Lists.{_∈_}
 use Rattle.model.specs.Bytes.{field}
-use Rattle.model.specs.Layout.{lengthAt, messagesStart, capacity}
+use Rattle.model.specs.Layout.{lengthAt, capacity}
 use Rattle.model.specs.Message.{Message, sequenceOf, passes}
 use Rattle.model.specs.Order.{State, insert, logOf, heldOf}
-use Rattle.model.specs.Image.{IsImage, cut, logCount, heldCount, messagesIn, setOf, isImage}
+use Rattle.model.specs.Image.{IsImage, cut, logCount, heldCount, messagesStartIn, messagesIn, setOf, isImage}
 use Rattle.laws.specs.SetLaws.{ascending-names, insert-length, insert-there, setOf-ascending, setOf-into, setOf-same}
 use Rattle.laws.specs.LogLaws.{log-held, places}
 use Rattle.laws.specs.ImageLaws.{image-declared, messages-back}
@@ -55,7 +55,7 @@ pub record SetOfImage (b : List ℕ) : Type 0 where
 
 declared-messages : (b : List ℕ) → IsImage b → SetOfImage b
 declared-messages b i = record {
-  fits = omega (arith, length-cut (logCount b + heldCount b) (drop messagesStart b), ap length back, room, i .valid .fits);
+  fits = omega (arith, length-cut (logCount b + heldCount b) (drop (messagesStartIn b) b), ap length back, room, i .valid .fits);
   pass = λ m k. i .valid .pass m (log-held S (i .valid .ascends) m .0 (subst (λ (l : List Message). m ∈ l) back k));
   distinct = subst Distinct (sym back) (distinct-whole M names (omega (arith, ap length (setOf-same (S .deltas) M (i .valid .ascends) (log-held S (i .valid .ascends))), room)));
 }

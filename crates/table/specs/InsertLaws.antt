@@ -2,9 +2,10 @@
 use mathlib.Core.Path.{_≡_, refl, sym, _∙_, ap, ap₂, subst}
 use mathlib.Core.Logic.{⊎-elim}
 use mathlib.Core.Bool.{Bool, cond}
-use mathlib.Core.List.{List, [], _∷_}
+use mathlib.Core.List.{List, [], _∷_, map}
 use Prim.Native.Nat.{ℕ, zero, suc, _+_, _-_, _≤_, _<_}
 use native.Mathlib.Omega.{arith}
+use native.Mathlib.Nat.{le-of-suc-le-suc}
 use lib.ListN.{length, take, getD, set, length-set, length-map}
 use lib.Seq.{getD-set-same, getD-set-other, getD-take, length-take-le, ext-getD}
 use lib.Dec.{T, eqb, ltb, ltb→lt, nltb→le}
@@ -17,28 +18,33 @@ use Rattle.laws.specs.SetLaws.{insert-from, insert-ascending}
 use Rattle.table.specs.Table.{messageFrom, deltasOf, Holds, insertAt}
 use Rattle.table.specs.Places.{IsAbsent}
 
--- ---- the places after an insertion
-pub length-insert : (p at : ℕ) (l : List ℕ) → p ≤ length l → length (insertAt p at l) ≡ suc (length l)
-length-insert zero at l h = refl
-length-insert (suc p) at [] h = let z : ⊥ = omega arith in absurd z
-length-insert (suc p) at (x ∷ l) h = ap suc (length-insert p at l (omega arith))
+-- ---- the items of a list after one is put in
+pub length-insert : {A : Type 0} (p : ℕ) (a : A) (l : List A) → p ≤ length l → length (insertAt p a l) ≡ suc (length l)
+length-insert zero a l h = refl
+length-insert (suc p) a [] h = let z : ⊥ = omega arith in absurd z
+length-insert (suc p) a (x ∷ l) h = ap suc (length-insert p a l (le-of-suc-le-suc h))
 
-insert-lower : (p at : ℕ) (l : List ℕ) (k : ℕ) → p ≤ length l → k < p → getD (insertAt p at l) k 0 ≡ getD l k 0
-insert-lower zero at l k h q = let z : ⊥ = omega arith in absurd z
-insert-lower (suc p) at [] k h q = let z : ⊥ = omega arith in absurd z
-insert-lower (suc p) at (x ∷ l) zero h q = refl
-insert-lower (suc p) at (x ∷ l) (suc k) h q = insert-lower p at l k (omega arith) (omega arith)
+pub insert-lower : {A : Type 0} (p : ℕ) (a : A) (l : List A) (k : ℕ) (d : A) → p ≤ length l → k < p → getD (insertAt p a l) k d ≡ getD l k d
+insert-lower zero a l k d h q = let z : ⊥ = omega arith in absurd z
+insert-lower (suc p) a [] k d h q = let z : ⊥ = omega arith in absurd z
+insert-lower (suc p) a (x ∷ l) zero d h q = refl
+insert-lower (suc p) a (x ∷ l) (suc k) d h q = insert-lower p a l k d (le-of-suc-le-suc h) (le-of-suc-le-suc q)
 
-insert-here : (p at : ℕ) (l : List ℕ) → p ≤ length l → getD (insertAt p at l) p 0 ≡ at
-insert-here zero at l h = refl
-insert-here (suc p) at [] h = let z : ⊥ = omega arith in absurd z
-insert-here (suc p) at (x ∷ l) h = insert-here p at l (omega arith)
+insert-here : {A : Type 0} (p : ℕ) (a : A) (l : List A) (d : A) → p ≤ length l → getD (insertAt p a l) p d ≡ a
+insert-here zero a l d h = refl
+insert-here (suc p) a [] d h = let z : ⊥ = omega arith in absurd z
+insert-here (suc p) a (x ∷ l) d h = insert-here p a l d (le-of-suc-le-suc h)
 
-insert-higher : (p at : ℕ) (l : List ℕ) (k : ℕ) → p ≤ length l → p ≤ k → getD (insertAt p at l) (suc k) 0 ≡ getD l k 0
-insert-higher zero at l k h q = refl
-insert-higher (suc p) at [] k h q = let z : ⊥ = omega arith in absurd z
-insert-higher (suc p) at (x ∷ l) zero h q = let z : ⊥ = omega arith in absurd z
-insert-higher (suc p) at (x ∷ l) (suc k) h q = insert-higher p at l k (omega arith) (omega arith)
+pub insert-higher : {A : Type 0} (p : ℕ) (a : A) (l : List A) (k : ℕ) (d : A) → p ≤ length l → p ≤ k → getD (insertAt p a l) (suc k) d ≡ getD l k d
+insert-higher zero a l k d h q = refl
+insert-higher (suc p) a [] k d h q = let z : ⊥ = omega arith in absurd z
+insert-higher (suc p) a (x ∷ l) zero d h q = let z : ⊥ = omega arith in absurd z
+insert-higher (suc p) a (x ∷ l) (suc k) d h q = insert-higher p a l k d (le-of-suc-le-suc h) (le-of-suc-le-suc q)
+
+pub insert-map : {A B : Type 0} (f : A → B) (p : ℕ) (a : A) (l : List A) → map f (insertAt p a l) ≡ insertAt p (f a) (map f l)
+insert-map f zero a l = refl
+insert-map f (suc p) a [] = refl
+insert-map f (suc p) a (x ∷ l) = ap (λ (k : List _). f x ∷ k) (insert-map f p a l)
 
 -- ---- moving the places from i on, of `count` in use, one on
 pub record Moved (l : List ℕ) (count i : ℕ) (starts : List ℕ) : Type 0 where
@@ -83,15 +89,15 @@ moved-insert l count p at starts m h q = ext-getD 0 (take (count + 1) (set start
     lower : (k : ℕ) → k < p → getD (set starts p at) k 0 ≡ getD (insertAt p at (take count l)) k 0
     lower k r =
         getD-set-other starts p k at 0 (λ e. let z : ⊥ = omega arith in z) ∙ m .kept k (omega arith)
-        ∙ sym (insert-lower p at (take count l) k (omega (arith, used)) r ∙ getD-take count l k 0 (omega arith))
+        ∙ sym (insert-lower p at (take count l) k 0 (omega (arith, used)) r ∙ getD-take count l k 0 (omega arith))
 
     here : getD (set starts p at) p 0 ≡ getD (insertAt p at (take count l)) p 0
-    here = getD-set-same starts p at 0 (omega (arith, m .size)) ∙ sym (insert-here p at (take count l) (omega (arith, used)))
+    here = getD-set-same starts p at 0 (omega (arith, m .size)) ∙ sym (insert-here p at (take count l) 0 (omega (arith, used)))
 
     higher : (k : ℕ) → p ≤ k → k < count → getD (set starts p at) (suc k) 0 ≡ getD (insertAt p at (take count l)) (suc k) 0
     higher k r s =
         getD-set-other starts p (suc k) at 0 (λ e. let z : ⊥ = omega arith in z) ∙ m .moved k r s
-        ∙ sym (insert-higher p at (take count l) k (omega (arith, used)) r ∙ getD-take count l k 0 s)
+        ∙ sym (insert-higher p at (take count l) k 0 (omega (arith, used)) r ∙ getD-take count l k 0 s)
 
     upper : (k : ℕ) → p ≤ k → k < suc count → getD (set starts p at) k 0 ≡ getD (insertAt p at (take count l)) k 0
     upper zero r s = let e : p ≡ 0 = omega arith in subst (λ (x : ℕ). getD (set starts p at) x 0 ≡ getD (insertAt p at (take count l)) x 0) e here

@@ -4,6 +4,8 @@ pub mod Places
 pub mod PlaceLaws
 pub mod FindLaws
 pub mod InsertLaws
+pub mod Shifting
+pub mod ShiftingLaws
 pub mod PoolLaws
 pub mod Reading
 pub mod RefusalLaws

@@ -1,76 +1,64 @@
 -- The messages of a table by their places: each stands inside the pool, and places ascend as sequences do.
-use mathlib.Core.Path.{_≡_, refl, sym, _∙_, ap}
-use mathlib.Core.Logic.{⊎-elim}
-use mathlib.Core.List.{List, [], _∷_, List·Memᴰ·head, List·Memᴰ·tail, List·Memᴰ·not-nil, List·Memᴰ·cases-cons}
+use mathlib.Core.Path.{_≡_, _∙_, ap}
+use mathlib.Core.List.{List, [], _∷_}
 use Prim.Native.Nat.{ℕ, zero, suc, _+_, _≤_, _<_}
 use native.Mathlib.Omega.{arith}
 use lib.ListN.{length, getD, length-map}
-use lib.Dec.{T, ltb, ltb→lt, nltb→le}
+use lib.Dec.{T}
 use Rattle.model.specs.Lists.{_∈_}
 use Rattle.model.specs.Bytes.{field}
+use Rattle.model.specs.Layout.{headerSize, sequenceAt, sequenceSize}
 use Rattle.model.specs.Message.{Message, sequenceOf, passes}
 use Rattle.model.specs.Order.{Ascending}
-use Rattle.order.specs.TestLaws.{decide}
+use Rattle.order.specs.ListLaws.{getD-∈, getD-map}
+use Rattle.wire_laws.specs.MessageLaws.{passes-sized, sized-range}
 use Rattle.table.specs.Table.{messageFrom, deltasOf, Holds}
 use Rattle.table.specs.TableLaws.{Lies, passes-lies}
-use Rattle.table.specs.Places.{sequenceIn}
+use Rattle.table.specs.Places.{sequenceIn, AllBelow}
+
+-- ---- a place of a list of places, by its index
+pub below-at : (n : ℕ) (places : List ℕ) → AllBelow n places → (k : ℕ) → k < length places → getD places k 0 < n
+below-at n places h k q = h (getD places k 0) (getD-∈ places k 0 q)
 
 -- ---- messages by their places
-pub at-member : (l : List Message) (k : ℕ) → k < length l → getD l k [] ∈ l
-at-member [] k h = let z : ⊥ = omega arith in absurd z
-at-member (m ∷ l) zero h = List·Memᴰ·head refl
-at-member (m ∷ l) (suc k) h = List·Memᴰ·tail (at-member l k (omega arith))
-
-pub record IsAt (l : List Message) (m : Message) : Type 0 where
-  pub place : ℕ
-  pub inside : place < length l
-  pub here : getD l place [] ≡ m
-
-pub member-at : (l : List Message) (m : Message) → m ∈ l → IsAt l m
-member-at [] m h = absurd (List·Memᴰ·not-nil h)
-member-at (x ∷ l) m h = ⊎-elim (λ e. record { place = 0; inside = omega arith; here = sym e }) (λ k. next (member-at l m k)) (List·Memᴰ·cases-cons h)
-  where
-    next : IsAt l m → IsAt (x ∷ l) m
-    next r = record { place = suc (r .place); inside = omega arith; here = r .here }
-
 pub ascending-at : (l : List Message) → Ascending l → (i j : ℕ) → i < j → j < length l → sequenceOf (getD l i []) < sequenceOf (getD l j [])
 ascending-at [] h i j p q = let z : ⊥ = omega arith in absurd z
 ascending-at (m ∷ l) h i zero p q = let z : ⊥ = omega arith in absurd z
-ascending-at (m ∷ l) h zero (suc j) p q = h .0 (getD l j []) (at-member l j (omega arith))
+ascending-at (m ∷ l) h zero (suc j) p q = h .0 (getD l j []) (getD-∈ l j [] (omega arith))
 ascending-at (m ∷ l) h (suc i) (suc j) p q = ascending-at l (h .1) i j (omega arith) (omega arith)
+
+-- a sequence stands at one place
+pub one-place : (l : List Message) → Ascending l → (i j : ℕ) → i < length l → j < length l → sequenceOf (getD l i []) ≡ sequenceOf (getD l j []) → i ≡ j
+one-place l a i j p q e =
+    let before : ¬ (i < j) = λ k. let z : ⊥ = omega (arith, ascending-at l a i j k q) in z in
+    let behind : ¬ (j < i) = λ k. let z : ⊥ = omega (arith, ascending-at l a j i k p) in z in
+    omega arith
 
 -- ---- of a table
 pub delta-at : (pool starts : List ℕ) (k : ℕ) → k < length starts → getD (deltasOf pool starts) k [] ≡ messageFrom pool (getD starts k 0)
-delta-at pool [] k h = let z : ⊥ = omega arith in absurd z
-delta-at pool (x ∷ l) zero h = refl
-delta-at pool (x ∷ l) (suc k) h = delta-at pool l k (omega arith)
+delta-at pool starts k h = getD-map (messageFrom pool) starts k 0 [] h
 
 -- the message at a place lies inside the pool, and its sequence is read there
 pub record Stands (pool starts : List ℕ) (k : ℕ) : Type 0 where
   pub lies : Lies pool (getD starts k 0)
-  pub sequence : sequenceIn pool starts k ≡ field pool (getD starts k 0 + 12) 12
+  pub sequence : sequenceIn pool starts k ≡ field pool (getD starts k 0 + sequenceAt) sequenceSize
 
 pub stands : (pool starts : List ℕ) → Holds pool starts → (k : ℕ) → k < length starts → Stands pool starts k
 stands pool starts h k q =
     let e : getD (deltasOf pool starts) k [] ≡ messageFrom pool (getD starts k 0) = delta-at pool starts k q in
-    let member : getD (deltasOf pool starts) k [] ∈ deltasOf pool starts = at-member (deltasOf pool starts) k (omega (arith, length-map starts (messageFrom pool))) in
+    let member : getD (deltasOf pool starts) k [] ∈ deltasOf pool starts = getD-∈ (deltasOf pool starts) k [] (omega (arith, length-map starts (messageFrom pool))) in
     let t : T (passes (messageFrom pool (getD starts k 0))) = rw e at (h .pass (getD (deltasOf pool starts) k []) member) in
     let l : Lies pool (getD starts k 0) = passes-lies pool (getD starts k 0) t in
-    record { lies = l; sequence = ap sequenceOf e ∙ l .fields 12 12 (omega arith) }
+    record { lies = l; sequence = ap sequenceOf e ∙ l .fields sequenceAt sequenceSize (omega arith) }
 
--- ---- a place is between all that is lower and all that is higher
-module _ (pool starts : List ℕ) (holds : Holds pool starts) (s k : ℕ) (inside : k < length starts) where
-  places-ascend : (i j : ℕ) → i < j → j < length starts → sequenceIn pool starts i < sequenceIn pool starts j
-  places-ascend i j p q = ascending-at (deltasOf pool starts) (holds .ascends) i j p (omega (arith, length-map starts (messageFrom pool)))
+-- sequences ascend by place
+pub places-ascend : (pool starts : List ℕ) → Holds pool starts → (i j : ℕ) → i < j → j < length starts → sequenceIn pool starts i < sequenceIn pool starts j
+places-ascend pool starts holds i j p q = ascending-at (deltasOf pool starts) (holds .ascends) i j p (omega (arith, length-map starts (messageFrom pool)))
 
-  pub lower-before : sequenceIn pool starts k < s → (i : ℕ) → i < k + 1 → sequenceIn pool starts i < s
-  lower-before h i q = ⊎-elim
-      (λ t. let less : i < k = ltb→lt i k t in omega (arith, places-ascend i k less inside))
-      (λ t. let last : k ≤ i = nltb→le i k t in let e : i ≡ k = omega arith in omega (arith, ap (sequenceIn pool starts) e))
-      (decide (ltb i k))
+-- ---- the entries of a table pass 3 to 6, and have a header
+module _ (pool starts : List ℕ) (holds : Holds pool starts) (i : ℕ) (inside : i < length starts) where
+  pub entry-passes : T (passes (getD (deltasOf pool starts) i []))
+  entry-passes = holds .pass (getD (deltasOf pool starts) i []) (getD-∈ (deltasOf pool starts) i [] (omega (arith, length-map starts (messageFrom pool))))
 
-  pub higher-after : s < sequenceIn pool starts k → (i : ℕ) → k ≤ i → i < length starts → s < sequenceIn pool starts i
-  higher-after h i p q = ⊎-elim
-      (λ t. let more : k < i = ltb→lt k i t in omega (arith, places-ascend k i more q))
-      (λ t. let last : i ≤ k = nltb→le k i t in let e : i ≡ k = omega arith in omega (arith, ap (sequenceIn pool starts) e))
-      (decide (ltb k i))
+  pub entry-long : headerSize ≤ length (getD (deltasOf pool starts) i [])
+  entry-long = let m = getD (deltasOf pool starts) i [] in omega (arith, sized-range m (passes-sized m entry-passes))

@@ -1,10 +1,10 @@
 -- Two pools that agree on their first n bytes have the same messages there: what stands behind them makes no difference.
 use mathlib.Core.Path.{_≡_, refl, sym, _∙_, ap, ap₂, subst}
-use mathlib.Core.List.{List, [], _∷_, _++_, List·Memᴰ·head, List·Memᴰ·tail, Memᴰ·map}
-use Prim.Native.Nat.{ℕ, zero, suc, _+_, _≤_}
+use mathlib.Core.List.{List, [], _∷_, List·Memᴰ·head, List·Memᴰ·tail, Memᴰ·map}
+use Prim.Native.Nat.{ℕ, _+_, _≤_}
 use native.Mathlib.Omega.{arith}
 use lib.ListN.{length, take, drop}
-use lib.Seq.{take-take, take-append-seam, take-length}
+use lib.Seq.{take-length}
 use lib.Dec.{T}
 use Rattle.model.specs.Lists.{_∈_}
 use Rattle.model.specs.Bytes.{number, field}
@@ -12,48 +12,42 @@ use Rattle.model.specs.Layout.{lengthAt}
 use Rattle.model.specs.Message.{Message, passes}
 use Rattle.model.specs.Order.{stateOf}
 use Rattle.model.specs.Image.{Valid}
-use Rattle.wire_laws.specs.BytesLaws.{field-part}
+use Rattle.wire_laws.specs.BytesLaws.{take-drop-take, field-part}
 use Rattle.wire_laws.specs.MessageLaws.{Sized, passes-sized, sized-range}
 use Rattle.table.specs.Table.{messageFrom, deltasOf, Holds}
 use Rattle.table.specs.TableLaws.{Lies, passes-lies}
 
 -- a message ends within the first n bytes
-abbrev pub Within : List ℕ → ℕ → ℕ → Type 0
-Within pool n at = at + field pool (at + lengthAt) 2 ≤ n
-
-take-drop-take : (n i size : ℕ) (b : List ℕ) → i + size ≤ n → take size (drop i (take n b)) ≡ take size (drop i b)
-take-drop-take n zero size b h = take-take size n b (omega arith)
-take-drop-take zero (suc i) size b h = let z : ⊥ = omega arith in absurd z
-take-drop-take (suc n) (suc i) size [] h = refl
-take-drop-take (suc n) (suc i) size (x ∷ b) h = take-drop-take n i size b (omega arith)
+abbrev pub EndsBy : List ℕ → ℕ → ℕ → Type 0
+EndsBy pool n at = at + field pool (at + lengthAt) 2 ≤ n
 
 module _ (a b : List ℕ) (n : ℕ) (agree : take n a ≡ take n b) where
   part-agrees : (i size : ℕ) → i + size ≤ n → take size (drop i b) ≡ take size (drop i a)
   part-agrees i size h =
       sym (take-drop-take n i size b h) ∙ ap (λ (l : List ℕ). take size (drop i l)) (sym agree) ∙ take-drop-take n i size a h
 
-  pub message-agrees : (at : ℕ) → T (passes (messageFrom a at)) → Within a n at → messageFrom b at ≡ messageFrom a at
+  pub message-agrees : (at : ℕ) → T (passes (messageFrom a at)) → EndsBy a n at → messageFrom b at ≡ messageFrom a at
   message-agrees at t h =
       let l : Lies a at = passes-lies a at t in
       let e : field b (at + lengthAt) 2 ≡ field a (at + lengthAt) 2 = ap number (part-agrees (at + lengthAt) 2 (omega arith)) in
       ap (λ (size : ℕ). take size (drop at b)) e ∙ part-agrees at (field a (at + lengthAt) 2) h
 
-  deltas-agree-each : (starts : List ℕ) → ((m : Message) → m ∈ deltasOf a starts → T (passes m)) → ((at : ℕ) → at ∈ starts → Within a n at)
+  deltas-agree-each : (starts : List ℕ) → ((m : Message) → m ∈ deltasOf a starts → T (passes m)) → ((at : ℕ) → at ∈ starts → EndsBy a n at)
       → deltasOf b starts ≡ deltasOf a starts
   deltas-agree-each [] p h = refl
   deltas-agree-each (at ∷ starts) p h =
       ap₂ _∷_ (message-agrees at (p (messageFrom a at) (List·Memᴰ·head refl)) (h at (List·Memᴰ·head refl)))
       (deltas-agree-each starts (λ m k. p m (List·Memᴰ·tail k)) (λ x k. h x (List·Memᴰ·tail k)))
 
-  pub deltas-agree : (starts : List ℕ) → Holds a starts → ((at : ℕ) → at ∈ starts → Within a n at) → deltasOf b starts ≡ deltasOf a starts
+  pub deltas-agree : (starts : List ℕ) → Holds a starts → ((at : ℕ) → at ∈ starts → EndsBy a n at) → deltasOf b starts ≡ deltasOf a starts
   deltas-agree starts holds h = deltas-agree-each starts (holds .pass) h
 
-  pub holds-agree : (starts : List ℕ) → Holds a starts → ((at : ℕ) → at ∈ starts → Within a n at) → Holds b starts
+  pub holds-agree : (starts : List ℕ) → Holds a starts → ((at : ℕ) → at ∈ starts → EndsBy a n at) → Holds b starts
   holds-agree starts holds h = subst (λ (l : List Message). Valid (stateOf l)) (sym (deltas-agree starts holds h)) holds
 
 -- ---- a whole pool at the front of a longer one
 module _ (a b : List ℕ) (front : take (length a) b ≡ a) (starts : List ℕ) (holds : Holds a starts) where
-  inside : (at : ℕ) → at ∈ starts → Within a (length a) at
+  inside : (at : ℕ) → at ∈ starts → EndsBy a (length a) at
   inside at k = passes-lies a at (holds .pass (messageFrom a at) (Memᴰ·map (messageFrom a) k)) .inside
 
   pub deltas-front : deltasOf b starts ≡ deltasOf a starts
@@ -62,13 +56,10 @@ module _ (a b : List ℕ) (front : take (length a) b ≡ a) (starts : List ℕ) 
   pub holds-front : Holds b starts
   holds-front = holds-agree a b (length a) (take-length a ∙ sym front) starts holds inside
 
-pub deltas-append : (a more starts : List ℕ) → Holds a starts → deltasOf (a ++ more) starts ≡ deltasOf a starts
-deltas-append a more starts holds = deltas-front a (a ++ more) (take-append-seam a more) starts holds
-
 -- ---- a message that was put at a place is the one that starts there
 pub message-placed : (pool : List ℕ) (at : ℕ) (m : Message) → take (length m) (drop at pool) ≡ m → T (passes m) → messageFrom pool at ≡ m
 message-placed pool at m e t =
     let s : Sized m = passes-sized m t in
     let size : field pool (at + lengthAt) 2 ≡ length m =
-    sym (field-part pool at (length m) 4 2 (omega (arith, sized-range m s .0))) ∙ ap (λ (l : List ℕ). field l 4 2) e ∙ s .stated in
+    sym (field-part pool at (length m) lengthAt 2 (omega (arith, sized-range m s .0))) ∙ ap (λ (l : List ℕ). field l lengthAt 2) e ∙ s .stated in
     ap (λ (n : ℕ). take n (drop at pool)) size ∙ e

@@ -9,7 +9,8 @@ use Rattle.model.specs.Bytes.{field}
 use Rattle.model.specs.Layout.{lengthAt, capacity}
 use Rattle.model.specs.Message.{sequenceOf, passes}
 use Rattle.model.specs.Order.{insert, sequencesOf}
-use Rattle.model.specs.Image.{logCount, heldCount, stateIn, isImage}
+use Rattle.model.specs.Image.{logCount, heldCount, messagesIn, stateIn, isImage}
+use Rattle.order.specs.TestLaws.{Same}
 use Rattle.message.specs.declared.checks.Check.{Check}
 use Rattle.message.specs.declared.checks.Check.the-variants.{Right, Wrong}
 use Rattle.sequence.specs.declared.Sequence.{Sequence}
@@ -49,6 +50,7 @@ TakesIn b t at r = takenBy b t at (r .check) (r .table)
 -- ---- all of an image's messages
 pub record IsTable (b : List ℕ) (t : Table) : Type 0 where
   pub holds : Holds b (startsOf t)
+  pub messages : Same (messagesIn b) (deltasOf b (startsOf t))
   pub set : setIn b (startsOf t) ≡ stateIn b
   pub count : t .count ≡ logCount b + heldCount b
   pub fits : t .count ≤ capacity

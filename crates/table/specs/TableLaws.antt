@@ -6,15 +6,15 @@ use native.Mathlib.Omega.{arith}
 use lib.ListN.{length, drop, length-take, length-drop}
 use lib.Dec.{T}
 use Rattle.model.specs.Bytes.{field}
-use Rattle.model.specs.Layout.{lengthAt}
+use Rattle.model.specs.Layout.{lengthAt, headerSize, messageRoom}
 use Rattle.model.specs.Message.{Message, passes}
 use Rattle.wire_laws.specs.BytesLaws.{field-part}
 use Rattle.wire_laws.specs.MessageLaws.{Sized, passes-sized, sized-range}
 use Rattle.table.specs.Table.{messageFrom}
 
 pub record Lies (pool : List ℕ) (at : ℕ) : Type 0 where
-  pub least : 48 ≤ field pool (at + lengthAt) 2
-  pub most : field pool (at + lengthAt) 2 ≤ 200
+  pub least : headerSize ≤ field pool (at + lengthAt) 2
+  pub most : field pool (at + lengthAt) 2 ≤ messageRoom
   pub inside : at + field pool (at + lengthAt) 2 ≤ length pool
   pub size : length (messageFrom pool at) ≡ field pool (at + lengthAt) 2
   -- a field of the message is the pool's, so much further on
@@ -22,14 +22,14 @@ pub record Lies (pool : List ℕ) (at : ℕ) : Type 0 where
 
 pub passes-lies : (pool : List ℕ) (at : ℕ) → T (passes (messageFrom pool at)) → Lies pool at
 passes-lies pool at t =
-    let total : ℕ = field pool (at + 4) 2 in
+    let total : ℕ = field pool (at + lengthAt) 2 in
     let m : Message = messageFrom pool at in
     let s : Sized m = passes-sized m t in
-    let least : 48 ≤ length m = sized-range m s .0 in
-    let most : length m ≤ 200 = sized-range m s .1 in
+    let least : headerSize ≤ length m = omega (arith, sized-range m s .0) in
+    let most : length m ≤ messageRoom = sized-range m s .1 in
     let cut : length m ≡ min total (length (drop at pool)) = length-take total (drop at pool) in
     let left : length (drop at pool) ≡ length pool - at = length-drop at pool in
-    let e : field m 4 2 ≡ total = field-part pool at total 4 2 (omega arith) in
+    let e : field m lengthAt 2 ≡ total = field-part pool at total lengthAt 2 (omega arith) in
     let size : length m ≡ total = sym (s .stated) ∙ e in
     record {
       least = omega arith;

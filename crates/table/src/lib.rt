@@ -1,6 +1,9 @@
 // A set of deltas in a run of bytes, the pool: where each message starts, by ascending sequence.
+pub mod entry;
 pub mod places;
 pub mod reading;
+pub mod shifting;
+pub mod start;
 
 use layout::CAPACITY;
 ghost use mathlib.Core.Path.{_≡_};
@@ -11,7 +14,7 @@ ghost use Rattle.table.specs.Table.{startsOf, Inserts};
 
 // The places where messages start, the first `count` of them in use.
 pub struct Table {
-    pub starts: [usize; CAPACITY],
+    pub starts: [u16; CAPACITY],
     pub count: usize,
 }
 
@@ -27,7 +30,7 @@ impl Table {
     }
 
     // Puts a start in at a place; those from the place on move one on.
-    pub fn insert(self, p: usize, at: usize) -> Table
+    pub fn insert(self, p: usize, at: u16) -> Table
         requires { ⌜ (self .count < capacity) × (p ≤ self .count) ⌝ }
         ensures { λ r. ⌜ Inserts self p at r ⌝ }
     {

@@ -15,7 +15,7 @@ pub enum Place {
 }
 
 // Searches messages by ascending sequence, halving what is left.
-pub fn find(pool: &[u8], starts: &[usize], s: Sequence) -> Place
+pub fn find(pool: &[u8], starts: &[u16], s: Sequence) -> Place
     requires { ⌜ Holds (now pool) (now starts) ⌝ }
     ensures { λ r. ⌜ Finds (now (pool .entry)) (now (starts .entry)) (sequenceNumber s) r ⌝ }
 {
@@ -23,7 +23,7 @@ pub fn find(pool: &[u8], starts: &[usize], s: Sequence) -> Place
     let mut high = starts.len();
     while low < high {
         let middle = low + (high - low) / 2;
-        let at = starts[middle];
+        let at = starts[middle] as usize;
         let x = read_sequence(pool, at + SEQUENCE_AT);
         if equal(x, s) {
             return Place::Present(middle);

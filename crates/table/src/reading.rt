@@ -2,21 +2,21 @@
 use crate::Table;
 use crate::places::Place;
 use crate::places::find;
+use crate::start::messages_start;
 use buffer::get_u16;
 use layout::CAPACITY;
 use layout::HEADER_SIZE;
 use layout::HELD_COUNT_AT;
 use layout::LENGTH_AT;
 use layout::LOG_COUNT_AT;
-use layout::MESSAGES_START;
 use message::checks::Check;
-use message::parse::Parsed;
-use message::parse::parse;
+use parse::Parsed;
+use parse::parse;
 use sequence::Sequence;
 ghost use mathlib.Core.Path.{_≡_};
 ghost use Prim.Native.Nat.{_+_, _≤_, _<_};
 ghost use lib.ListN.{length};
-ghost use Rattle.model.specs.Layout.{capacity, imageSize};
+ghost use Rattle.model.specs.Layout.{capacity, imageSize, setpointsOffsetAt};
 ghost use Rattle.model.specs.Image.{logCount, heldCount};
 ghost use Rattle.table.specs.Table.{startsOf, Holds};
 ghost use Rattle.table.specs.Reading.{Cuts, IsMessage, TakesIn, ReadsTable};
@@ -35,7 +35,7 @@ pub struct Reading {
 
 // How many messages an image says it has, in its log and held.
 fn count_messages(b: &[u8]) -> usize
-    requires { ⌜ 4 ≤ length (now b) ⌝ }
+    requires { ⌜ setpointsOffsetAt ≤ length (now b) ⌝ }
     ensures { λ r. ⌜ r ≡ logCount (now (b .entry)) + heldCount (now (b .entry)) ⌝ }
 {
     let log = get_u16(b, LOG_COUNT_AT) as usize;
@@ -66,7 +66,7 @@ fn read_message(b: &[u8], at: usize) -> Cut
 }
 
 // The table with a message more; refused where its sequence is there already.
-fn take_in(b: &[u8], table: Table, at: usize, s: Sequence) -> Reading
+fn take_in(b: &[u8], table: Table, at: u16, s: Sequence) -> Reading
     requires { ⌜ (Holds (now b) (startsOf table)) × (table .count < capacity) × IsMessage (now b) at s ⌝ }
     ensures { λ r. ⌜ TakesIn (now (b .entry)) table at r ⌝ }
 {
@@ -99,7 +99,7 @@ pub fn read_table(b: &[u8]) -> Reading
             table,
         };
     }
-    let mut at = MESSAGES_START;
+    let mut at = messages_start();
     let mut i = 0;
     while i < total {
         let cut = read_message(b, at);
@@ -109,7 +109,7 @@ pub fn read_table(b: &[u8]) -> Reading
                 table,
             };
         };
-        let taken = take_in(b, table, at, s);
+        let taken = take_in(b, table, at as u16, s);
         let check = taken.check;
         let Check::Right = check else {
             return taken;

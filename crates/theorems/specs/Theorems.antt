@@ -1,38 +1,40 @@
 -- The laws of the definitions, each as one statement. Their proofs stand in the files beside this one.
 use mathlib.Core.Path.{_≡_, refl}
 use mathlib.Core.Logic.{_↔_}
-use mathlib.Core.Bool.{Bool, true, false}
-use mathlib.Core.List.{List, [], _∷_, _++_}
-use Prim.Native.Nat.{ℕ, _+_, _≤_, _<_, max}
+use mathlib.Core.List.{List}
+use Prim.Native.Nat.{ℕ, _+_, _≤_, max}
 use native.Mathlib.Omega.{arith}
-use lib.ListN.{length}
+use lib.ListN.{length, take}
 use lib.Dec.{T}
 use Rattle.model.specs.Lists.{_∈_, greatest}
 use Rattle.model.specs.Layout.{imageSize}
-use Rattle.model.specs.Message.{Message, blockOf, needsOf}
-use Rattle.model.specs.Order.{State, find, sequencesOf, effectiveBlock, keyOf, less, Executable, IsLog, logOf, heldOf}
+use Rattle.model.specs.Message.{Message, blockOf}
+use Rattle.model.specs.Order.{State, find, needs, effectiveBlock, keyOf, less, Executable, Grounded, IsLog, logOf, heldOf}
 use Rattle.model.specs.Image.{imageOf, Valid, IsImage, stateIn, logIn, isImage}
-use Rattle.model.specs.Steps.{Step, undosOf, executionsOf, stepsOf, Plays}
-use Rattle.model.specs.Codes.{Conditions, lowestCode, deliverConditions, composeConditions, emptyConditions, logMessageConditions, setpointConditions}
-use Rattle.model.specs.Calls.{Delivered, deliver, Composed, compose}
-use Rattle.model.specs.PlainStation.{accepts, receive}
+use Rattle.model.specs.Steps.{Step, common, undosOf, executionsOf, stepsOf, Plays}
+use Rattle.model.specs.Codes.{lowestCode, deliverConditions, composeConditions, emptyConditions, logMessageConditions, setpointConditions}
+use Rattle.model.specs.Calls.{deliver, compose}
+use Rattle.model.specs.PlainStation.{receive}
 use Rattle.model.specs.Run.{delivery, Agreement, Begins, Answers}
 use Rattle.order.specs.KeyOrder.{Total}
 use Rattle.order.specs.TestLaws.{Same}
+use Rattle.order.specs.CommonLaws.{common-start, common-longest}
 use Rattle.order.specs.StepLaws.{steps-play, steps-counted, steps-fewest}
-use Rattle.laws.specs.LogLaws.{key-order, keys-differ, log-is, log-only, log-of-set, log-executable, held-is}
-use Rattle.laws.specs.EffectiveLaws.{effective-is}
+use Rattle.laws.specs.LogLaws.{key-order, keys-differ, log-is, log-only, log-of-set, log-executable, log-grounded, held-is}
+use Rattle.laws.specs.EffectiveLaws.{effective-is, effective-only}
 use Rattle.laws.specs.ImageLaws.{image-size, state-back, log-back, image-declared, image-state}
 use Rattle.laws.specs.CodeLaws.{Lowest, lowest-is}
 use Rattle.laws.specs.DeliverLaws.{receive-valid}
 use Rattle.run_laws.specs.RunLaws.{CallFacts, call-facts, agreement}
 use Rattle.compose_laws.specs.ComposeLaws.{Promised, composedBy, compose-promise}
 
--- 1. The computed log is the declared one and the only one. A received delta is in it exactly if it is executable; held are the others.
+-- 1. The computed log is the declared one and the only one. A received delta is in it exactly if it is executable, and so
+-- exactly if all it needs, step by step back, was received and contains no ring; held are the others.
 pub record LogLaw (S : State) : Type 0 where
   pub is-log : IsLog S (logOf S)
   pub only : (l : List Message) → IsLog S l → l ≡ logOf S
   pub executable : (m : Message) → m ∈ S .deltas → (m ∈ logOf S) ↔ Executable S m
+  pub grounded : (m : Message) → m ∈ S .deltas → (m ∈ logOf S) ↔ Grounded S m
   pub held : (m : Message) → (m ∈ heldOf S) ↔ ((m ∈ S .deltas) × ¬ (m ∈ logOf S))
 
 pub log-law : (S : State) → Valid S → LogLaw S
@@ -40,6 +42,7 @@ log-law S v = record {
   is-log = log-is S (v .ascends);
   only = log-only S (v .ascends);
   executable = log-executable S (v .ascends);
+  grounded = log-grounded S (v .ascends);
   held = held-is S (v .ascends);
 }
 
@@ -47,24 +50,29 @@ log-law S v = record {
 pub log-of-same : (S R : State) → Valid S → Valid R → Same (S .deltas) (R .deltas) → logOf S ≡ logOf R
 log-of-same S R p q f = log-of-set S R (p .ascends) (q .ascends) f
 
--- 2. The key is a strict total order on every set, and the effective block is the paper's.
+-- 2. The key is a strict total order on every set, and the effective block is the one solution of the paper's equation.
 pub record KeyLaw (S : State) : Type 0 where
   pub order : Total less
   pub differ : (a b : Message) → a ∈ S .deltas → b ∈ S .deltas → keyOf S a ≡ keyOf S b → a ≡ b
   pub effective : (m : Message) → m ∈ S .deltas → Executable S m
-      → effectiveBlock S m ≡ max (blockOf m) (greatest (λ s. effectiveBlock S (find (S .deltas) s)) (needsOf m))
+      → effectiveBlock S m ≡ max (blockOf m) (greatest (λ s. effectiveBlock S (find (S .deltas) s)) (needs S m))
+  pub only-effective : (f : Message → ℕ)
+      → ((m : Message) → m ∈ S .deltas → Executable S m → f m ≡ max (blockOf m) (greatest (λ s. f (find (S .deltas) s)) (needs S m)))
+      → (m : Message) → m ∈ S .deltas → Executable S m → f m ≡ effectiveBlock S m
 
 pub key-law : (S : State) → Valid S → KeyLaw S
-key-law S v = record { order = key-order; differ = keys-differ S (v .ascends); effective = effective-is S (v .ascends) (v .fits) }
+key-law S v = record { order = key-order; differ = keys-differ S (v .ascends); effective = effective-is S (v .ascends) (v .fits); only-effective = effective-only S (v .ascends) (v .fits) }
 
--- 3. The steps lead from the old log to the new one, are counted as the paper says, and no rival has fewer.
+-- 3. The common start is one and none is longer; the steps lead from the old log to the new one, are counted as the paper says, and no rival has fewer.
 pub record StepLaw (old new : List ℕ) : Type 0 where
+  pub start : take (common old new) old ≡ take (common old new) new
+  pub longest : (n : ℕ) → n ≤ length old → n ≤ length new → take n old ≡ take n new → n ≤ common old new
   pub plays : Plays old (stepsOf old new) new
   pub counted : length (stepsOf old new) ≡ undosOf old new + executionsOf old new
   pub fewest : (rival : List Step) → Plays old rival new → length (stepsOf old new) ≤ length rival
 
 pub step-law : (old new : List ℕ) → StepLaw old new
-step-law old new = record { plays = steps-play old new; counted = steps-counted old new; fewest = steps-fewest old new }
+step-law old new = record { start = common-start old new; longest = common-longest old new; plays = steps-play old new; counted = steps-counted old new; fewest = steps-fewest old new }
 
 -- 4. The image of a valid state has 16,384 bytes and reads back to that state and its log.
 pub record ImageLaw (S : State) : Type 0 where

@@ -1,23 +1,22 @@
 -- Numbers and lists of bytes: what is written is read back, and what is read is in range.
 use mathlib.Core.Path.{_≡_, refl, sym, _∙_, ap, ap₂, subst}
-use mathlib.Core.Logic.{_⊎_, inl, inr, ⊎-elim}
-use mathlib.Core.Bool.{Bool, true, false, cond, not, _&&_}
-use mathlib.Core.List.{List, [], _∷_, _++_, map, List·Memᴰ·head, List·Memᴰ·tail, append-assoc}
-use Prim.Native.Nat.{ℕ, zero, suc, _+_, _*_, _-_, _/_, _%_, _^_, _≤_, _<_, min}
+use mathlib.Core.Bool.{Bool, true, false, cond, not}
+use mathlib.Core.List.{List, [], _∷_, _++_, List·Memᴰ·head, List·Memᴰ·tail, append-assoc}
+use Prim.Native.Nat.{ℕ, zero, suc, _+_, _*_, _-_, _/_, _%_, _^_, _≤_, _<_}
 use native.Mathlib.Omega.{arith}
-use native.Mathlib.Nat.{mod-eq-of-lt, pow-suc, mul-assoc, mul-comm, one-le-pow, pow-le-pow-right, lt-of-lt-of-le}
+use native.Mathlib.Nat.{mod-eq-of-lt, pow-suc, mul-zero, mul-suc, mul-assoc, mul-comm, le-of-suc-le-suc, one-le-pow, pow-le-pow-right, lt-of-lt-of-le}
 use lib.Dec.{T, ltb, lit<, lit≤, ltb→lt, lt→ltb, nltb→le}
 use lib.Arith.{mod-mul}
-use lib.ListN.{length, take, drop, length-append, length-drop, length-take}
-use lib.Seq.{take-at, drop-at, take-append-le, drop-append-le, take-take, drop-drop}
-use lib.IntN.{ℤ, pos, negsuc, subℕ}
+use lib.ListN.{length, take, drop, getD, length-append, length-drop, length-take}
+use lib.Seq.{take-at, drop-at, take-append-le, drop-append-le, drop-append-add, take-take, drop-drop}
+use lib.IntN.{ℤ, pos, negsuc}
 use lib.Signed.{mag}
 use mir.Syntax.{w32}
-use mir.Val.{toZ, ofZ, sel, SFits}
+use mir.Val.{toZ, ofZ, sel}
 use mir.Facts.{toZ-ofZ}
-use Rattle.model.specs.Lists.{_∈_, every}
+use Rattle.model.specs.Lists.{_∈_}
 use Rattle.model.specs.Bytes.{isBytes, numberFrom, number, bytes, field, parts, join, integer, word}
-use Rattle.order.specs.TestLaws.{and-l, and-r, and-i, decide}
+use Rattle.order.specs.TestLaws.{and-l, and-r, and-i}
 
 -- ---- a number's bytes
 pub length-bytes : (size n : ℕ) → length (bytes size n) ≡ size
@@ -85,7 +84,7 @@ field-append a b at size h =
     ap number (ap (take size) (drop-append-le at a b (omega arith)) ∙ take-append-le size (drop at a) b (omega (arith, length-drop at a)))
 
 -- a field of a part is a field of the whole
-take-drop-take : (n i size : ℕ) (b : List ℕ) → i + size ≤ n → take size (drop i (take n b)) ≡ take size (drop i b)
+pub take-drop-take : (n i size : ℕ) (b : List ℕ) → i + size ≤ n → take size (drop i (take n b)) ≡ take size (drop i b)
 take-drop-take n zero size b h = take-take size n b (omega arith)
 take-drop-take zero (suc i) size b h = let z : ⊥ = omega arith in absurd z
 take-drop-take (suc n) (suc i) size [] h = refl
@@ -94,7 +93,21 @@ take-drop-take (suc n) (suc i) size (x ∷ b) h = take-drop-take n i size b (ome
 pub field-part : (b : List ℕ) (at n i size : ℕ) → i + size ≤ n → field (take n (drop at b)) i size ≡ field b (at + i) size
 field-part b at n i size h = ap number (take-drop-take n i size (drop at b) h ∙ ap (take size) (drop-drop i at b))
 
+pub field-part-start : (b : List ℕ) (at n size : ℕ) → size ≤ n → field (take n (drop at b)) 0 size ≡ field b at size
+field-part-start b at n size h = ap number (take-take size n (drop at b) h)
+
 -- ---- parts of equal size, end to end
+pub length-parts : (n size : ℕ) (b : List ℕ) → length (parts n size b) ≡ n
+length-parts zero size b = refl
+length-parts (suc n) size b = ap suc (length-parts n size (drop size b))
+
+pub parts-at : (n size : ℕ) (b : List ℕ) (k : ℕ) → k < n → getD (parts n size b) k [] ≡ take size (drop (size * k) b)
+parts-at zero size b k h = let z : ⊥ = omega arith in absurd z
+parts-at (suc n) size b zero h = rw mul-zero
+parts-at (suc n) size b (suc k) h =
+    parts-at n size (drop size b) k (le-of-suc-le-suc h)
+    ∙ ap (take size) (drop-drop (size * k) size b ∙ ap (λ (x : ℕ). drop x b) {x = size + size * k} {y = size * suc k} (omega (arith, mul-suc size k)))
+
 pub parts-join : (size : ℕ) (l : List (List ℕ)) (rest : List ℕ) → ((b : List ℕ) → b ∈ l → length b ≡ size) → parts (length l) size (join l ++ rest) ≡ l
 parts-join size [] rest h = refl
 parts-join size (b ∷ l) rest h =
@@ -109,6 +122,15 @@ length-join size (b ∷ l) h =
 pub join-append : (l k : List (List ℕ)) → join l ++ join k ≡ join (l ++ k)
 join-append [] k = refl
 join-append (b ∷ l) k = append-assoc b (join l) (join k) ∙ ap (λ (x : List ℕ). b ++ x) (join-append l k)
+
+-- where a section lies: past those before it stands the n-th, and then those behind it
+pub section-at : (l : List (List ℕ)) (n : ℕ) (rest : List ℕ) → n < length l
+    → drop (length (join (take n l))) (join l ++ rest) ≡ getD l n [] ++ (join (drop (suc n) l) ++ rest)
+section-at [] n rest h = let z : ⊥ = omega arith in absurd z
+section-at (b ∷ l) zero rest h = append-assoc b (join l) rest
+section-at (b ∷ l) (suc n) rest h =
+    ap₂ drop (length-append b (join (take n l))) (append-assoc b (join l) rest)
+    ∙ drop-append-add b (join l ++ rest) (length (join (take n l))) ∙ section-at l n rest (le-of-suc-le-suc h)
 
 -- ---- integers
 -- the language's own reading of a 32-bit number as signed, and its bits

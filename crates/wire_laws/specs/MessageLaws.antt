@@ -1,13 +1,12 @@
 -- What a message that passes 3 to 6 is known to be.
 use mathlib.Core.Path.{_≡_, sym, _∙_}
-use mathlib.Core.Bool.{Bool, _&&_}
-use mathlib.Core.List.{List}
-use Prim.Native.Nat.{ℕ, _+_, _*_, _^_, _≤_, _<_}
+use mathlib.Core.Bool.{_&&_}
+use Prim.Native.Nat.{_+_, _*_, _^_, _≤_, _<_}
 use native.Mathlib.Omega.{arith}
 use lib.ListN.{length}
 use lib.Dec.{T, eqb, leb, eqb→eq, leb→le}
 use Rattle.model.specs.Bytes.{isBytes, field}
-use Rattle.model.specs.Layout.{lengthAt, sequenceAt, sequenceSize}
+use Rattle.model.specs.Layout.{lengthAt, sequenceAt, headerSize, sequenceSize, commandSize, messageRoom}
 use Rattle.model.specs.Message.{Message, dependencyCount, commandCount, totalLength, sequenceOf, layoutRight, numbersRight, dependenciesRight, contentRight, passes}
 use Rattle.order.specs.TestLaws.{and-l, and-r, and-i}
 use Rattle.wire_laws.specs.BytesLaws.{field-range}
@@ -55,7 +54,7 @@ layout-sized m t =
 pub passes-sized : (m : Message) → T (passes m) → Sized m
 passes-sized m t = layout-sized m (passes-layout m t)
 
-pub sized-range : (m : Message) → Sized m → (48 ≤ length m) × (length m ≤ 200)
+pub sized-range : (m : Message) → Sized m → (headerSize + commandSize ≤ length m) × (length m ≤ messageRoom)
 sized-range m s =
     let a : dependencyCount m ≤ 8 = s .dependencies in
     let b : 1 ≤ commandCount m = s .some-command in

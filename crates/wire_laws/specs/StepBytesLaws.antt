@@ -1,19 +1,18 @@
 -- Steps in bytes: a list of steps is read back from the front of the buffer that it was written to.
-use mathlib.Core.Path.{_≡_, refl, sym, _∙_, ap, ap₂, subst}
-use mathlib.Core.Logic.{_⊎_, inl, inr, ⊎-elim}
+use mathlib.Core.Path.{_≡_, refl, sym, _∙_, ap, ap₂}
 use mathlib.Core.Bool.{Bool, true, false, cond, not}
-use mathlib.Core.Option.{Option, some, none}
-use mathlib.Core.List.{List, [], _∷_, _++_, map, reverse, List·Memᴰ·head, List·Memᴰ·tail, List·Memᴰ·not-nil, List·Memᴰ·cases-cons, List·Memᴰ·append-cases, Memᴰ·cast, Memᴰ·of-map, append-assoc}
-use Prim.Native.Nat.{ℕ, zero, suc, _+_, _*_, _-_, _^_, _≤_, _<_}
+use mathlib.Core.Option.{some, none}
+use mathlib.Core.List.{List, [], _∷_, _++_, map, List·Memᴰ·head, List·Memᴰ·tail, Memᴰ·of-map, append-assoc}
+use Prim.Native.Nat.{ℕ, _*_, _^_, _<_}
 use native.Mathlib.Omega.{arith}
-use lib.ListN.{length, length-append, length-map, length-reverse, take, drop, length-drop}
-use lib.Seq.{take-at, drop-at}
+use lib.ListN.{length, length-append, length-map}
+use lib.Seq.{drop-at}
 use lib.Dec.{T, ltb, not-T, ltb→lt}
 use Rattle.model.specs.Lists.{_∈_}
-use Rattle.model.specs.Bytes.{number, bytes, join}
+use Rattle.model.specs.Bytes.{number, bytes}
 use Rattle.model.specs.Layout.{sequenceSize, stepSize}
-use Rattle.model.specs.Steps.{Step, undo, execute, common, stepsOf, undosOf, executionsOf, stepBytes, stepsBytes, readStep, both, readSteps}
-use Rattle.wire_laws.specs.BytesLaws.{length-bytes, number-bytes, length-join}
+use Rattle.model.specs.Steps.{Step, undo, execute, stepBytes, stepsBytes, readStep, both, readSteps}
+use Rattle.wire_laws.specs.BytesLaws.{number-bytes, length-join}
 
 abbrev pub nameOf : Step → ℕ
 nameOf (undo s) = s
@@ -29,7 +28,7 @@ length-step (execute s) = refl
 
 enough : (s : Step) (rest : List ℕ) → T (not (ltb (length (stepBytes s ++ rest)) stepSize))
 enough s rest = not-T (ltb (length (stepBytes s ++ rest)) stepSize)
-    (λ t. let h : length (stepBytes s ++ rest) < 16 = ltb→lt (length (stepBytes s ++ rest)) 16 t in
+    (λ t. let h : length (stepBytes s ++ rest) < stepSize = ltb→lt (length (stepBytes s ++ rest)) stepSize t in
     let z : ⊥ = omega (arith, length-append (stepBytes s) rest, length-step s) in absurd z)
 
 read-step : (s : Step) (rest : List ℕ) → nameOf s < 256 ^ sequenceSize → readStep (stepBytes s ++ rest) ≡ some s

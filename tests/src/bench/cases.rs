@@ -31,6 +31,9 @@ pub enum Shape {
     Needs,
     /// The same with eight commands: 200 bytes from the ninth delta on.
     Longest,
+    /// A line for each delta; all name the first eight, so that all others are ready at
+    /// once, and have eight commands.
+    Fan,
     /// Each delta names the next of a ring: all held.
     Ring,
     /// Each delta names the next eight of a ring and has eight commands: all held, and
@@ -74,7 +77,7 @@ pub struct Case {
 }
 
 /// The pairs of shape and arrival that are measured at each count.
-pub const GROWING: [(Shape, Arrival); 14] = [
+pub const GROWING: [(Shape, Arrival); 16] = [
     (Shape::Chain, Arrival::Latest),
     (Shape::Chain, Arrival::Earliest),
     (Shape::Waiting, Arrival::First),
@@ -86,6 +89,8 @@ pub const GROWING: [(Shape, Arrival); 14] = [
     (Shape::Needs, Arrival::Earliest),
     (Shape::Longest, Arrival::Latest),
     (Shape::Longest, Arrival::Earliest),
+    (Shape::Fan, Arrival::Latest),
+    (Shape::Fan, Arrival::Earliest),
     (Shape::Waiting, Arrival::Held),
     (Shape::Ring, Arrival::Held),
     (Shape::RingLongest, Arrival::Held),
@@ -187,6 +192,7 @@ impl Shape {
     fn names(self, place: usize) -> Vec<Sequence> {
         let mut places: Vec<usize> = match self {
             Shape::Needs | Shape::Longest => (place.saturating_sub(8)..place).collect(),
+            Shape::Fan => (0..place.min(8)).collect(),
             Shape::Ring => vec![(place + 1) % RING],
             Shape::RingLongest => (1..=8).map(|step| (place + step) % RING).collect(),
             _ => Vec::new(),
@@ -199,7 +205,7 @@ impl Shape {
     /// One command or eight, of all three operations over all tags.
     fn commands(self, place: usize) -> Vec<Command> {
         let count = match self {
-            Shape::Longest | Shape::RingLongest => 8,
+            Shape::Longest | Shape::Fan | Shape::RingLongest => 8,
             _ => 1,
         };
         let numbered = |at: usize| {
@@ -263,6 +269,7 @@ impl fmt::Display for Shape {
             Shape::Priority => "priority",
             Shape::Needs => "needs",
             Shape::Longest => "longest",
+            Shape::Fan => "fan",
             Shape::Ring => "ring",
             Shape::RingLongest => "ring200",
         })

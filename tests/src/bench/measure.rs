@@ -1,10 +1,9 @@
-//! Time of both sides in turn, after a check that they do the same.
+//! Time of all sides in turn, after a check that they do the same.
 
-use std::hint::black_box;
 use std::time::{Duration, Instant};
 
 use crate::bench::cases::Case;
-use crate::bench::sides::{library, second, Buffers, FIRST};
+use crate::bench::sides::{black_box, sides, Buffers, NAMES};
 use crate::boundary::Calls;
 
 /// Fewer rounds than this are not taken, however long they last.
@@ -21,43 +20,69 @@ pub struct Effort {
     pub time: Duration,
 }
 
-/// Medians in nanoseconds: a call of each side, and one copy of 16,384 bytes.
-#[derive(Clone, Copy, Debug)]
+/// The time of a call over all rounds, in nanoseconds.
+#[derive(Clone, Copy, Debug, PartialEq)]
+pub struct Spread {
+    pub median: f64,
+    pub worst: f64,
+}
+
+/// What was measured of a case: a call of each side, in the order of their names, and
+/// one copy of 16,384 bytes.
+#[derive(Clone, Debug)]
 pub struct Timing {
-    pub library: f64,
-    pub second: f64,
-    pub copy: f64,
+    pub sides: Vec<Spread>,
+    pub copy: Spread,
     pub rounds: usize,
 }
 
-/// Answer, image and step buffer of both sides are equal, and the answer is the
-/// case's. Says whether the buffers are as they were.
-pub fn check(case: &Case) -> Result<bool, String> {
-    let mut left = Buffers::new(case);
-    let mut right = Buffers::new(case);
-    let answers = [
-        left.deliver(library(), case),
-        right.deliver(second(), case),
-        case.answer,
-    ];
-    if answers.iter().any(|answer| *answer != case.answer) {
-        let name = &case.name;
-        return Err(format!(
-            "{name}: {FIRST}, second, right answer: {answers:?}"
-        ));
+impl Timing {
+    /// The library, or what stands in for it.
+    pub fn library(&self) -> Spread {
+        self.sides[0]
     }
-    if left.image != right.image {
-        return Err(format!("{}: the images differ", case.name));
+
+    /// The second implementation.
+    pub fn second(&self) -> Spread {
+        self.sides[1]
     }
-    if left.steps != right.steps {
-        return Err(format!("{}: the step buffers differ", case.name));
+
+    /// An earlier archive of the library, if one was linked.
+    pub fn earlier(&self) -> Option<Spread> {
+        self.sides.get(2).copied()
     }
-    Ok(left == Buffers::new(case))
+
+    /// The library's time over the second implementation's.
+    pub fn ratio(&self) -> f64 {
+        self.library().median / self.second().median
+    }
 }
 
-/// Times cases after their check: in each round, for each case in turn, the library,
-/// the second implementation and a copy. What slows the machine for a while then
-/// falls on all of them.
+/// Answer, image and step buffer of all sides are equal, and the answer is the case's.
+/// Says whether the buffers are as they were.
+pub fn check(case: &Case) -> Result<bool, String> {
+    let fresh = Buffers::new(case);
+    let mut first: Option<Buffers> = None;
+    for (calls, side) in sides().into_iter().zip(NAMES) {
+        let mut buffers = fresh.clone();
+        let answer = buffers.deliver(calls, case);
+        let wrong = |what: &str| Err(format!("{}: {side}: {what}", case.name));
+        if answer != case.answer {
+            return wrong(&format!("answer {answer:#x}, not {:#x}", case.answer));
+        }
+        let first = first.get_or_insert_with(|| buffers.clone());
+        if buffers.image != first.image {
+            return wrong("the images differ");
+        }
+        if buffers.steps != first.steps {
+            return wrong("the step buffers differ");
+        }
+    }
+    Ok(first == Some(fresh))
+}
+
+/// Times cases after their check: in each round, for each case in turn, all sides and
+/// a copy. What slows the machine for a while then falls on all of them.
 pub fn measure(cases: &[Case], effort: Effort) -> Result<Vec<Timing>, String> {
     let tracks: Result<Vec<Track>, String> = cases.iter().map(Track::new).collect();
     let mut tracks = tracks?;
@@ -77,8 +102,7 @@ struct Track<'a> {
     case: &'a Case,
     buffers: Buffers,
     batch: usize,
-    library: Vec<f64>,
-    second: Vec<f64>,
+    sides: Vec<Vec<f64>>,
     copy: Vec<f64>,
 }
 
@@ -91,40 +115,27 @@ impl<'a> Track<'a> {
             case,
             buffers,
             batch,
-            library: Vec::new(),
-            second: Vec::new(),
+            sides: vec![Vec::new(); NAMES.len()],
             copy: Vec::new(),
         })
     }
 
-    /// One call of each side; who goes first alternates, as the second is better off.
+    /// One call of each side. Who goes first takes turns, as the later ones are better off.
     fn round(&mut self) {
-        if self.copy.len() & 1 == 0 {
-            self.time_library();
-            self.time_second();
-        } else {
-            self.time_second();
-            self.time_library();
+        let calls = sides();
+        for turn in 0..calls.len() {
+            let side = (turn + self.copy.len()) % calls.len();
+            let time = timed(calls[side], self.case, &mut self.buffers, self.batch);
+            self.sides[side].push(time);
         }
         self.copy.push(timed_copy(self.case, &mut self.buffers));
     }
 
-    fn time_library(&mut self) {
-        let time = timed(library(), self.case, &mut self.buffers, self.batch);
-        self.library.push(time);
-    }
-
-    fn time_second(&mut self) {
-        let time = timed(second(), self.case, &mut self.buffers, self.batch);
-        self.second.push(time);
-    }
-
     fn timing(mut self) -> Timing {
         Timing {
-            library: median(&mut self.library),
-            second: median(&mut self.second),
-            copy: median(&mut self.copy),
-            rounds: self.library.len(),
+            rounds: self.copy.len(),
+            sides: self.sides.iter_mut().map(|times| spread(times)).collect(),
+            copy: spread(&mut self.copy),
         }
     }
 }
@@ -145,9 +156,9 @@ fn timed(calls: &dyn Calls, case: &Case, buffers: &mut Buffers, batch: usize) ->
 
 /// How many calls that write nothing make a timed part long enough.
 fn batch(case: &Case, buffers: &mut Buffers) -> usize {
-    let sides = [library(), second()];
-    let times = sides.map(|calls| timed(calls, case, buffers, LEAST_ROUNDS));
-    let least = times[0].min(times[1]).max(1.0);
+    let times = sides().into_iter();
+    let times = times.map(|calls| timed(calls, case, buffers, LEAST_ROUNDS));
+    let least = times.fold(BATCH_NS, f64::min).max(1.0);
     (BATCH_NS / least).ceil() as usize
 }
 
@@ -165,16 +176,43 @@ pub fn clock() -> f64 {
     let mut times: Vec<f64> = (0..1_001)
         .map(|_| Instant::now().elapsed().as_nanos() as f64)
         .collect();
-    median(&mut times)
+    spread(&mut times).median
 }
 
-/// The middle one, or the mean of the two in the middle.
-fn median(times: &mut [f64]) -> f64 {
+/// The worst one, and the middle one or the mean of the two in the middle.
+fn spread(times: &mut [f64]) -> Spread {
     times.sort_by(f64::total_cmp);
     let middle = times.len() / 2;
-    match times.len() {
+    let median = match times.len() {
         0 => f64::NAN,
         count if count % 2 == 1 => times[middle],
         _ => (times[middle - 1] + times[middle]) / 2.0,
+    };
+    let worst = times.last().copied().unwrap_or(f64::NAN);
+    Spread { median, worst }
+}
+
+#[cfg(test)]
+mod tests {
+    use super::{spread, Spread};
+
+    #[test]
+    fn the_median_and_the_worst() {
+        let odd = spread(&mut [9.0, 1.0, 4.0]);
+        assert_eq!(
+            odd,
+            Spread {
+                median: 4.0,
+                worst: 9.0
+            }
+        );
+        let even = spread(&mut [5.0, 8.0, 1.0, 4.0]);
+        assert_eq!(
+            even,
+            Spread {
+                median: 4.5,
+                worst: 8.0
+            }
+        );
     }
 }

@@ -1,7 +1,9 @@
-//! The benchmark: the cases, their time side by side, and the deepest stack.
+//! The benchmark: the cases, their time side by side, a table to compare with later, and
+//! the deepest stack.
 
 pub mod cases;
 pub mod measure;
 pub mod report;
+pub mod saved;
 pub mod sides;
 pub mod stack;

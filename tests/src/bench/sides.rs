@@ -1,8 +1,9 @@
-//! The two sides that are measured, and the buffers they share.
+//! The sides that are measured, and the buffers they share.
+
+use std::arch::asm;
 
 use crate::bench::cases::Case;
 use crate::boundary::{Calls, Reference};
-use std::hint::black_box;
 
 /// The name of the first side: without the library's deliver it is the second
 /// implementation once more.
@@ -17,6 +18,25 @@ static LIBRARY: crate::boundary::Library = crate::boundary::Library;
 #[cfg(not(feature = "link"))]
 static LIBRARY: Reference = Reference;
 static SECOND: Reference = Reference;
+#[cfg(feature = "earlier")]
+static EARLIER: crate::boundary::Earlier = crate::boundary::Earlier;
+
+/// The names of the sides, in the order of their times.
+pub const NAMES: &[&str] = if cfg!(feature = "earlier") {
+    &[FIRST, "second", "earlier"]
+} else {
+    &[FIRST, "second"]
+};
+
+/// The sides, called the same way so that none is inlined.
+pub fn sides() -> Vec<&'static dyn Calls> {
+    vec![
+        library(),
+        second(),
+        #[cfg(feature = "earlier")]
+        black_box(&EARLIER),
+    ]
+}
 
 /// What is run in a measurement. `Copy` makes no call: it is what both sides have in
 /// common, the refilling of the buffers.
@@ -38,7 +58,7 @@ impl Side {
         }
     }
 
-    /// The implementation, called the same way on both sides so that none is inlined.
+    /// The implementation.
     pub fn calls(self) -> Option<&'static dyn Calls> {
         match self {
             Side::Library => Some(library()),
@@ -56,6 +76,19 @@ pub fn library() -> &'static dyn Calls {
 /// The second implementation.
 pub fn second() -> &'static dyn Calls {
     black_box(&SECOND)
+}
+
+/// A value of which the compiler knows nothing any more. `std::hint` has it only in
+/// versions of Rust newer than the one that these tests are to be built with.
+#[allow(unsafe_code)]
+pub fn black_box<T>(value: T) -> T {
+    let mut value = value;
+    // Sound: it has no instruction. The compiler must take it that the value was read
+    // and written.
+    unsafe {
+        asm!("/* {} */", in(reg) std::ptr::addr_of_mut!(value), options(nostack, preserves_flags));
+    }
+    value
 }
 
 /// The image and the step buffer of a call, at the same addresses for both sides.

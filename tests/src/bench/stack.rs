@@ -15,17 +15,15 @@
 //! less than that cannot be seen.
 
 use std::fs::File;
-use std::hint::black_box;
 use std::io;
 use std::ops::Range;
 use std::os::unix::fs::FileExt;
-use std::ptr;
 use std::thread;
 
 use crate::bench::cases::{Case, Spec};
 use crate::bench::measure::check;
 use crate::bench::report::print_sides;
-use crate::bench::sides::{library, second, Buffers, FIRST};
+use crate::bench::sides::{black_box, library, second, Buffers, FIRST};
 use crate::boundary::Calls;
 
 /// The thread's stack, and how much of it is painted.
@@ -48,8 +46,9 @@ struct Depths {
     second: usize,
 }
 
-/// Prints the bytes of stack that empty and each case take on both sides.
-pub fn run(specs: Vec<Spec>) -> Result<(), String> {
+/// Prints the bytes of stack that empty and each case take on both sides. It is an error
+/// if the library takes more than a limit.
+pub fn run(specs: Vec<Spec>, most: Option<usize>) -> Result<(), String> {
     let worker = thread::Builder::new().stack_size(STACK);
     let worker = worker.spawn(move || measure(&specs));
     let ended = worker.map_err(|error| error.to_string())?.join();
@@ -64,7 +63,10 @@ pub fn run(specs: Vec<Spec>) -> Result<(), String> {
     let library = rows.iter().map(|row| row.library).max().unwrap_or(0);
     let second = rows.iter().map(|row| row.second).max().unwrap_or(0);
     println!("{:<22}{library:>12}{second:>12}", "deepest");
-    Ok(())
+    match most {
+        Some(most) if library > most => Err(format!("{library} bytes of stack, {most} allowed")),
+        _ => Ok(()),
+    }
 }
 
 /// The floor, and the depths of empty and of each case.
@@ -124,14 +126,19 @@ impl Probe {
         buffers: &mut Buffers,
         pattern: u8,
     ) -> io::Result<usize> {
+        // What is called must not become a part of this frame, which is not painted.
+        let calls = black_box(calls);
         let mark = 0_u8;
-        let top = ptr::from_ref(black_box(&mark)) as usize;
+        let top = black_box(&mark) as *const u8 as usize;
         let painted = paint(pattern);
         job.run(calls, buffers);
         self.memory
             .read_exact_at(&mut self.seen, painted.start as u64)?;
         match self.seen.iter().position(|byte| *byte != pattern) {
-            Some(0) => Err(io::Error::other("a call went below the painted stack")),
+            Some(0) => {
+                let what = "a call went below the painted stack";
+                Err(io::Error::new(io::ErrorKind::Other, what))
+            }
             Some(changed) => Ok(top - (painted.start + changed)),
             None => Ok(top - painted.end),
         }

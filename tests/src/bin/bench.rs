@@ -2,10 +2,12 @@
 //!
 //! Without options it prints the time of every case and the growth with the number of
 //! deltas; `--case NAME` keeps to one, `--rounds N` and `--seconds N` say how long.
-//! `--case NAME --calls N --of library|second|copy` makes N calls of a case and nothing
-//! else, for a tool that counts instructions. `--stack` prints the deepest stack, and
-//! `--list` the names of the cases. No time is ever judged; it ends with 1 only if the
-//! two sides differ or something cannot be measured.
+//! `--save FILE` writes the table down, and `--baseline FILE` holds this run against one
+//! that was saved. `--case NAME --calls N --of library|second|copy` makes N calls of a case
+//! and nothing else, for a tool that counts instructions. `--stack` prints the deepest
+//! stack, `--most BYTES` allows no more, and `--list` prints the names of the cases. No
+//! time is ever judged; it ends with 1 only if the sides differ, if something cannot be
+//! measured, or if the stack is deeper than allowed.
 
 #![deny(warnings)]
 
@@ -16,7 +18,7 @@ use std::time::Duration;
 use bivamolune_tests::bench::cases::{named, specs, Spec};
 use bivamolune_tests::bench::measure::Effort;
 use bivamolune_tests::bench::sides::{repeat, Side, FIRST};
-use bivamolune_tests::bench::{report, stack};
+use bivamolune_tests::bench::{report, saved, stack};
 
 /// What the command line asks for.
 struct Options {
@@ -25,25 +27,29 @@ struct Options {
     of: Option<Side>,
     rounds: usize,
     seconds: u64,
+    save: Option<String>,
+    baseline: Option<String>,
     stack: bool,
+    most: Option<usize>,
     list: bool,
 }
 
-const USAGE: &str = "usage: bench [--case NAME] [--rounds N] [--seconds N]
+const USAGE: &str =
+    "usage: bench [--case NAME] [--rounds N] [--seconds N] [--save FILE] [--baseline FILE]
        bench --case NAME --calls N --of library|second|copy
-       bench --stack [--case NAME]
+       bench --stack [--case NAME] [--most BYTES]
        bench --list";
 
 fn main() -> ExitCode {
-    let Some(options) = options() else {
-        eprintln!("{USAGE}");
-        return ExitCode::from(2);
-    };
-    match run(&options) {
-        Ok(()) => ExitCode::SUCCESS,
-        Err(what) => {
+    match options().map(|options| run(&options)) {
+        Some(Ok(())) => ExitCode::SUCCESS,
+        Some(Err(what)) => {
             eprintln!("{what}");
             ExitCode::FAILURE
+        }
+        None => {
+            eprintln!("{USAGE}");
+            ExitCode::from(2)
         }
     }
 }
@@ -56,7 +62,10 @@ fn options() -> Option<Options> {
         of: None,
         rounds: 301,
         seconds: 2,
+        save: None,
+        baseline: None,
         stack: false,
+        most: None,
         list: false,
     };
     let mut words = env::args().skip(1);
@@ -69,6 +78,9 @@ fn options() -> Option<Options> {
             "--calls" => options.calls = Some(words.next()?.parse().ok()?),
             "--rounds" => options.rounds = words.next()?.parse().ok()?,
             "--seconds" => options.seconds = words.next()?.parse().ok()?,
+            "--save" => options.save = Some(words.next()?),
+            "--baseline" => options.baseline = Some(words.next()?),
+            "--most" => options.most = Some(words.next()?.parse().ok()?),
             _ => return None,
         }
     }
@@ -88,13 +100,27 @@ fn run(options: &Options) -> Result<(), String> {
         return Ok(());
     }
     if options.stack {
-        return stack::run(specs);
+        return stack::run(specs, options.most);
     }
+    times(&specs, options)
+}
+
+/// Measures, saves, and compares with what was saved.
+fn times(specs: &[Spec], options: &Options) -> Result<(), String> {
     let effort = Effort {
         rounds: options.rounds.max(1),
         time: Duration::from_secs(options.seconds),
     };
-    report::run(&specs, effort)
+    let baseline = options.baseline.as_deref();
+    let then = baseline.map(|file| saved::read(file)).transpose()?;
+    let rows = report::run(specs, effort)?;
+    if let (Some(file), Some(then)) = (baseline, then) {
+        saved::print(&rows, &then, file);
+    }
+    match &options.save {
+        Some(file) => saved::save(&rows, file),
+        None => Ok(()),
+    }
 }
 
 /// Makes the calls, and says first which implementation answers them.

@@ -1,19 +1,25 @@
-//! Compares two implementations over seeds, for a number of deliveries or of minutes.
+//! Compares the library with the second implementation over seeds, for a number of
+//! deliveries or of minutes.
 //!
 //! `long_run --deliveries N` or `--minutes N`, with `--start SEED`; or `--seed SEED`
-//! to run one seed and print each of its calls. `--fault N` compares with the Nth
-//! deliberately wrong variant instead, to see that a difference is found.
+//! to run one seed and print each of its calls. `--fault N` compares the second
+//! implementation with its Nth deliberately wrong variant instead, to see that a
+//! difference is found. A build without the library compares nothing, and says so;
+//! with `--self` it compares the second implementation with itself, to see that the
+//! program runs.
 
 #![deny(warnings)]
 
+use std::cell::Cell;
 use std::env;
 use std::process::ExitCode;
 use std::time::{Duration, Instant};
 
-use bivamolune_tests::boundary::{Calls, Reference};
+use bivamolune_tests::boundary::{Calls, Reference, COMPARED};
 use bivamolune_tests::differential::{compare, report, trace};
 use bivamolune_tests::faulty::{Faulty, FAULTS};
 use bivamolune_tests::generate::case;
+use bivamolune_tests::reference::compose::Request;
 
 /// With a library feature, the library; else the second implementation once more.
 #[cfg(feature = "link")]
@@ -22,101 +28,165 @@ const OTHER: bivamolune_tests::boundary::Library = bivamolune_tests::boundary::L
 const OTHER: Reference = Reference;
 
 /// What the command line asks for.
+#[derive(Default)]
 struct Options {
     deliveries: Option<u64>,
     minutes: Option<u64>,
     start: u64,
     seed: Option<u64>,
     fault: Option<usize>,
+    itself: bool,
 }
 
 const USAGE: &str = "usage: long_run [--deliveries N] [--minutes N] [--start SEED] \
-                     [--seed SEED] [--fault N]";
+                     [--seed SEED] [--fault N] [--self]";
 
 fn main() -> ExitCode {
-    let Some(options) = options() else {
-        eprintln!("{USAGE}");
-        return ExitCode::from(2);
-    };
-    let faulty = options.fault.and_then(|fault| FAULTS.get(fault)).copied();
-    let faulty = faulty.map(Faulty);
-    let other: &dyn Calls = match &faulty {
-        Some(faulty) => faulty,
-        None => &OTHER,
-    };
-    match options.seed {
-        Some(seed) => one_seed(other, seed),
-        None => many_seeds(other, &options),
+    match options().and_then(|options| run(&options)) {
+        Ok(true) => ExitCode::SUCCESS,
+        Ok(false) => ExitCode::FAILURE,
+        Err(what) => {
+            eprintln!("{what}");
+            ExitCode::from(2)
+        }
     }
 }
 
-/// The options, or nothing where they cannot be read.
-fn options() -> Option<Options> {
-    let mut options = Options {
-        deliveries: None,
-        minutes: None,
-        start: 0,
-        seed: None,
-        fault: None,
-    };
+/// The options, or what is wrong with them.
+fn options() -> Result<Options, String> {
+    let mut options = Options::default();
     let mut words = env::args().skip(1);
     while let Some(word) = words.next() {
-        let number = words.next()?.parse().ok()?;
+        if word == "--self" {
+            options.itself = true;
+            continue;
+        }
+        let number = words.next().and_then(|word| word.parse().ok());
+        let number = number.ok_or(USAGE)?;
         match word.as_str() {
             "--deliveries" => options.deliveries = Some(number),
             "--minutes" => options.minutes = Some(number),
             "--start" => options.start = number,
             "--seed" => options.seed = Some(number),
             "--fault" => options.fault = Some(number as usize),
-            _ => return None,
+            _ => return Err(USAGE.to_string()),
         }
     }
-    Some(options)
+    Ok(options)
+}
+
+/// Whether the two agree; or why there is nothing to compare.
+fn run(options: &Options) -> Result<bool, String> {
+    let last = FAULTS.len() - 1;
+    let faulty = match options.fault {
+        Some(fault) if fault > last => return Err(format!("no fault {fault}: 0 to {last}")),
+        fault => fault.map(|fault| Faulty(FAULTS[fault])),
+    };
+    let other: &dyn Calls = match &faulty {
+        Some(faulty) => faulty,
+        None if options.itself => &Reference,
+        None if COMPARED.is_empty() => {
+            return Err(
+                "no library: build with --features library, or give --self to compare \
+                        the second implementation with itself"
+                    .to_string(),
+            )
+        }
+        None => &OTHER,
+    };
+    let what = match &faulty {
+        Some(faulty) => format!("second implementation and its variant {:?}", faulty.0),
+        None if options.itself => "second implementation and itself, nothing else".to_string(),
+        None => format!(
+            "second implementation and library, by {}",
+            COMPARED.join(", ")
+        ),
+    };
+    eprintln!("Compared: {what}");
+    Ok(match options.seed {
+        Some(seed) => one_seed(other, seed),
+        None => many_seeds(&Counted::new(other), options, &what),
+    })
 }
 
 /// Prints each call of a seed with its answers.
-fn one_seed(other: &dyn Calls, seed: u64) -> ExitCode {
+fn one_seed(other: &dyn Calls, seed: u64) -> bool {
     let calls = case(seed);
     print!("{}", trace(&Reference, other, &calls));
-    match compare(&Reference, other, &calls) {
-        None => {
-            println!("seed {seed}: {} calls, no difference", calls.len());
-            ExitCode::SUCCESS
-        }
-        Some(_) => {
-            print!("{}", report(&Reference, other, seed, &calls));
-            ExitCode::FAILURE
-        }
+    let agree = compare(&Reference, other, &calls).is_none();
+    if agree {
+        println!("seed {seed}: {} calls, no difference", calls.len());
+    } else {
+        print!("{}", report(&Reference, other, seed, &calls));
     }
+    agree
 }
 
 /// Runs seed after seed up to the limit; without one, for 100,000 deliveries.
-fn many_seeds(other: &dyn Calls, options: &Options) -> ExitCode {
+fn many_seeds(other: &Counted, options: &Options, what: &str) -> bool {
     let begin = Instant::now();
-    let time = options
-        .minutes
-        .map(|minutes| Duration::from_secs(60 * minutes));
-    let most = match (options.deliveries, time) {
+    let minutes = options.minutes;
+    let time = minutes.map_or(Duration::MAX, |minutes| Duration::from_secs(60 * minutes));
+    let most = match (options.deliveries, minutes) {
         (Some(deliveries), _) => deliveries,
         (None, Some(_)) => u64::MAX,
         (None, None) => 100_000,
     };
-    let (mut cases, mut all_calls, mut deliveries) = (0_u64, 0_u64, 0_u64);
-    while deliveries < most && time.is_none_or(|time| begin.elapsed() < time) {
+    let (mut cases, mut all_calls) = (0_u64, 0_u64);
+    while other.deliver.get() < most && begin.elapsed() < time {
         let seed = options.start.wrapping_add(cases);
         let calls = case(seed);
         if compare(&Reference, other, &calls).is_some() {
             print!("{}", report(&Reference, other, seed, &calls));
-            return ExitCode::FAILURE;
+            return false;
         }
         cases += 1;
         all_calls += calls.len() as u64;
-        deliveries += calls.iter().filter(|c| c.action.delivers()).count() as u64;
     }
     println!(
-        "no difference: {cases} cases from seed {}, {all_calls} calls, {deliveries} deliveries, {} s",
+        "no difference: {cases} cases from seed {}, {all_calls} calls, {} deliveries, {} empties, \
+         {} composes, {} s; compared: {what}",
         options.start,
+        other.deliver.get(),
+        other.empty.get(),
+        other.compose.get(),
         begin.elapsed().as_secs()
     );
-    ExitCode::SUCCESS
+    true
+}
+
+/// An implementation, and how often each of its calls was made.
+struct Counted<'a> {
+    calls: &'a dyn Calls,
+    empty: Cell<u64>,
+    deliver: Cell<u64>,
+    compose: Cell<u64>,
+}
+
+impl Counted<'_> {
+    fn new(calls: &dyn Calls) -> Counted<'_> {
+        Counted {
+            calls,
+            empty: Cell::new(0),
+            deliver: Cell::new(0),
+            compose: Cell::new(0),
+        }
+    }
+}
+
+impl Calls for Counted<'_> {
+    fn empty(&self, image: &mut [u8]) -> u32 {
+        self.empty.set(self.empty.get() + 1);
+        self.calls.empty(image)
+    }
+
+    fn deliver(&self, image: &mut [u8], message: &[u8], steps: &mut [u8]) -> u32 {
+        self.deliver.set(self.deliver.get() + 1);
+        self.calls.deliver(image, message, steps)
+    }
+
+    fn compose(&self, image: &[u8], request: &Request, message: &mut [u8]) -> u32 {
+        self.compose.set(self.compose.get() + 1);
+        self.calls.compose(image, request, message)
+    }
 }

@@ -45,7 +45,7 @@ pub fn compose(image: &[u8], request: &Request, message: &mut [u8]) -> Result<us
 /// Code 3 for the size of the commands, 6 for flag, priority and commands.
 fn check_request(request: &Request) -> Result<(), Code> {
     let size = request.commands.len();
-    if size == 0 || size > COMMAND * COMMANDS || !size.is_multiple_of(COMMAND) {
+    if size == 0 || size > COMMAND * COMMANDS || size % COMMAND != 0 {
         return Err(Code::Layout);
     }
     let priority_is_right = match request.priority_flag {
@@ -102,14 +102,11 @@ fn next_number(order: &Order, own: &Line) -> Result<u16, Code> {
 /// 1 on an empty log; the highest plus one if the last delta's sequence is above
 /// the new one; else the highest.
 fn next_group(order: &Order, new: &Sequence) -> Result<u32, Code> {
-    let Some(last) = order.log.last() else {
-        return Ok(1);
-    };
-    let highest = order.log.iter().map(|p| p.delta.group()).max().unwrap_or(0);
-    if last.delta.sequence() > *new {
-        below_limit(highest)
-    } else {
-        Ok(highest)
+    let highest = order.log.iter().map(|p| p.delta.group()).max();
+    match (order.log.last(), highest) {
+        (Some(last), Some(highest)) if last.delta.sequence() > *new => below_limit(highest),
+        (Some(_), Some(highest)) => Ok(highest),
+        _ => Ok(1),
     }
 }
 

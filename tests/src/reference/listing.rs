@@ -20,12 +20,16 @@ pub fn listing(input: &[u8]) -> String {
         if rest.is_empty() {
             break;
         }
-        let Some((message, after)) = cut(rest) else {
-            printed += &line(number, Err(Code::Layout));
-            break;
-        };
-        printed += &line(number, deliver(&mut image, message, &mut buffer));
-        rest = after;
+        match cut(rest) {
+            Some((message, after)) => {
+                printed += &line(number, deliver(&mut image, message, &mut buffer));
+                rest = after;
+            }
+            None => {
+                printed += &line(number, Err(Code::Layout));
+                break;
+            }
+        }
     }
     let (log, held) = (u16_at(&image, 0), u16_at(&image, 2));
     printed + &format!("log {log} held {held}\n")

@@ -75,7 +75,7 @@ pub fn order<'a>(set: &Set<'a>) -> Order<'a> {
             make_ready(&mut ready, &blocks, *delta);
         }
     }
-    while let Some((_, placed)) = ready.pop_first() {
+    while let Some(placed) = take_first(&mut ready) {
         let sequence = placed.delta.sequence();
         blocks.insert(sequence, placed.effective_block);
         log.push(placed);
@@ -94,6 +94,12 @@ pub fn order<'a>(set: &Set<'a>) -> Order<'a> {
         .copied()
         .collect();
     Order { log, held }
+}
+
+/// Takes out the delta of lowest key.
+fn take_first<'a>(ready: &mut BTreeMap<Key, Placed<'a>>) -> Option<Placed<'a>> {
+    let first = *ready.keys().next()?;
+    ready.remove(&first)
 }
 
 /// For each needed sequence, the deltas of the set that need it.

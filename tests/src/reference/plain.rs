@@ -22,7 +22,7 @@ impl PlainStation {
         }
         let sequence = Delta::check(message)?.sequence();
         let present = self.messages.get(&sequence);
-        if present.is_some_and(|bytes| bytes != message) {
+        if present.map_or(false, |bytes| bytes != message) {
             return Err(Code::Conflict);
         }
         if self.messages.len() == image::CAPACITY && present.is_none() {

@@ -5,6 +5,7 @@
 
 use bivamolune_tests::boundary::{code, executions, length, undos, Calls};
 use bivamolune_tests::reference::compose::Request;
+pub use bivamolune_tests::view::{messages, u16_at, u32_at};
 use bivamolune_tests::wire::{add, line, set, Draft, Line};
 
 pub const A: u8 = 0x0A;
@@ -47,30 +48,6 @@ pub fn name(sequence: &[u8]) -> String {
         letter @ 0x0A..=0x0F => format!("{letter:X}{number}"),
         other => format!("{other:02X}.{number}"),
     }
-}
-
-/// The two-byte number at an offset.
-pub fn u16_at(bytes: &[u8], at: usize) -> usize {
-    usize::from(bytes[at]) * 256 + usize::from(bytes[at + 1])
-}
-
-/// The four-byte number at an offset.
-pub fn u32_at(bytes: &[u8], at: usize) -> u32 {
-    bytes[at..at + 4]
-        .iter()
-        .fold(0, |n, b| n * 256 + u32::from(*b))
-}
-
-/// The messages of an image: `skip` are left out, `take` are given.
-pub fn messages(image: &[u8], skip: usize, take: usize) -> Vec<Vec<u8>> {
-    let mut at = 272;
-    let mut all = Vec::new();
-    for _ in 0..skip + take {
-        let length = u16_at(image, at + 4);
-        all.push(image[at..at + length].to_vec());
-        at += length;
-    }
-    all.split_off(skip)
 }
 
 /// Names of messages, with blanks between.
@@ -117,11 +94,14 @@ impl Station {
         self.deliver_into(message, STEPS)
     }
 
-    /// Delivers; bytes past the steps must be unchanged, and all bytes on a refusal.
+    /// Delivers; the message and the bytes past the steps must be unchanged, and all
+    /// bytes on a refusal.
     pub fn deliver_into(&mut self, message: &[u8], size: usize) -> (u32, String) {
         let mut steps = vec![PATTERN; size];
         let before = self.image.clone();
-        let answer = SUBJECT.deliver(&mut self.image, message, &mut steps);
+        let copy = message.to_vec();
+        let answer = SUBJECT.deliver(&mut self.image, &copy, &mut steps);
+        assert_eq!(copy, message, "the message was written");
         let (undone, executed) = (undos(answer), executions(answer));
         if code(answer) != 0 {
             assert_eq!((undone, executed), (0, 0), "counts of a refusal");
@@ -137,10 +117,21 @@ impl Station {
         self.compose_into(request, MESSAGE)
     }
 
-    /// Composes; bytes past the message must be unchanged, and all on a refusal.
+    /// Composes; what is only read and the bytes past the message must be unchanged, and
+    /// all bytes on a refusal.
     pub fn compose_into(&self, request: &Request, size: usize) -> (u32, Vec<u8>) {
         let mut message = vec![PATTERN; size];
-        let answer = SUBJECT.compose(&self.image, request, &mut message);
+        let image = self.image.clone();
+        let (line, commands) = (request.line.to_vec(), request.commands.to_vec());
+        let copies = Request {
+            line: &line,
+            commands: &commands,
+            ..*request
+        };
+        let answer = SUBJECT.compose(&image, &copies, &mut message);
+        assert!(image == self.image, "the image was written");
+        assert_eq!(line, request.line, "the line was written");
+        assert_eq!(commands, request.commands, "the commands were written");
         let written = length(answer);
         assert_eq!(written == 0, code(answer) != 0, "length beside the code");
         assert!(message[written..].iter().all(|byte| *byte == PATTERN));

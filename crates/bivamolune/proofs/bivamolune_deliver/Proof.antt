@@ -1,31 +1,33 @@
+-- The number that is answered is that of what deliver answered, whose counts are small.
 use Rattle.bivamolune.specs.AnswerLaws.{small, delivers}
 use borrow.Author.Needs.{needs}
 use Rattle.bivamolune.proofs.bivamolune_deliver.Statement.{statement}
 use Rattle.bivamolune.proofs.bivamolune_deliver.Tie as tie
-use Rattle.bivamolune.proofs.bivamolune_deliver.Reads as reads
-use Rattle.bivamolune.proofs.bivamolune_deliver.Lts as lts
-use Rattle.bivamolune.proofs.pack.Reads as pack-reads
-use Rattle.station.proofs.delivery.deliver.Reads as deliver-reads
 
--- src/lib.rt:52:9
+-- where the call began, from where it is delivered; and that from where the answer is packed
+abbrev began : tie.After-deliver → tie.Start
+began c = c .before .before .before .before .before .before
+
 deliver-requires : tie.Need-deliver-requires
 deliver-requires c κs = search needs
 
--- src/lib.rt:53:5
 pack-requires : tie.Need-pack-requires
-pack-requires c κs = small (c .before .before .before .before .before .before .before .before .before .before .args .image .now) (c .before .before .before .before .before .before .before .before .before .before .args .message .now) (c .before .before .before .before .before .before .before .before .before .before .args .steps .now) (c .before .before .before .before .deliver .result) _ _ (c .before .before .before .before .deliver .ensures)
+pack-requires c κs =
+    let d = c .before .before .before .before in
+    let a = began d .args in
+    small (a .image .now) (a .message .now) (a .steps .now) (d .deliver .result) _ _ (d .deliver .ensures)
 
--- src/lib.rt:48:1
 same-length : tie.Need-same-length
 same-length c = search needs
 
--- src/lib.rt:48:1
 same-length-2 : tie.Need-same-length-2
 same-length-2 c = search needs
 
--- src/lib.rt:48:1
 returns : tie.Need-returns
-returns c = delivers (c .before .before .before .before .before .before .before .before .before .before .before .args .image .now) (c .before .before .before .before .before .before .before .before .before .before .before .args .message .now) (c .before .before .before .before .before .before .before .before .before .before .before .args .steps .now) (c .before .before .before .before .before .deliver .result) (c .pack .result) _ _ (c .before .before .before .before .before .deliver .ensures) (c .pack .ensures)
+returns c =
+    let d = c .before .before .before .before .before in
+    let a = began d .args in
+    delivers (a .image .now) (a .message .now) (a .steps .now) (d .deliver .result) (c .pack .result) _ _ (d .deliver .ensures) (c .pack .ensures)
 
 pub bivamolune-deliver-spec : {M : Type 1} → statement M
 bivamolune-deliver-spec =

@@ -1,3 +1,4 @@
+-- One byte is the number of one byte.
 use native.Mathlib.Omega.{arith}
 use mathlib.Core.Path.{sym}
 use Rattle.buffer.specs.FieldLaws.{field-byte}

@@ -1,3 +1,4 @@
+-- A number of two bytes is split after the first.
 use native.Mathlib.Omega.{arith}
 use Rattle.buffer.specs.FieldLaws.{field-split}
 use borrow.Author.Needs.{needs}

@@ -1,3 +1,4 @@
+-- Two bytes set one by one are the two digits of the number.
 use native.Mathlib.Omega.{arith}
 use mathlib.Core.Path.{_≡_}
 use Prim.Native.Nat.{suc, _+_, _/_, _%_}

@@ -1,3 +1,4 @@
+-- The two halves, put one behind the other, are the four digits of the number.
 use native.Mathlib.Omega.{arith}
 use mathlib.Core.Path.{ap, _∙_}
 use mathlib.Core.List.{List}

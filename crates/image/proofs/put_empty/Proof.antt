@@ -1,6 +1,6 @@
 -- An empty table, in an empty pool, has an empty log.
 use borrow.Author.Needs.{needs}
-use Rattle.image.specs.PlaceLaws.{empty-listed}
+use Rattle.image.specs.LogPlaceLaws.{empty-log}
 use Rattle.image.proofs.put_empty.Statement.{statement}
 use Rattle.image.proofs.put_empty.Tie as tie
 
@@ -32,7 +32,7 @@ part-write-image-end-3 : tie.Need-part-write-image-end-3
 part-write-image-end-3 c = search needs
 
 write-image-requires : tie.Need-write-image-requires
-write-image-requires c κs = record { size = search needs; listed = empty-listed }
+write-image-requires c κs = record { size = search needs; logged = empty-log }
 
 same-length : tie.Need-same-length
 same-length c = search needs

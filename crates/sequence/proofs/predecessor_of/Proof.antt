@@ -1,3 +1,4 @@
+-- Above number 0001 one less is borrowed within the number, so the low part alone changes; 0001 and 0000 have none.
 use native.Mathlib.Omega.{arith}
 use mathlib.Core.Path.{_≡_, sym, _∙_, ap}
 use mathlib.Core.Bool.{Bool, cond}
@@ -10,12 +11,15 @@ use borrow.Author.Needs.{needs}
 use Rattle.sequence.proofs.predecessor_of.Statement.{statement}
 use Rattle.sequence.proofs.predecessor_of.Tie as tie
 
+abbrev start : tie.After-number-of → tie.Start
+start c = c .before
+
 number-of-requires : tie.Need-number-of-requires
 number-of-requires c κs = search needs
 
 returns : tie.Need-returns
 returns c =
-    let s = sequenceNumber (c .before .before .args .s) in
+    let s = sequenceNumber (start (c .before) .args .s) in
     sym (ap (λ (t : Bool). cond t ((s - 1) ∷ []) []) (le-ltb 1 (numberOf s) (omega arith)))
 
 sub-low : tie.Need-sub-low
@@ -23,7 +27,7 @@ sub-low c = search needs
 
 returns-2 : tie.Need-returns-2
 returns-2 c =
-    let a = c .before .before .before .args in
+    let a = start (c .before .before) .args in
     let s = sequenceNumber (a .s) in
     let less : sequenceNumber (record { high = a .s .high; low = a .s .low - 1 }) ≡ s - 1 = omega arith in
     ap (λ (n : ℕ). n ∷ []) less ∙ sym (ap (λ (t : Bool). cond t ((s - 1) ∷ []) []) (lt-ltb 1 (numberOf s) (omega arith)))

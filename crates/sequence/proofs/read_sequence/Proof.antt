@@ -1,3 +1,4 @@
+-- The number of twelve bytes is that of the first eight, above that of the last four.
 use native.Mathlib.Omega.{arith}
 use Rattle.buffer.specs.FieldLaws.{field-split}
 use borrow.Author.Needs.{needs}

@@ -13,18 +13,21 @@ use Rattle.setpoints.specs.CommandLaws.{run-end}
 use Rattle.setpoints.proofs.run_delta.Statement.{statement}
 use Rattle.setpoints.proofs.run_delta.Tie as tie
 
+abbrev start : tie.After-shared-slice-known → tie.Start
+start known = known .before
+
 returns : tie.Need-returns
 returns c =
-    let s = c .before .before .args in
-    run-end (s .m .now) (commandsStart (s .dependencies)) (s .values) (omega arith)
+    let a = start (c .before) .args in
+    run-end (a .m .now) (commandsStart (a .dependencies)) (a .values) (omega arith)
 
 sub-if2 : tie.Need-sub-if2
 sub-if2 c = search needs
 
 returns-2 : tie.Need-returns-2
 returns-2 c =
-    let s = c .before .before .before .args in
-    run-end (s .m .now) (commandsStart (s .dependencies)) (s .values) (omega arith)
+    let a = start (c .before .before) .args in
+    run-end (a .m .now) (commandsStart (a .dependencies)) (a .values) (omega arith)
 
 mul-from : tie.Need-mul-from
 mul-from c = search needs
@@ -46,10 +49,10 @@ run-commands-requires c κs = search needs
 
 returns-3 : tie.Need-returns-3
 returns-3 c =
-    let s = c .before .before .before .before .before .args in
-    let start = commandsStart (s .dependencies) in
+    let a = start (c .before .before .before .before) .args in
+    let from = commandsStart (a .dependencies) in
     c .run-commands .ensures
-    ∙ ap (λ (l : List ℕ). runCommands (commandsIn l) (s .values)) (take-all (length (s .m .now) - start) (drop start (s .m .now)) (omega (arith, length-drop start (s .m .now))))
+    ∙ ap (λ (l : List ℕ). runCommands (commandsIn l) (a .values)) (take-all (length (a .m .now) - from) (drop from (a .m .now)) (omega (arith, length-drop from (a .m .now))))
 
 pub run-delta-spec : {M : Type 1} → statement M
 run-delta-spec =

@@ -8,10 +8,11 @@ use borrow.Author.Needs.{needs}
 use Rattle.model.specs.Layout.{stepSize}
 use Rattle.model.specs.Steps.{execute}
 use Rattle.sequence.specs.Sequence.{sequenceNumber}
-use Rattle.steps.specs.Names.{namesOf}
-use Rattle.steps.specs.NameLaws.{length-names, names-at}
+use Rattle.table.specs.PlaceLaws.{below-at}
+use Rattle.steps.specs.LogNames.{namesOf}
+use Rattle.steps.specs.LogNameLaws.{length-names, names-at}
 use Rattle.steps.specs.Room.{stepsAt}
-use Rattle.steps.specs.StepLaws.{put-none, execute-next}
+use Rattle.steps.specs.StepRecordLaws.{put-none, execute-next}
 use Rattle.steps.proofs.put_executions.Statement.{statement}
 use Rattle.steps.proofs.put_executions.Tie as tie
 
@@ -25,20 +26,28 @@ Inv-loop steps₀ at pool starts new kept to₀ i₀ steps to i =
 abbrev μ-loop : tie.MeasureT-loop
 μ-loop steps₀ at pool starts new kept to₀ i₀ steps to i = length new - i
 
+-- the call as it began
+abbrev start : tie.At-loop Inv-loop μ-loop → tie.Start Inv-loop μ-loop
+start h = h .before .before .before .before .before
+
+-- the head of the loop, from where the place was read
+abbrev turn : tie.After-shared-slice-known4 Inv-loop μ-loop → tie.At-loop Inv-loop μ-loop
+turn r = r .before .before
+
 loop-holds : tie.Need-loop-holds Inv-loop μ-loop
 loop-holds c = (search needs, (search needs, (refl, refl)))
-
-mul-sequence-at : tie.Need-mul-sequence-at Inv-loop μ-loop
-mul-sequence-at c = omega arith
 
 shared-slice-read-sequence-at : tie.Need-shared-slice-read-sequence-at Inv-loop μ-loop
 shared-slice-read-sequence-at c = omega arith
 
+cast-sequence-at : tie.Need-cast-sequence-at Inv-loop μ-loop
+cast-sequence-at c = omega (arith, c .shared-slice-known4 .given (turn c .loop .i))
+
 sequence-at-requires : tie.Need-sequence-at-requires Inv-loop μ-loop
 sequence-at-requires c κs =
-    let l = c .before .before .loop in
-    let s = c .before .before .before .before .before .before .before in
-    (s .pre .holds, s .pre .places (l .i) (omega arith))
+    let l = turn c .loop in
+    let s = start (turn c) in
+    (s .pre .holds, below-at (length (s .args .starts .now)) (s .args .new .now) (s .pre .places) (l .i) (omega arith))
 
 put-step-requires : tie.Need-put-step-requires Inv-loop μ-loop
 put-step-requires c κs = omega arith
@@ -56,9 +65,9 @@ loop-again : tie.Need-loop-again Inv-loop μ-loop
 loop-again c =
     let put = c .before .before in
     let read = put .before .before in
-    let l = read .before .before .before .loop in
-    let s = read .before .before .before .before .before .before .before .before in
-    let a = s .args in
+    let h = turn (read .before) in
+    let l = h .loop in
+    let a = start h .args in
     let names : List ℕ = namesOf (a .pool .now) (a .starts .now) (a .new .now) in
     let size : length names ≡ length (a .new .now) = length-names (a .pool .now) (a .starts .now) (a .new .now) in
     let n : ℕ = sequenceNumber (read .sequence-at .result) in
@@ -81,8 +90,9 @@ same-length c = c .before .loop .inv .1 .1 .1
 
 returns : tie.Need-returns Inv-loop μ-loop
 returns c =
-    let a = c .before .before .before .before .before .before .args in
-    let l = c .before .loop in
+    let h = c .before in
+    let a = start h .args in
+    let l = h .loop in
     let names : List ℕ = namesOf (a .pool .now) (a .starts .now) (a .new .now) in
     let size : length names ≡ length (a .new .now) = length-names (a .pool .now) (a .starts .now) (a .new .now) in
     let none : drop (l .i) names ≡ [] = drop-of-length-le names {i = l .i} (omega arith) in
@@ -95,8 +105,8 @@ put-executions-spec =
     Inv-loop
     μ-loop
     loop-holds
-    mul-sequence-at
     shared-slice-read-sequence-at
+    cast-sequence-at
     sequence-at-requires
     put-step-requires
     add-to

@@ -9,10 +9,11 @@ use borrow.Author.Needs.{needs}
 use Rattle.model.specs.Layout.{stepSize}
 use Rattle.model.specs.Steps.{undo, stepBytes}
 use Rattle.sequence.specs.Sequence.{sequenceNumber}
-use Rattle.steps.specs.Names.{namesOf}
-use Rattle.steps.specs.NameLaws.{length-names, names-at}
+use Rattle.table.specs.PlaceLaws.{below-at}
+use Rattle.steps.specs.LogNames.{namesOf}
+use Rattle.steps.specs.LogNameLaws.{length-names, names-at}
 use Rattle.steps.specs.Room.{stepsAt}
-use Rattle.steps.specs.StepLaws.{put-none, undo-next}
+use Rattle.steps.specs.StepRecordLaws.{put-none, undo-next}
 use Rattle.steps.proofs.put_undos.Statement.{statement}
 use Rattle.steps.proofs.put_undos.Tie as tie
 
@@ -25,6 +26,14 @@ Inv-loop steps₀ at pool starts old kept to₀ i₀ steps to i =
 
 abbrev μ-loop : tie.MeasureT-loop
 μ-loop steps₀ at pool starts old kept to₀ i₀ steps to i = i
+
+-- the call as it began
+abbrev start : tie.At-loop Inv-loop μ-loop → tie.Start Inv-loop μ-loop
+start h = h .before .before .before .before .before
+
+-- the head of the loop, from where the place was read
+abbrev turn : tie.After-shared-slice-known4 Inv-loop μ-loop → tie.At-loop Inv-loop μ-loop
+turn r = r .before .before
 
 loop-holds : tie.Need-loop-holds Inv-loop μ-loop
 loop-holds c =
@@ -48,17 +57,17 @@ loop-holds c =
 sub-i : tie.Need-sub-i Inv-loop μ-loop
 sub-i c = omega arith
 
-mul-sequence-at : tie.Need-mul-sequence-at Inv-loop μ-loop
-mul-sequence-at c = omega arith
-
 shared-slice-read-sequence-at : tie.Need-shared-slice-read-sequence-at Inv-loop μ-loop
 shared-slice-read-sequence-at c = omega arith
 
+cast-sequence-at : tie.Need-cast-sequence-at Inv-loop μ-loop
+cast-sequence-at c = omega (arith, c .shared-slice-known4 .given (turn c .loop .i - 1))
+
 sequence-at-requires : tie.Need-sequence-at-requires Inv-loop μ-loop
 sequence-at-requires c κs =
-    let l = c .before .before .loop in
-    let s = c .before .before .before .before .before .before .before in
-    (s .pre .holds, s .pre .places (l .i - 1) (omega arith))
+    let l = turn c .loop in
+    let s = start (turn c) in
+    (s .pre .holds, below-at (length (s .args .starts .now)) (s .args .old .now) (s .pre .places) (l .i - 1) (omega arith))
 
 put-step-requires : tie.Need-put-step-requires Inv-loop μ-loop
 put-step-requires c κs = omega arith
@@ -73,9 +82,9 @@ loop-again : tie.Need-loop-again Inv-loop μ-loop
 loop-again c =
     let put = c .before .before in
     let read = put .before .before in
-    let l = read .before .before .before .loop in
-    let s = read .before .before .before .before .before .before .before .before in
-    let a = s .args in
+    let h = turn (read .before) in
+    let l = h .loop in
+    let a = start h .args in
     let names : List ℕ = namesOf (a .pool .now) (a .starts .now) (a .old .now) in
     let size : length names ≡ length (a .old .now) = length-names (a .pool .now) (a .starts .now) (a .old .now) in
     let n : ℕ = sequenceNumber (read .sequence-at .result) in
@@ -101,8 +110,9 @@ same-length c = c .before .loop .inv .1 .1 .1 .1
 
 returns : tie.Need-returns Inv-loop μ-loop
 returns c =
-    let a = c .before .before .before .before .before .before .args in
-    let l = c .before .loop in
+    let h = c .before in
+    let a = start h .args in
+    let l = h .loop in
     let e : l .i ≡ a .kept = omega arith in
     l .inv .1 .1 .1 .0
     ∙ ap (λ (k : ℕ). stepsAt (a .steps .now) (a .at) (map undo (reverse (drop k (namesOf (a .pool .now) (a .starts .now) (a .old .now)))))) e
@@ -115,8 +125,8 @@ put-undos-spec =
     μ-loop
     loop-holds
     sub-i
-    mul-sequence-at
     shared-slice-read-sequence-at
+    cast-sequence-at
     sequence-at-requires
     put-step-requires
     add-to

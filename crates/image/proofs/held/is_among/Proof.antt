@@ -7,7 +7,7 @@ use native.Mathlib.Omega.{arith}
 use borrow.Author.Needs.{needs}
 use borrow.Author.Tests.{eq-eqb, ne-eqb}
 use Rattle.model.specs.Lists.{has}
-use Rattle.message.specs.ListLaws.{has-step, has-end}
+use Rattle.order.specs.ScanLaws.{has-step, has-end}
 use Rattle.image.proofs.held.is_among.Statement.{statement}
 use Rattle.image.proofs.held.is_among.Tie as tie
 
@@ -19,9 +19,6 @@ abbrev μ-loop : tie.MeasureT-loop
 
 loop-holds : tie.Need-loop-holds Inv-loop μ-loop
 loop-holds c = (search needs, refl)
-
-mul-if1 : tie.Need-mul-if1 Inv-loop μ-loop
-mul-if1 c = search needs
 
 shared-slice-read-if1 : tie.Need-shared-slice-read-if1 Inv-loop μ-loop
 shared-slice-read-if1 c = omega arith
@@ -61,7 +58,6 @@ is-among-spec =
     Inv-loop
     μ-loop
     loop-holds
-    mul-if1
     shared-slice-read-if1
     returns
     add-k

@@ -1,71 +1,82 @@
--- The invariant: the messages from k on, written from `to` on, make what all of them make of the buffer at entry.
-use mathlib.Core.Path.{_≡_, refl, sym, _∙_, ap, ap₂}
-use mathlib.Core.List.{List, []}
-use Prim.Native.Nat.{ℕ, _+_, _-_, _≤_, _<_}
+-- The invariant: the messages from k on, pasted from `to` on, make what all of them make of the buffer at entry.
+use mathlib.Core.Path.{_≡_, refl, sym, _∙_, ap}
+use mathlib.Core.List.{List, [], _∷_}
+use Prim.Native.Nat.{ℕ, _+_, _-_, _≤_}
 use native.Mathlib.Omega.{arith}
-use lib.ListN.{length, drop, getD}
+use lib.ListN.{length, drop, length-append}
 use lib.Seq.{paste-zero}
+use denote.Ref.{now}
 use borrow.Author.Needs.{needs}
 use Rattle.model.specs.Bytes.{join}
 use Rattle.model.specs.Message.{Message}
-use Rattle.table.specs.Table.{messageFrom}
-use Rattle.image.specs.Places.{messagesAt}
-use Rattle.image.specs.PlaceLaws.{next-place, next-message, next-length, next-passes, no-message}
-use Rattle.image.specs.Pieces.{written}
-use Rattle.image.specs.PieceLaws.{written-written}
+use Rattle.table.specs.Table.{deltasOf, deltasAt}
+use Rattle.image.specs.LogPlaceLaws.{place-inside, next-message, no-message}
+use Rattle.image.specs.Pieces.{pasted}
+use Rattle.image.specs.PieceLaws.{pasted-pasted}
 use Rattle.image.proofs.messages.copy_messages.Statement.{statement}
 use Rattle.image.proofs.messages.copy_messages.Tie as tie
 
 abbrev Inv-loop : tie.InvT-loop
 Inv-loop out₀ pool starts places at to₀ k₀ out to k =
+    let all = deltasOf pool starts in
     (k ≤ length places)
-    × ((to + length (join (messagesAt pool starts (drop k places))) ≡ at + length (join (messagesAt pool starts places)))
-    × ((written out to (join (messagesAt pool starts (drop k places))) ≡ written out₀ at (join (messagesAt pool starts places)))
+    × ((to + length (join (deltasAt all (drop k places))) ≡ at + length (join (deltasAt all places)))
+    × ((pasted out to (join (deltasAt all (drop k places))) ≡ pasted out₀ at (join (deltasAt all places)))
     × (length out ≡ length out₀)))
 
 abbrev μ-loop : tie.MeasureT-loop
 μ-loop out₀ pool starts places at to₀ k₀ out to k = length places - k
 
--- the place at k is one of the table's
-inside : (l : tie.At-loop Inv-loop μ-loop) → l .loop .k < length (l .before .before .before .before .before .args .places .now)
-    → getD (l .before .before .before .before .before .args .places .now) (l .loop .k) 0 < length (l .before .before .before .before .before .args .starts .now)
-inside l h =
-    let s = l .before .before .before .before .before in
-    next-place (s .args .pool .now) (s .args .starts .now) (s .args .places .now) (s .pre .0) (l .loop .k) h
+-- the call as it began, from the head of the loop; and the head of the loop, from where the message is known
+abbrev start : tie.At-loop Inv-loop μ-loop → tie.Start Inv-loop μ-loop
+start l = l .before .before .before .before .before
 
--- and there is room for its message
-room : (l : tie.At-loop Inv-loop μ-loop) → l .loop .k < length (l .before .before .before .before .before .args .places .now)
-    → l .loop .to
-    + length (messageFrom (l .before .before .before .before .before .args .pool .now) (getD (l .before .before .before .before .before .args .starts .now) (getD (l .before .before .before .before .before .args .places .now) (l .loop .k) 0) 0))
-    ≤ length (l .loop .out)
-room l h =
-    let s = l .before .before .before .before .before in
-    let size = next-length (s .args .pool .now) (s .args .starts .now) (s .args .places .now) (s .pre .0) (l .loop .k) h in
-    let so-far = l .loop .inv .1 .0 in
-    let fits = s .pre .1 in
-    omega arith
+abbrev head : tie.After-message-at Inv-loop μ-loop → tie.At-loop Inv-loop μ-loop
+head c = c .before .before .before
+
+abbrev deltas : tie.Start Inv-loop μ-loop → List Message
+deltas s = deltasOf (s .args .pool .now) (s .args .starts .now)
+
+-- the messages from k on, and those behind the one that is known
+abbrev left : tie.At-loop Inv-loop μ-loop → List Message
+left l = deltasAt (deltas (start l)) (drop (l .loop .k) (start l .args .places .now))
+
+abbrev rest : tie.At-loop Inv-loop μ-loop → List Message
+rest l = deltasAt (deltas (start l)) (drop (l .loop .k + 1) (start l .args .places .now))
+
+next : (c : tie.After-message-at Inv-loop μ-loop) → left (head c) ≡ now (c .message-at .result) ∷ rest (head c)
+next c =
+    let l = head c in
+    next-message (deltas (start l)) (start l .args .places .now) (l .loop .k) (c .before .before .loop-test .taken)
+    ∙ ap (λ (m : Message). m ∷ rest l) (sym (c .message-at .ensures))
+
+-- there is room for it
+next-size : (c : tie.After-message-at Inv-loop μ-loop) → length (join (left (head c))) ≡ length (now (c .message-at .result)) + length (join (rest (head c)))
+next-size c = ap (λ (x : List Message). length (join x)) (next c) ∙ length-append (now (c .message-at .result)) (join (rest (head c)))
+
+room : (c : tie.After-message-at Inv-loop μ-loop) → head c .loop .to + length (now (c .message-at .result)) ≤ length (head c .loop .out)
+room c = let s = start (head c) in let inv = head c .loop .inv in omega (arith, next-size c, inv .1 .0, inv .1 .1 .1, s .pre .1)
 
 loop-holds : tie.Need-loop-holds Inv-loop μ-loop
 loop-holds c = (omega arith, (refl, (refl, refl)))
 
-mul-place : tie.Need-mul-place Inv-loop μ-loop
-mul-place c = search needs
-
 shared-slice-read-place : tie.Need-shared-slice-read-place Inv-loop μ-loop
 shared-slice-read-place c = omega arith
 
-mul-start : tie.Need-mul-start Inv-loop μ-loop
-mul-start c = let h = inside (c .before .before) (c .before .loop-test .taken) in search needs
+cast-place : tie.Need-cast-place Inv-loop μ-loop
+cast-place c = omega (arith, c .shared-slice-known4 .given (c .before .before .loop .k))
 
-shared-slice-read-start : tie.Need-shared-slice-read-start Inv-loop μ-loop
-shared-slice-read-start c = inside (c .before .before .before) (c .before .before .loop-test .taken)
+message-at-requires : tie.Need-message-at-requires Inv-loop μ-loop
+message-at-requires c κs =
+    let l = c .before .before in
+    let s = start l in
+    (s .pre .0 .holds, place-inside (s .args .pool .now) (s .args .starts .now) (s .args .places .now) (s .pre .0) (l .loop .k) (c .before .loop-test .taken))
 
-copy-message-requires : tie.Need-copy-message-requires Inv-loop μ-loop
-copy-message-requires c κs =
-    let l = c .before .before .before .before in
-    let s = l .before .before .before .before .before in
-    let h = c .before .before .before .loop-test .taken in
-    (next-passes (s .args .pool .now) (s .args .starts .now) (s .args .places .now) (s .pre .0) (l .loop .k) h, room l h)
+copy-at-requires : tie.Need-copy-at-requires Inv-loop μ-loop
+copy-at-requires c κs = (omega arith, room (c .before))
+
+add-to : tie.Need-add-to Inv-loop μ-loop
+add-to c = let r = room (c .before .before .before .before) in search needs
 
 add-k : tie.Need-add-k Inv-loop μ-loop
 add-k c = omega arith
@@ -76,26 +87,16 @@ loop-less c = omega arith
 loop-again : tie.Need-loop-again Inv-loop μ-loop
 loop-again c =
     let call = c .before .before in
-    let turn = call .before .before .before .before in
-    let l = turn .before in
-    let s = l .before .before .before .before .before in
-    let h = turn .loop-test .taken in
-    let pool = s .args .pool .now in
-    let starts = s .args .starts .now in
-    let places = s .args .places .now in
-    let k = l .loop .k in
-    let m = messageFrom pool (getD starts (getD places k 0) 0) in
-    let rest = join (messagesAt pool starts (drop (k + 1) places)) in
-    let size = next-length pool starts places (s .pre .0) k h in
-    let behind : call .copy-message .result ≡ l .loop .to + length m = call .copy-message .ensures .end in
-    let so-far = l .loop .inv .1 .0 in (
+    let m = call .before .before in
+    let l = head m in
+    let b = now (m .message-at .result) in (
       omega arith,
       (
-        omega arith,
+        omega (arith, next-size m, l .loop .inv .1 .0),
         (
-          ap₂ (λ (b : List ℕ) (n : ℕ). written b n rest) (call .copy-message .ensures .bytes) behind
-              ∙ written-written (l .loop .out) (l .loop .to) m rest (room l h)
-              ∙ ap (λ (x : List Message). written (l .loop .out) (l .loop .to) (join x)) (sym (next-message pool starts places (s .pre .0) k h))
+          ap (λ (o : List ℕ). pasted o (l .loop .to + length b) (join (rest l))) (call .copy-at .ensures)
+              ∙ pasted-pasted (l .loop .out) (l .loop .to) b (join (rest l)) (room m)
+              ∙ ap (λ (x : List Message). pasted (l .loop .out) (l .loop .to) (join x)) (sym (next m))
               ∙ l .loop .inv .1 .1 .0,
           search needs,
         ),
@@ -108,13 +109,13 @@ same-length c = c .before .loop .inv .1 .1 .1
 returns : tie.Need-returns Inv-loop μ-loop
 returns c =
     let l = c .before in
-    let s = l .before .before .before .before .before in
-    let none = no-message (s .args .pool .now) (s .args .starts .now) (s .args .places .now) (l .loop .k) (c .loop-test .left) in
+    let s = start l in
+    let none = no-message (deltas s) (s .args .places .now) (l .loop .k) (c .loop-test .left) in
     let size = ap (λ (x : List Message). length (join x)) none in
     let so-far = l .loop .inv .1 .0 in
     record {
       bytes = paste-zero (l .loop .out) (l .loop .to) []
-          ∙ ap (λ (x : List Message). written (l .loop .out) (l .loop .to) (join x)) (sym none) ∙ l .loop .inv .1 .1 .0;
+          ∙ ap (λ (x : List Message). pasted (l .loop .out) (l .loop .to) (join x)) (sym none) ∙ l .loop .inv .1 .1 .0;
       end = omega arith;
     }
 
@@ -125,11 +126,11 @@ copy-messages-spec =
     Inv-loop
     μ-loop
     loop-holds
-    mul-place
     shared-slice-read-place
-    mul-start
-    shared-slice-read-start
-    copy-message-requires
+    cast-place
+    message-at-requires
+    copy-at-requires
+    add-to
     add-k
     loop-less
     loop-again

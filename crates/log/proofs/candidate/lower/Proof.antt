@@ -1,12 +1,8 @@
-use mathlib.Core.Path.{sym, _∙_, ap, ap₂, subst}
-use mathlib.Core.Bool.{Bool, cond}
-use lib.ListN.{length}
-use denote.Ref.{now}
-use Rattle.model.specs.Order.{less}
-use Rattle.table.specs.Table.{deltasOf}
+-- By cases on which of the two are there, and by their keys where both are.
+use mathlib.Core.Path.{_≡_, sym, _∙_, ap, ap₂}
+use mathlib.Core.Bool.{Bool, true, false, cond}
 use Rattle.log.specs.declared.candidate.Next.the-variants.{At}
-use Rattle.log.specs.Next.{Within, lowerOf}
-use Rattle.log.specs.EntryLaws.{entry-long, entry-key}
+use Rattle.log.specs.Next.{lowerOf}
 use borrow.Author.Needs.{needs}
 use Rattle.log.proofs.candidate.lower.Statement.{statement}
 use Rattle.log.proofs.candidate.lower.Tie as tie
@@ -27,54 +23,33 @@ enum-told-2 : tie.Need-enum-told-2
 enum-told-2 c = search needs
 
 returns-2 : tie.Need-returns-2
-returns-2 c =
-    let s = c .before .before .before .before .before .before .before in
-    sym (ap₂ (lowerOf (deltasOf (s .args .pool .now) (s .args .starts .now))) (c .before .before .before .a .given .1) (c .enum-told2 .given .1))
-
-message-at-requires : tie.Need-message-at-requires
-message-at-requires c κs =
-    let s = c .before .before .before .before .before .before .before .before in
-    (s .pre .0, subst (Within (length (s .args .starts .now))) (c .before .before .before .before .a .given .1) (s .pre .1))
-
-read-header-requires : tie.Need-read-header-requires
-read-header-requires c κs =
-    let s = c .before .before .before .before .before .before .before .before .before in
-    entry-long (s .args .pool .now) (s .args .starts .now) (s .pre .0) (c .before .before .before .before .before .a .given .0 .0) (subst (Within (length (s .args .starts .now))) (c .before .before .before .before .before .a .given .1) (s .pre .1)) (now (c .message-at .result)) (c .message-at .ensures)
-
-message-at-requires-2 : tie.Need-message-at-requires-2
-message-at-requires-2 c κs =
-    let s = c .before .before .before .before .before .before .before .before .before .before in
-    (s .pre .0, subst (Within (length (s .args .starts .now))) (c .before .before .before .b .given .1) (s .pre .2))
-
-read-header-requires-2 : tie.Need-read-header-requires-2
-read-header-requires-2 c κs =
-    let s = c .before .before .before .before .before .before .before .before .before .before .before in
-    entry-long (s .args .pool .now) (s .args .starts .now) (s .pre .0) (c .before .before .before .before .b .given .0 .0) (subst (Within (length (s .args .starts .now))) (c .before .before .before .before .b .given .1) (s .pre .2)) (now (c .message-at2 .result)) (c .message-at2 .ensures)
+returns-2 c = sym (ap₂ lowerOf (c .before .before .before .a .given .1) (c .enum-told2 .given .1))
 
 key-less-requires : tie.Need-key-less-requires
 key-less-requires c κs = search needs
 
+-- where the second, and before it the first, was found to be there
+abbrev second : tie.After-key-less → tie.After-b
+second c = c .before .before
+
+abbrev first : tie.After-b → tie.After-a
+first c = c .before .before .before
+
+-- which of the two it is, by the comparison
+picked : (c : tie.After-key-less) (t : Bool) → c .key-less .result ≡ t → let y = second c in let x = first y in
+    lowerOf (x .before .before .args .a) (x .before .before .args .b)
+    ≡ cond t (At (y .b .given .0 .0) (y .b .given .0 .1 .0)) (At (x .a .given .0 .0) (x .a .given .0 .1 .0))
+picked c t e =
+    let y = second c in
+    let x = first y in
+    ap₂ lowerOf (x .a .given .1) (y .b .given .1)
+    ∙ ap (λ (u : Bool). cond u (At (y .b .given .0 .0) (y .b .given .0 .1 .0)) (At (x .a .given .0 .0) (x .a .given .0 .1 .0))) (sym (c .key-less .ensures) ∙ e)
+
 returns-3 : tie.Need-returns-3
-returns-3 c =
-    let s = c .before .before .before .before .before .before .before .before .before .before .before .before .before .before in
-    let l = deltasOf (s .args .pool .now) (s .args .starts .now) in
-    let x = c .before .before .before .before .before .before .before .before .before .before .a in
-    let y = c .before .before .before .before .before .before .before .b in
-    let first = entry-key (s .args .pool .now) (s .args .starts .now) (s .pre .0) (x .given .0 .0) (subst (Within (length (s .args .starts .now))) (c .before .before .before .before .before .before .before .before .before .before .a .given .1) (s .pre .1)) (now (c .before .before .before .before .before .message-at .result)) (c .before .before .before .before .before .message-at .ensures) (c .before .before .before .before .read-header .result) (c .before .before .before .before .read-header .ensures) (x .given .0 .1 .0) in
-    let second = entry-key (s .args .pool .now) (s .args .starts .now) (s .pre .0) (y .given .0 .0) (subst (Within (length (s .args .starts .now))) (c .before .before .before .before .before .before .before .b .given .1) (s .pre .2)) (now (c .before .before .before .message-at2 .result)) (c .before .before .before .message-at2 .ensures) (c .before .before .read-header2 .result) (c .before .before .read-header2 .ensures) (y .given .0 .1 .0) in
-    let is = sym (ap₂ less second first) ∙ sym (c .before .key-less .ensures) ∙ c .if1 .taken in
-    sym (ap₂ (lowerOf l) (x .given .1) (y .given .1) ∙ ap (λ (t : Bool). cond t (At (y .given .0 .0) (y .given .0 .1 .0)) (At (x .given .0 .0) (x .given .0 .1 .0))) is)
+returns-3 c = sym (picked (c .before) true (c .if1 .taken))
 
 returns-4 : tie.Need-returns-4
-returns-4 c =
-    let s = c .before .before .before .before .before .before .before .before .before .before .before .before .before .before in
-    let l = deltasOf (s .args .pool .now) (s .args .starts .now) in
-    let x = c .before .before .before .before .before .before .before .before .before .before .a in
-    let y = c .before .before .before .before .before .before .before .b in
-    let first = entry-key (s .args .pool .now) (s .args .starts .now) (s .pre .0) (x .given .0 .0) (subst (Within (length (s .args .starts .now))) (c .before .before .before .before .before .before .before .before .before .before .a .given .1) (s .pre .1)) (now (c .before .before .before .before .before .message-at .result)) (c .before .before .before .before .before .message-at .ensures) (c .before .before .before .before .read-header .result) (c .before .before .before .before .read-header .ensures) (x .given .0 .1 .0) in
-    let second = entry-key (s .args .pool .now) (s .args .starts .now) (s .pre .0) (y .given .0 .0) (subst (Within (length (s .args .starts .now))) (c .before .before .before .before .before .before .before .b .given .1) (s .pre .2)) (now (c .before .before .before .message-at2 .result)) (c .before .before .before .message-at2 .ensures) (c .before .before .read-header2 .result) (c .before .before .read-header2 .ensures) (y .given .0 .1 .0) in
-    let is = sym (ap₂ less second first) ∙ sym (c .before .key-less .ensures) ∙ c .if1 .left in
-    sym (ap₂ (lowerOf l) (x .given .1) (y .given .1) ∙ ap (λ (t : Bool). cond t (At (y .given .0 .0) (y .given .0 .1 .0)) (At (x .given .0 .0) (x .given .0 .1 .0))) is)
+returns-4 c = sym (picked (c .before) false (c .if1 .left))
 
 pub lower-spec : {M : Type 1} → statement M
 lower-spec =
@@ -86,10 +61,6 @@ lower-spec =
     enum-known-b
     enum-told-2
     returns-2
-    message-at-requires
-    read-header-requires
-    message-at-requires-2
-    read-header-requires-2
     key-less-requires
     returns-3
     returns-4)

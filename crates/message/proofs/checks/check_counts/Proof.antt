@@ -1,3 +1,4 @@
+-- Each test that is failed contradicts one fact of `Counts`, and all that are passed make them up.
 use native.Mathlib.Omega.{arith}
 use Rattle.message.specs.LayoutLaws.{counts-wrong, counts-right}
 use borrow.Author.Needs.{needs}
@@ -8,13 +9,13 @@ byte-requires : tie.Need-byte-requires
 byte-requires c κs = search needs
 
 returns : tie.Need-returns
-returns c = counts-wrong (c .before .before .before .args .m .now) (λ f. omega arith)
+returns c = counts-wrong (λ f. omega arith)
 
 byte-requires-2 : tie.Need-byte-requires-2
 byte-requires-2 c κs = search needs
 
 returns-2 : tie.Need-returns-2
-returns-2 c = counts-wrong (c .before .before .before .before .before .args .m .now) (λ f. omega arith)
+returns-2 c = counts-wrong (λ f. omega arith)
 
 byte-requires-3 : tie.Need-byte-requires-3
 byte-requires-3 c κs = search needs
@@ -23,7 +24,7 @@ cast-dependencies : tie.Need-cast-dependencies
 cast-dependencies c = search needs
 
 returns-3 : tie.Need-returns-3
-returns-3 c = counts-wrong (c .before .before .before .before .before .before .before .args .m .now) (λ f. omega arith)
+returns-3 c = counts-wrong (λ f. omega arith)
 
 byte-requires-4 : tie.Need-byte-requires-4
 byte-requires-4 c κs = search needs
@@ -32,13 +33,13 @@ cast-commands : tie.Need-cast-commands
 cast-commands c = search needs
 
 returns-4 : tie.Need-returns-4
-returns-4 c = counts-wrong (c .before .before .before .before .before .before .before .before .before .args .m .now) (λ f. omega arith)
+returns-4 c = counts-wrong (λ f. omega arith)
 
 returns-5 : tie.Need-returns-5
-returns-5 c = counts-wrong (c .before .before .before .before .before .before .before .before .before .before .args .m .now) (λ f. omega arith)
+returns-5 c = counts-wrong (λ f. omega arith)
 
 returns-6 : tie.Need-returns-6
-returns-6 c = counts-right (c .before .before .before .before .before .before .before .before .before .before .args .m .now) (record { kind = omega arith; flag = omega arith; dependencies = omega arith; some-command = omega arith; commands = omega arith })
+returns-6 c = counts-right (record { kind = omega arith; flag = omega arith; dependencies = omega arith; some-command = omega arith; commands = omega arith })
 
 pub check-counts-spec : {M : Type 1} → statement M
 check-counts-spec =

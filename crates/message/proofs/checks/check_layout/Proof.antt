@@ -1,5 +1,7 @@
-use mathlib.Core.Path.{sym, _∙_, ap}
+-- Fewer bytes than a header's are no message; of more, counts and offsets together are the whole test.
+use mathlib.Core.Path.{_≡_, sym, _∙_, ap}
 use mathlib.Core.Bool.{Bool, _&&_}
+use Rattle.model.specs.Message.{Message, layoutRight}
 use Rattle.buffer.specs.FieldLaws.{all-bytes}
 use Rattle.message.specs.Check.{right, offsetsRight}
 use Rattle.message.specs.LayoutLaws.{layout-parts, short-wrong}
@@ -7,8 +9,20 @@ use borrow.Author.Needs.{needs}
 use Rattle.message.proofs.checks.check_layout.Statement.{statement}
 use Rattle.message.proofs.checks.check_layout.Tie as tie
 
+abbrev known : tie.After-check-counts → tie.After-shared-slice-known
+known c = c .before .before
+
+abbrev bytes : tie.After-check-counts → Message
+bytes c = known c .before .args .m .now
+
+-- the whole test by what was answered of the counts
+by-counts : (c : tie.After-check-counts) {t : Bool} → right (c .check-counts .result) ≡ t → layoutRight (bytes c) ≡ t && offsetsRight (bytes c)
+by-counts c e =
+    layout-parts (bytes c) (all-bytes (bytes c) (λ i. known c .shared-slice-known .given i .fits))
+    ∙ ap (λ (t : Bool). t && offsetsRight (bytes c)) (sym (c .check-counts .ensures) ∙ e)
+
 returns : tie.Need-returns
-returns c = sym (short-wrong (c .before .before .args .m .now) (c .if1 .taken))
+returns c = sym (short-wrong _ (c .if1 .taken))
 
 check-counts-requires : tie.Need-check-counts-requires
 check-counts-requires c κs = search needs
@@ -20,19 +34,15 @@ enum-told-2 : tie.Need-enum-told-2
 enum-told-2 c = search needs
 
 returns-2 : tie.Need-returns-2
-returns-2 c =
-    let m = c .before .before .before .before .before .args .m .now in
-    let counts = sym (ap right (c .enum-told2 .given .1)) ∙ c .before .before .check-counts .ensures in
-    ap (λ (t : Bool). t && offsetsRight m) counts ∙ sym (layout-parts m (all-bytes m (λ i. c .before .before .before .before .shared-slice-known .given i .fits)))
+returns-2 c = sym (by-counts (c .before .before) (ap right (c .enum-told2 .given .1)))
 
 check-offsets-requires : tie.Need-check-offsets-requires
 check-offsets-requires c κs = search needs
 
 returns-3 : tie.Need-returns-3
 returns-3 c =
-    let m = c .before .before .before .before .before .before .args .m .now in
-    let counts = sym (ap right (c .before .enum-told .given .1)) ∙ c .before .before .before .check-counts .ensures in
-    c .check-offsets .ensures ∙ ap (λ (t : Bool). t && offsetsRight m) counts ∙ sym (layout-parts m (all-bytes m (λ i. c .before .before .before .before .before .shared-slice-known .given i .fits)))
+    let told = c .before in
+    c .check-offsets .ensures ∙ sym (by-counts (told .before .before) (ap right (told .enum-told .given .1)))
 
 pub check-layout-spec : {M : Type 1} → statement M
 check-layout-spec =

@@ -1,3 +1,4 @@
+-- Each test that is failed contradicts one fact of `Offsets`, and all that are passed make them up.
 use native.Mathlib.Omega.{arith}
 use Rattle.message.specs.LayoutLaws.{offsets-wrong, offsets-right}
 use borrow.Author.Needs.{needs}
@@ -35,10 +36,10 @@ cast-if1 : tie.Need-cast-if1
 cast-if1 c = search needs
 
 returns : tie.Need-returns
-returns c = offsets-wrong (c .before .before .before .before .before .args .m .now) (λ f. omega arith)
+returns c = offsets-wrong (λ f. omega arith)
 
 returns-2 : tie.Need-returns-2
-returns-2 c = offsets-wrong (c .before .before .before .before .before .before .args .m .now) (λ f. omega arith)
+returns-2 c = offsets-wrong (λ f. omega arith)
 
 get-u16-requires-2 : tie.Need-get-u16-requires-2
 get-u16-requires-2 c κs = search needs
@@ -47,7 +48,7 @@ cast-if3 : tie.Need-cast-if3
 cast-if3 c = search needs
 
 returns-3 : tie.Need-returns-3
-returns-3 c = offsets-wrong (c .before .before .before .before .before .before .before .before .args .m .now) (λ f. omega arith)
+returns-3 c = offsets-wrong (λ f. omega arith)
 
 get-u16-requires-3 : tie.Need-get-u16-requires-3
 get-u16-requires-3 c κs = search needs
@@ -56,24 +57,23 @@ cast-if4 : tie.Need-cast-if4
 cast-if4 c = search needs
 
 returns-4 : tie.Need-returns-4
-returns-4 c = offsets-wrong (c .before .before .before .before .before .before .before .before .before .before .args .m .now) (λ f. omega arith)
+returns-4 c = offsets-wrong (λ f. omega arith)
 
 get-u16-requires-4 : tie.Need-get-u16-requires-4
 get-u16-requires-4 c κs = search needs
 
 returns-5 : tie.Need-returns-5
-returns-5 c = offsets-wrong (c .before .before .before .before .before .before .before .before .before .before .before .before .args .m .now) (λ f. omega arith)
+returns-5 c = offsets-wrong (λ f. omega arith)
 
 get-u32-requires : tie.Need-get-u32-requires
 get-u32-requires c κs = search needs
 
 returns-6 : tie.Need-returns-6
-returns-6 c = offsets-wrong (c .before .before .before .before .before .before .before .before .before .before .before .before .before .before .args .m .now) (λ f. omega arith)
+returns-6 c = offsets-wrong (λ f. omega arith)
 
 returns-7 : tie.Need-returns-7
 returns-7 c =
-    offsets-right (c .before .before .before .before .before .before .before .before .before .before .before .before .before .before .args .m .now)
-    (record { stated = omega arith; total = omega arith; dependencies = omega arith; commands = omega arith; first-zeros = omega arith; last-zeros = omega arith })
+    offsets-right (record { stated = omega arith; total = omega arith; dependencies = omega arith; commands = omega arith; first-zeros = omega arith; last-zeros = omega arith })
 
 pub check-offsets-spec : {M : Type 1} → statement M
 check-offsets-spec =

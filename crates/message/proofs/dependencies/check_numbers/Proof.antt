@@ -1,13 +1,14 @@
+-- The own number, and those of the dependencies up to k, are not 0000: all are right exactly if those from k on are.
 use Prim.Native.Nat.{ℕ, _+_, _≤_, _-_}
 use mathlib.Core.Path.{_≡_, sym, _∙_, ap}
 use mathlib.Core.Bool.{Bool, true, false, not, _&&_}
 use lib.ListN.{drop, getD}
 use native.Mathlib.Omega.{arith}
-use borrow.Author.Needs.{needs}
-use Rattle.model.specs.Lists.{every}
-use Rattle.model.specs.Message.{numbered, numberOf, sequenceOf, dependenciesOf, numbersRight}
 use borrow.Author.Tests.{eq-eqb, ne-eqb}
-use Rattle.message.specs.ListLaws.{every-step, every-end, length-dependencies}
+use Rattle.model.specs.Lists.{every}
+use Rattle.model.specs.Message.{Message, numbered, numberOf, sequenceOf, dependenciesOf, numbersRight}
+use Rattle.order.specs.ScanLaws.{every-step, every-end}
+use Rattle.message.specs.DependencyLaws.{length-dependencies}
 use borrow.Author.Needs.{needs}
 use Rattle.message.proofs.dependencies.check_numbers.Statement.{statement}
 use Rattle.message.proofs.dependencies.check_numbers.Tie as tie
@@ -24,6 +25,46 @@ Inv-loop m count k₀ k = (k ≤ count) × (numbersRight m ≡ every numbered (d
 abbrev μ-loop : tie.MeasureT-loop
 μ-loop m count k₀ k = count - k
 
+-- ---- the own number
+abbrev Own : Type 0
+Own = tie.After-number-of Inv-loop μ-loop
+
+abbrev bytes : Own → Message
+bytes c = c .before .before .before .args .m .now
+
+own-number : (c : Own) → c .number-of .result ≡ numberOf (sequenceOf (bytes c))
+own-number c = c .number-of .ensures ∙ ap numberOf (c .before .read-sequence .ensures)
+
+by-own : (c : Own) {t : Bool} → numbered (sequenceOf (bytes c)) ≡ t → numbersRight (bytes c) ≡ t && every numbered (dependenciesOf (bytes c))
+unfolding numbersRight
+by-own c e = ap (λ (t : Bool). t && every numbered (dependenciesOf (bytes c))) e
+
+-- ---- the dependencies' numbers
+abbrev Loop : Type 0
+Loop = tie.At-loop Inv-loop μ-loop
+
+abbrev own : Loop → Own
+own l = l .before .before .before
+
+abbrev loop : tie.After-number-of2 Inv-loop μ-loop → Loop
+loop c = c .before .before .before
+
+abbrev sequenceHere : tie.After-number-of2 Inv-loop μ-loop → ℕ
+sequenceHere c = getD (dependenciesOf (bytes (own (loop c)))) (loop c .loop .k) 0
+
+number-here : (c : tie.After-number-of2 Inv-loop μ-loop) → c .number-of2 .result ≡ numberOf (sequenceHere c)
+number-here c = c .number-of2 .ensures ∙ ap numberOf (c .before .dependency .ensures)
+
+-- one dependency, and those after it
+turn : (c : tie.After-number-of2 Inv-loop μ-loop) {t : Bool} → numbered (sequenceHere c) ≡ t
+    → numbersRight (bytes (own (loop c))) ≡ t && every numbered (drop (loop c .loop .k + 1) (dependenciesOf (bytes (own (loop c)))))
+turn c e =
+    let l = loop c in
+    let k = l .loop .k in
+    let m = bytes (own l) in
+    let named = dependenciesOf m in
+    l .loop .inv .1 ∙ every-step numbered named k 0 (omega (arith, length-dependencies m)) ∙ ap (λ (t : Bool). t && every numbered (drop (k + 1) named)) e
+
 read-sequence-requires : tie.Need-read-sequence-requires Inv-loop μ-loop
 read-sequence-requires c κs = omega arith
 
@@ -31,10 +72,7 @@ number-of-requires : tie.Need-number-of-requires Inv-loop μ-loop
 number-of-requires c κs = search needs
 
 returns : tie.Need-returns Inv-loop μ-loop
-unfolding numbersRight
-returns c =
-    let m = c .before .before .before .before .args .m .now in
-    sym (ap (λ (t : Bool). t && every numbered (dependenciesOf m)) (is-zero (sequenceOf m) (c .before .number-of .ensures ∙ ap numberOf (c .before .before .read-sequence .ensures)) (c .if1 .taken)))
+returns c = let o = c .before in sym (by-own o (is-zero (sequenceOf (bytes o)) (own-number o) (omega arith)))
 
 byte-requires : tie.Need-byte-requires Inv-loop μ-loop
 byte-requires c κs = omega arith
@@ -43,12 +81,10 @@ cast-count : tie.Need-cast-count Inv-loop μ-loop
 cast-count c = search needs
 
 loop-holds : tie.Need-loop-holds Inv-loop μ-loop
-unfolding numbersRight
 loop-holds c =
-    let m = c .before .before .before .before .before .args .m .now in (
-      search needs,
-      ap (λ (t : Bool). t && every numbered (dependenciesOf m)) (is-numbered (sequenceOf m) (c .before .before .number-of .ensures ∙ ap numberOf (c .before .before .before .read-sequence .ensures)) (c .before .if1 .left)),
-    )
+    let passed = c .before in
+    let o = passed .before in
+    (search needs, by-own o (is-numbered (sequenceOf (bytes o)) (own-number o) (passed .if1 .left)))
 
 dependency-requires : tie.Need-dependency-requires Inv-loop μ-loop
 dependency-requires c κs = omega arith
@@ -57,11 +93,7 @@ number-of-requires-2 : tie.Need-number-of-requires-2 Inv-loop μ-loop
 number-of-requires-2 c κs = search needs
 
 returns-2 : tie.Need-returns-2 Inv-loop μ-loop
-returns-2 c =
-    let l = dependenciesOf (c .before .before .before .before .before .before .before .before .before .before .args .m .now) in
-    let k = c .before .before .before .before .loop .k in
-    let zero = is-zero (getD l k 0) (c .before .number-of2 .ensures ∙ ap numberOf (c .before .before .dependency .ensures)) (c .if2 .taken) in
-    sym (c .before .before .before .before .loop .inv .1 ∙ every-step numbered l k 0 (omega (arith, length-dependencies (c .before .before .before .before .before .before .before .before .before .before .args .m .now))) ∙ ap (λ (t : Bool). t && every numbered (drop (k + 1) l)) zero)
+returns-2 c = let d = c .before in sym (turn d (is-zero (sequenceHere d) (number-here d) (c .if2 .taken)))
 
 add-k : tie.Need-add-k Inv-loop μ-loop
 add-k c = omega arith
@@ -70,17 +102,13 @@ loop-less : tie.Need-loop-less Inv-loop μ-loop
 loop-less c = omega arith
 
 loop-again : tie.Need-loop-again Inv-loop μ-loop
-loop-again c =
-    let l = dependenciesOf (c .before .before .before .before .before .before .before .before .before .before .args .m .now) in
-    let k = c .before .before .before .before .loop .k in
-    let one = is-numbered (getD l k 0) (c .before .number-of2 .ensures ∙ ap numberOf (c .before .before .dependency .ensures)) (c .if2 .left) in
-    (omega arith, c .before .before .before .before .loop .inv .1 ∙ every-step numbered l k 0 (omega (arith, length-dependencies (c .before .before .before .before .before .before .before .before .before .before .args .m .now))) ∙ ap (λ (t : Bool). t && every numbered (drop (k + 1) l)) one)
+loop-again c = (omega arith, turn (c .before) (is-numbered (sequenceHere (c .before)) (number-here (c .before)) (c .if2 .left)))
 
 returns-3 : tie.Need-returns-3 Inv-loop μ-loop
 returns-3 c =
-    let l = dependenciesOf (c .before .before .before .before .before .before .before .args .m .now) in
-    let k = c .before .loop .k in
-    sym (c .before .loop .inv .1 ∙ every-end numbered l k (omega (arith, length-dependencies (c .before .before .before .before .before .before .before .args .m .now))))
+    let l = c .before in
+    let m = bytes (own l) in
+    sym (l .loop .inv .1 ∙ every-end numbered (dependenciesOf m) (l .loop .k) (omega (arith, length-dependencies m)))
 
 pub check-numbers-spec : {M : Type 1} → statement M
 check-numbers-spec =

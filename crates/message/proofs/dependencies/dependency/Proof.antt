@@ -1,6 +1,7 @@
+-- The dependencies stand end to end past the header, each of a sequence's size.
 use native.Mathlib.Omega.{arith}
 use mathlib.Core.Path.{sym, _∙_}
-use Rattle.message.specs.ListLaws.{dependency-at}
+use Rattle.message.specs.DependencyLaws.{dependency-at}
 use borrow.Author.Needs.{needs}
 use Rattle.message.proofs.dependencies.dependency.Statement.{statement}
 use Rattle.message.proofs.dependencies.dependency.Tie as tie

@@ -1,10 +1,17 @@
+-- Each field is what its reader ensures.
 use native.Mathlib.Omega.{arith}
+use mathlib.Core.Path.{_≡_}
+use Rattle.model.specs.Message.{sequenceOf}
+use Rattle.sequence.specs.Sequence.{sequenceFrom}
 use Rattle.sequence.specs.SequenceLaws.{from-number}
 use Rattle.message.specs.HeaderLaws.{header-is}
-use Rattle.model.specs.Message.{sequenceOf}
 use borrow.Author.Needs.{needs}
 use Rattle.message.proofs.header.read_header.Statement.{statement}
 use Rattle.message.proofs.header.read_header.Tie as tie
+
+-- the sequence read is that of its number
+own-is : (c : tie.After-read-sequence) → c .read-sequence .result ≡ sequenceFrom (sequenceOf (c .before .before .args .m .now))
+own-is c = from-number (c .read-sequence .result) _ (omega arith) (c .read-sequence .ensures)
 
 read-sequence-requires : tie.Need-read-sequence-requires
 read-sequence-requires c κs = search needs
@@ -29,8 +36,10 @@ read-priority-requires c κs = search needs
 
 returns : tie.Need-returns
 returns c =
-    let m = c .before .before .before .before .before .before .args .m .now in
-    header-is m (from-number (c .before .before .before .before .read-sequence .result) (sequenceOf m) (omega arith) (c .before .before .before .before .read-sequence .ensures)) (c .before .before .before .get-u32 .ensures) (c .before .before .byte .ensures .0) (c .before .byte2 .ensures .0) (c .read-priority .ensures)
+    let commands = c .before in
+    let dependencies = commands .before in
+    let group = dependencies .before in
+    header-is _ (own-is (group .before)) (group .get-u32 .ensures) (dependencies .byte .ensures .0) (commands .byte2 .ensures .0) (c .read-priority .ensures)
 
 pub read-header-spec : {M : Type 1} → statement M
 read-header-spec =

@@ -1,3 +1,4 @@
+-- The test is a test of the integers themselves.
 use mathlib.Core.Path.{_≡_}
 use mathlib.Core.Bool.{true, false}
 use lib.Signed.{ltZ}

@@ -11,16 +11,27 @@ use mir.Val.{SFits}
 use mir.Facts.{toZ-ofZ}
 use borrow.Author.Needs.{needs}
 use Rattle.model.specs.Bytes.{bytes}
+use Rattle.model.specs.Layout.{valueSize, tagCount}
 use Rattle.setpoints.specs.Words.{wordsOf, words-next}
 use Rattle.setpoints.proofs.values.put_values.Statement.{statement}
 use Rattle.setpoints.proofs.values.put_values.Tie as tie
 
 abbrev Inv-loop : tie.InvT-loop
 Inv-loop image₀ at values i₀ image i =
-    (i ≤ 64) × ((image ≡ paste image₀ at (wordsOf (take i values)) (4 * i)) × (length image ≡ length image₀))
+    (i ≤ tagCount) × ((image ≡ paste image₀ at (wordsOf (take i values)) (valueSize * i)) × (length image ≡ length image₀))
 
 abbrev μ-loop : tie.MeasureT-loop
-μ-loop image₀ at values i₀ image i = 64 - i
+μ-loop image₀ at values i₀ image i = tagCount - i
+
+abbrev start : tie.At-loop Inv-loop μ-loop → tie.Start Inv-loop μ-loop
+start loop = loop .before .before
+
+-- where the value is read, and where that turn begins
+abbrev read : tie.After-put-u32 Inv-loop μ-loop → tie.After-v Inv-loop μ-loop
+read put = put .before .before .before
+
+abbrev turn : tie.After-v Inv-loop μ-loop → tie.At-loop Inv-loop μ-loop
+turn value = value .before .before
 
 loop-holds : tie.Need-loop-holds Inv-loop μ-loop
 loop-holds c = (search needs, (paste-zero (c .before .args .image .now) (c .before .args .at) [], refl))
@@ -52,17 +63,16 @@ loop-less c = search needs
 loop-again : tie.Need-loop-again Inv-loop μ-loop
 loop-again c =
     let put = c .before .before in
-    let read = put .before .before .before in
-    let l = read .before .before .loop in
-    let s = read .before .before .before .before .args in
-    let v = getD (s .t2) (l .i) (pos 0) in
-    let f : SFits w32 v = record { sfits = read .v .given } in
+    let value = read put in
+    let l = turn value .loop in
+    let a = start (turn value) .args in
+    let f : SFits w32 (getD (a .t2) (l .i) (pos 0)) = record { sfits = value .v .given } in
     let e = rw (toZ-ofZ f) at (put .before .to-word .ensures) in (
       omega arith,
       (
         put .put-u32 .ensures
-            ∙ ap₂ (λ (b : List ℕ) (n : ℕ). paste b (s .at + 4 * l .i) (bytes 4 n) 4) (l .inv .1 .0) e
-            ∙ words-next (s .image .now) (s .at) (s .t2) (l .i) (omega arith) (omega arith),
+            ∙ ap₂ (λ (b : List ℕ) (n : ℕ). paste b (a .at + valueSize * l .i) (bytes valueSize n) valueSize) (l .inv .1 .0) e
+            ∙ words-next (a .image .now) (a .at) (a .t2) (l .i) (omega arith) (omega arith),
         search needs,
       ),
     )
@@ -73,10 +83,10 @@ same-length c = c .before .loop .inv .1 .1
 returns : tie.Need-returns Inv-loop μ-loop
 returns c =
     let l = c .before .loop in
-    let s = c .before .before .before .args in
-    let e : l .i ≡ 64 = omega arith in
-    l .inv .1 .0 ∙ ap (λ (n : ℕ). paste (s .image .now) (s .at) (wordsOf (take n (s .t2))) (4 * n)) e
-    ∙ ap (λ (values : List ℤ). paste (s .image .now) (s .at) (wordsOf values) 256) (take-all 64 (s .t2) (omega arith))
+    let a = start (c .before) .args in
+    let e : l .i ≡ tagCount = omega arith in
+    l .inv .1 .0 ∙ ap (λ (n : ℕ). paste (a .image .now) (a .at) (wordsOf (take n (a .t2))) (valueSize * n)) e
+    ∙ ap (λ (values : List ℤ). paste (a .image .now) (a .at) (wordsOf values) (valueSize * tagCount)) (take-all tagCount (a .t2) (omega arith))
 
 pub put-values-spec : {M : Type 1} → statement M
 put-values-spec =

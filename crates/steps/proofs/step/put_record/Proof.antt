@@ -1,10 +1,12 @@
+-- The kind, the high part and the low part stand one after the other.
 use mathlib.Core.Path.{ap, _∙_}
 use mathlib.Core.List.{List}
 use Prim.Native.Nat.{ℕ, _+_}
 use native.Mathlib.Omega.{arith}
 use lib.Seq.{paste}
 use Rattle.model.specs.Bytes.{bytes}
-use Rattle.steps.specs.StepLaws.{record-bytes}
+use Rattle.model.specs.Layout.{stepSequenceAt}
+use Rattle.steps.specs.StepRecordLaws.{record-bytes}
 use borrow.Author.Needs.{needs}
 use Rattle.steps.proofs.step.put_record.Statement.{statement}
 use Rattle.steps.proofs.step.put_record.Tie as tie
@@ -29,15 +31,15 @@ same-length c = search needs
 
 returns : tie.Need-returns
 returns c =
-    let third = c .before .before in
-    let second = third .before .before .before .before in
-    let first = second .before .before .before .before in
-    let start = first .before .before .before in
+    let low = c .before .before in
+    let high = low .before .before .before .before in
+    let kind = high .before .before .before .before in
+    let start = kind .before .before .before in
     let a = start .args in
-    third .put-u322 .ensures
-    ∙ ap (λ (b : List ℕ). paste b (a .at + 4 + 8) (bytes 4 (a .s .low)) 4)
-    (second .put-u64 .ensures ∙ ap (λ (b : List ℕ). paste b (a .at + 4) (bytes 8 (a .s .high)) 8) (first .put-u32 .ensures))
-    ∙ record-bytes (a .steps .now) (a .at) (a .kind) (a .s .high) (a .s .low) (omega arith) (omega (arith, start .good))
+    low .put-u322 .ensures
+    ∙ ap (λ (b : List ℕ). paste b (a .at + stepSequenceAt + 8) (bytes 4 (a .s .low)) 4)
+    (high .put-u64 .ensures ∙ ap (λ (b : List ℕ). paste b (a .at + stepSequenceAt) (bytes 8 (a .s .high)) 8) (kind .put-u32 .ensures))
+    ∙ record-bytes (a .steps .now) (a .at) (a .kind) (a .s) (omega arith) (omega (arith, start .good))
 
 pub put-record-spec : {M : Type 1} → statement M
 put-record-spec =

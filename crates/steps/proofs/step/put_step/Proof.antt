@@ -1,3 +1,4 @@
+-- Either kind of step is its record, with the number of its first four bytes.
 use mathlib.Core.Path.{sym, ap, _∙_}
 use lib.Seq.{paste}
 use Rattle.model.specs.Layout.{stepSize}

@@ -1,17 +1,23 @@
+-- The invariant: the starts from i on stand one further on, those before it where they were.
 use Prim.Native.Nat.{ℕ, _≤_}
 use mathlib.Core.Path.{_≡_, refl, subst}
 use lib.ListN.{length}
 use native.Mathlib.Omega.{arith}
 use borrow.Author.Needs.{needs}
+use Rattle.model.specs.Layout.{capacity}
 use Rattle.table.specs.InsertLaws.{Moved, moved-none, moved-more, moved-insert}
 use Rattle.table.proofs.Table.insert.Statement.{statement}
 use Rattle.table.proofs.Table.insert.Tie as tie
 
 abbrev Inv-loop : tie.InvT-loop
-Inv-loop p at count starts₀ i₀ starts i = (p ≤ i) × (i ≤ count) × (length starts₀ ≡ 64) × Moved starts₀ count i starts
+Inv-loop p at count starts₀ i₀ starts i = (p ≤ i) × (i ≤ count) × (length starts₀ ≡ capacity) × Moved starts₀ count i starts
 
 abbrev μ-loop : tie.MeasureT-loop
 μ-loop p at count starts₀ i₀ starts i = i
+
+-- the call as it began, from the head of the loop
+abbrev start : tie.At-loop Inv-loop μ-loop → tie.Start Inv-loop μ-loop
+start h = h .before .before
 
 loop-holds : tie.Need-loop-holds Inv-loop μ-loop
 loop-holds c =
@@ -41,7 +47,7 @@ loop-less c = omega arith
 
 loop-again : tie.Need-loop-again Inv-loop μ-loop
 loop-again c =
-    let t = c .before .before .before .args .self in
+    let t = start (c .before) .args .self in
     let l = c .before .loop in
     (omega arith, omega arith, l .inv .2, moved-more (t .starts) (t .count) (l .i) (l .starts) (l .inv .3) (omega arith) (omega arith))
 
@@ -56,7 +62,7 @@ add-t16 c = omega arith
 
 returns : tie.Need-returns Inv-loop μ-loop
 returns c =
-    let a = c .before .before .before .args in
+    let a = start (c .before) .args in
     let l = c .before .loop in
     let e : l .i ≡ a .p = omega arith in
     let m : Moved (a .self .starts) (a .self .count) (a .p) (l .starts) = subst (λ (x : ℕ). Moved (a .self .starts) (a .self .count) x (l .starts)) e (l .inv .3) in

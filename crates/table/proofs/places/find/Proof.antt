@@ -1,3 +1,4 @@
+-- The invariant: what is below `low` has lower sequences, what is from `high` on has higher ones.
 use Prim.Native.Nat.{ℕ, _+_, _≤_, _<_, _-_, _/_}
 use mathlib.Core.Path.{_≡_, sym, _∙_}
 use lib.ListN.{length}
@@ -5,7 +6,8 @@ use native.Mathlib.Omega.{arith}
 use borrow.Author.Needs.{needs}
 use borrow.Author.Tests.{eqb-true, eqb-false, ltb-true, ltb-false}
 use Rattle.table.specs.Places.{sequenceIn}
-use Rattle.table.specs.PlaceLaws.{Stands, stands, lower-before, higher-after}
+use Rattle.order.specs.ScanLaws.{lower-before, higher-after}
+use Rattle.table.specs.PlaceLaws.{Stands, stands, places-ascend}
 use Rattle.sequence.specs.Sequence.{sequenceNumber}
 use Rattle.table.proofs.places.find.Statement.{statement}
 use Rattle.table.proofs.places.find.Tie as tie
@@ -33,10 +35,22 @@ mul-at c = omega arith
 shared-slice-read-at : tie.Need-shared-slice-read-at Inv-loop μ-loop
 shared-slice-read-at c = omega arith
 
+-- the head of the loop, from where the start in the middle is read; the call as it began; and the middle
+abbrev head : tie.After-shared-slice-known3 Inv-loop μ-loop → tie.At-loop Inv-loop μ-loop
+head m = m .before .before
+
+abbrev start : tie.After-shared-slice-known3 Inv-loop μ-loop → tie.Start Inv-loop μ-loop
+start m = head m .before .before .before
+
+abbrev place : tie.After-shared-slice-known3 Inv-loop μ-loop → ℕ
+place m = let l = head m .loop in l .low + (l .high - l .low) / 2
+
+cast-at : tie.Need-cast-at Inv-loop μ-loop
+cast-at c = omega (arith, c .shared-slice-known3 .given (place c))
+
 -- the message in the middle stands inside the pool
-middle : (c : tie.After-shared-slice-known3 Inv-loop μ-loop)
-    → Stands (c .before .before .before .before .before .args .pool .now) (c .before .before .before .before .before .args .starts .now) (c .before .before .loop .low + (c .before .before .loop .high - c .before .before .loop .low) / 2)
-middle c = stands _ _ (c .before .before .before .before .before .pre) _ (omega arith)
+middle : (m : tie.After-shared-slice-known3 Inv-loop μ-loop) → Stands (start m .args .pool .now) (start m .args .starts .now) (place m)
+middle m = stands _ _ (start m .pre) _ (omega arith)
 
 add-read-sequence : tie.Need-add-read-sequence Inv-loop μ-loop
 add-read-sequence c = let m = middle c .lies in omega arith
@@ -47,13 +61,12 @@ read-sequence-requires c κs = let m = middle c .lies in omega arith
 equal-requires : tie.Need-equal-requires Inv-loop μ-loop
 equal-requires c κs = search needs
 
+-- its sequence is the one that was read
+read : (r : tie.After-read-sequence Inv-loop μ-loop) → sequenceIn (start (r .before) .args .pool .now) (start (r .before) .args .starts .now) (place (r .before)) ≡ sequenceNumber (r .read-sequence .result)
+read r = middle (r .before) .sequence ∙ sym (r .read-sequence .ensures)
+
 returns : tie.Need-returns Inv-loop μ-loop
-returns c =
-    let m = middle (c .before .before .before) in
-    record {
-      inside = omega arith;
-      here = m .sequence ∙ sym (c .before .before .read-sequence .ensures) ∙ eqb-true _ _ (sym (c .before .equal .ensures) ∙ c .if1 .taken);
-    }
+returns c = record { inside = omega arith; here = read (c .before .before) ∙ eqb-true _ _ (sym (c .before .equal .ensures) ∙ c .if1 .taken) }
 
 less-requires : tie.Need-less-requires Inv-loop μ-loop
 less-requires c κs = search needs
@@ -64,33 +77,35 @@ add-low c = omega arith
 loop-less : tie.Need-loop-less Inv-loop μ-loop
 loop-less c = omega arith
 
+-- the sequence that was read, from where it is known to be lower or not
+abbrev compared : tie.After-less Inv-loop μ-loop → tie.After-read-sequence Inv-loop μ-loop
+compared c = c .before .before .before
+
 loop-again : tie.Need-loop-again Inv-loop μ-loop
 loop-again c =
-    let start = c .before .before .before .before .before .before .before .before .before .before in
-    let l = c .before .before .before .before .before .before .before .loop in
-    let k : ℕ = l .low + (l .high - l .low) / 2 in
-    let s : ℕ = sequenceNumber (start .args .s) in
-    let n : ℕ = sequenceNumber (c .before .before .before .before .read-sequence .result) in
-    let inside : k < length (start .args .starts .now) = omega arith in
-    let e : sequenceIn (start .args .pool .now) (start .args .starts .now) k ≡ n = middle (c .before .before .before .before .before) .sequence ∙ sym (c .before .before .before .before .read-sequence .ensures) in
+    let r = compared (c .before) in
+    let m = r .before in
+    let a = start m .args in
+    let s : ℕ = sequenceNumber (a .s) in
+    let n : ℕ = sequenceNumber (r .read-sequence .result) in
+    let inside : place m < length (a .starts .now) = omega arith in
     let lower : n < s = ltb-true n s (sym (c .before .less .ensures) ∙ c .if2 .taken) in
-    (omega arith, omega arith, lower-before (start .args .pool .now) (start .args .starts .now) (start .pre) s k inside (omega arith), l .inv .3)
+    (omega arith, omega arith, lower-before (sequenceIn (a .pool .now) (a .starts .now)) (length (a .starts .now)) (places-ascend (a .pool .now) (a .starts .now) (start m .pre)) s (place m) inside (omega (arith, read r)), head m .loop .inv .3)
 
 loop-less-2 : tie.Need-loop-less-2 Inv-loop μ-loop
 loop-less-2 c = omega arith
 
 loop-again-2 : tie.Need-loop-again-2 Inv-loop μ-loop
 loop-again-2 c =
-    let start = c .before .before .before .before .before .before .before .before .before .before in
-    let l = c .before .before .before .before .before .before .before .loop in
-    let k : ℕ = l .low + (l .high - l .low) / 2 in
-    let s : ℕ = sequenceNumber (start .args .s) in
-    let n : ℕ = sequenceNumber (c .before .before .before .before .read-sequence .result) in
-    let inside : k < length (start .args .starts .now) = omega arith in
-    let e : sequenceIn (start .args .pool .now) (start .args .starts .now) k ≡ n = middle (c .before .before .before .before .before) .sequence ∙ sym (c .before .before .before .before .read-sequence .ensures) in
+    let r = compared (c .before) in
+    let m = r .before in
+    let a = start m .args in
+    let s : ℕ = sequenceNumber (a .s) in
+    let n : ℕ = sequenceNumber (r .read-sequence .result) in
+    let inside : place m < length (a .starts .now) = omega arith in
     let other : n ≡ s → ⊥ = eqb-false n s (sym (c .before .before .before .equal .ensures) ∙ c .before .before .if1 .left) in
     let least : s ≤ n = ltb-false n s (sym (c .before .less .ensures) ∙ c .if2 .left) in
-    (omega arith, omega arith, l .inv .2, higher-after (start .args .pool .now) (start .args .starts .now) (start .pre) s k inside (omega arith))
+    (omega arith, omega arith, head m .loop .inv .2, higher-after (sequenceIn (a .pool .now) (a .starts .now)) (length (a .starts .now)) (places-ascend (a .pool .now) (a .starts .now) (start m .pre)) s (place m) inside (omega (arith, read r)))
 
 returns-2 : tie.Need-returns-2 Inv-loop μ-loop
 returns-2 c =
@@ -108,6 +123,7 @@ find-spec =
     add-middle
     mul-at
     shared-slice-read-at
+    cast-at
     add-read-sequence
     read-sequence-requires
     equal-requires

@@ -1,28 +1,30 @@
+-- The message is cut by its length field; what does not fit, or does not parse, fails 3 to 6.
 use mathlib.Core.Path.{_≡_, subst}
-use mathlib.Core.Logic.{⊎-elim}
-use mathlib.Core.List.{[], _∷_}
 use Prim.Native.Nat.{ℕ, _+_, _-_}
 use native.Mathlib.Omega.{arith}
 use lib.ListN.{take, drop}
-use types.Run.{OneOf}
-use denote.Enum.Declared.{tagOf}
-use Rattle.message.proofs.parse.Parsed.{the-type}
-use Rattle.message.specs.declared.parse.Parsed.{Parsed}
-use Rattle.message.specs.declared.parse.Parsed.the-variants as parsed
+use Rattle.parse.specs.declared.Parsed.{Parsed}
+use Rattle.parse.specs.declared.Parsed.the-variants as parsed
 use Rattle.model.specs.Bytes.{field}
-use Rattle.model.specs.Message.{Message}
-use Rattle.message.specs.Parsed.{parsedCode, Parses}
+use Rattle.model.specs.Layout.{lengthAt}
+use Rattle.parse.specs.Parsed.{Parses}
+use Rattle.parse.specs.ParsedLaws.{refused-fails, parsed-accepted}
+use Rattle.parse.proofs.ParsedTags.{no-message}
 use Rattle.table.specs.Table.{messageFrom}
-use Rattle.table.specs.RefusalLaws.{short-fails, past-end-fails, refused-fails, parsed-accepted}
+use Rattle.table.specs.RefusalLaws.{short-fails, past-end-fails}
 use borrow.Author.Needs.{needs}
 use Rattle.table.proofs.reading.read_message.Statement.{statement}
 use Rattle.table.proofs.reading.read_message.Tie as tie
+
+-- the call as it began, from where the length field was read
+abbrev begun : tie.After-get-u16 → tie.Start
+begun u = u .before .before .before
 
 sub-left : tie.Need-sub-left
 sub-left c = search needs
 
 returns : tie.Need-returns
-returns c = short-fails (c .before .before .args .b .now) (c .before .before .args .at) (omega arith)
+returns c = let a = c .before .before .args in short-fails (a .b .now) (a .at) (omega arith)
 
 add-get-u16 : tie.Need-add-get-u16
 add-get-u16 c = search needs
@@ -34,7 +36,7 @@ cast-size : tie.Need-cast-size
 cast-size c = search needs
 
 returns-2 : tie.Need-returns-2
-returns-2 c = past-end-fails (c .before .before .before .before .args .b .now) (c .before .before .before .before .args .at) (omega arith)
+returns-2 c = let a = begun (c .before) .args in past-end-fails (a .b .now) (a .at) (omega arith)
 
 add-end : tie.Need-add-end
 add-end c = search needs
@@ -54,34 +56,35 @@ parse-requires c κs = search needs
 enum-known-parsed : tie.Need-enum-known-parsed
 enum-known-parsed c = search needs
 
--- what was parsed is the message that starts at the place
-parsed-here : (c : tie.After-parse) → Parses (messageFrom (c .before .before .before .before .before .before .args .b .now) (c .before .before .before .before .before .before .args .at)) (c .parse .result)
-parsed-here c =
-    let a = c .before .before .before .before .before .before .args in
-    let n = c .before .before .before .get-u16 in
-    let e : a .at + n .result - a .at ≡ field (a .b .now) (a .at + 4) 2 = omega arith in
-    subst (λ (x : ℕ). Parses (take x (drop (a .at) (a .b .now))) (c .parse .result)) e (c .parse .ensures)
+-- where the length field was read, from where the message is parsed; and the call as it began
+abbrev sized : tie.After-parse → tie.After-get-u16
+sized p = p .before .before .before
 
--- a tag past the first is no message's
-no-message : (r : Parsed) → OneOf (1 ∷ 2 ∷ 3 ∷ 4 ∷ []) (tagOf the-type r) → parsedCode r ≡ 0 → ⊥
-no-message (parsed.Message h) k e = ⊎-elim (λ z. omega arith) (λ j. ⊎-elim (λ z. omega arith) (λ i. ⊎-elim (λ z. omega arith) (λ z. omega arith) i) j) k
-no-message parsed.WrongLayout k e = omega arith
-no-message parsed.WrongNumber k e = omega arith
-no-message parsed.WrongDependencies k e = omega arith
-no-message parsed.WrongContent k e = omega arith
+abbrev start : tie.After-parse → tie.Start
+start p = begun (sized p)
+
+-- what was parsed is the message that starts at the place
+parsed-here : (c : tie.After-parse) → Parses (messageFrom (start c .args .b .now) (start c .args .at)) (c .parse .result)
+parsed-here c =
+    let a = start c .args in
+    let n = sized c .get-u16 in
+    let e : a .at + n .result - a .at ≡ field (a .b .now) (a .at + lengthAt) 2 = omega arith in
+    subst (λ (x : ℕ). Parses (take x (drop (a .at) (a .b .now))) (c .parse .result)) e (c .parse .ensures)
 
 returns-3 : tie.Need-returns-3
 returns-3 c =
-    let a = c .before .before .before .before .before .before .before .args in
+    let a = start (c .before) .args in
     refused-fails (messageFrom (a .b .now) (a .at)) (c .before .parse .result) (parsed-here (c .before)) (no-message (c .before .parse .result) (c .match .keys2))
 
 returns-4 : tie.Need-returns-4
 returns-4 c =
-    let a = c .before .before .before .before .before .before .before .before .before .before .args in
-    let h = c .before .before .parsed .given .0 .0 in
-    let p : Parses (messageFrom (a .b .now) (a .at)) (parsed.Message h) = subst (λ (r : Parsed). Parses (messageFrom (a .b .now) (a .at)) r) (c .before .before .parsed .given .1) (parsed-here (c .before .before .before .before)) in
+    let known = c .before .before in
+    let q = known .before .before in
+    let a = start q .args in
+    let h = known .parsed .given .0 .0 in
+    let p : Parses (messageFrom (a .b .now) (a .at)) (parsed.Message h) = subst (λ (r : Parsed). Parses (messageFrom (a .b .now) (a .at)) r) (known .parsed .given .1) (parsed-here q) in
     let m = parsed-accepted (messageFrom (a .b .now) (a .at)) h p in
-    (record { pass = m .pass; sequence = m .sequence }, c .before .before .before .before .before .before .before .get-u16 .ensures .0)
+    (record { pass = m .pass; sequence = m .sequence }, sized q .get-u16 .ensures .0)
 
 pub read-message-spec : {M : Type 1} → statement M
 read-message-spec =

@@ -1,0 +1,7 @@
+-- The C header gives back what was packed.
+use Prim.Native.Nat.{ℕ}
+use native.Mathlib.Omega.{arith}
+use Rattle.bivamolune.specs.Packing.{packed, AnswerFits, Unpacks}
+
+pub unpacked : (code undos executions : ℕ) → AnswerFits code undos executions → Unpacks (packed code undos executions) code undos executions
+unpacked code undos executions f = record { code-back = omega arith; undos-back = omega arith; executions-back = omega arith }

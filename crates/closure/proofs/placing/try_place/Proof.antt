@@ -1,0 +1,106 @@
+-- A delta that is ready is placed with its effective block; one that is not changes nothing.
+use Prim.Native.Nat.{_+_, _<_}
+use mathlib.Core.Path.{sym, _∙_, ap}
+use lib.ListN.{length, set, length-map}
+use native.Mathlib.Omega.{arith}
+use borrow.Author.Needs.{needs}
+use borrow.Author.Tests.{not-true, not-false}
+use Rattle.table.specs.Table.{messageFrom, setIn}
+use Rattle.needs.specs.Rows.{RowFits}
+use Rattle.needs.specs.RowLaws.{rows-fit}
+use Rattle.closure.specs.Ready.{effectiveIn}
+use Rattle.closure.specs.Closing.{Tried}
+use Rattle.closure.specs.ClosingLaws.{tried-idle, tried-more}
+use Rattle.closure.proofs.placing.try_place.Statement.{statement}
+use Rattle.closure.proofs.placing.try_place.Tie as tie
+
+-- where the delta's row is first read, and where its effective block is known
+abbrev start : tie.After-ready-arg → tie.Start
+start c = c .before .before .before .before .before .before .before .before
+
+abbrev looked : tie.After-effective → tie.After-ready
+looked c = c .before .before .before .before
+
+inside : (s : tie.Start) → s .args .i < length (setIn (s .args .pool .now) (s .args .starts .now) .deltas)
+inside s = omega (arith, length-map (s .args .starts .now) (messageFrom (s .args .pool .now)), s .pre .3)
+
+row : (s : tie.Start) → RowFits (s .args .rows .now) (s .args .counts .now) (s .args .i)
+row s = rows-fit (setIn (s .args .pool .now) (s .args .starts .now)) (s .pre .0) (s .pre .1) (s .args .i) (inside s)
+
+ready-requires : tie.Need-ready-requires
+ready-requires c κs = let s = start c in (row s, s .pre .2 .placing .marks .size, omega (arith, inside s, s .pre .0 .fits))
+
+same-length : tie.Need-same-length
+same-length c = search needs
+
+returns : tie.Need-returns
+returns c =
+    let s = start (c .before .before) in
+    tried-idle (setIn (s .args .pool .now) (s .args .starts .now)) (s .pre .0) (s .args .placed .now) (s .args .blocks .now) (s .args .order .now) (s .args .count) (s .pre .2) (s .args .rows .now) (s .args .counts .now) (s .args .i)
+    (sym (c .before .ready .ensures) ∙ not-true (c .before .ready .result) (c .if1 .taken))
+
+own-block-requires : tie.Need-own-block-requires
+own-block-requires c κs = search needs
+
+effective-requires : tie.Need-effective-requires
+effective-requires c κs = let s = start (c .before .before .before .before) in (row s, s .pre .2 .effective .size)
+
+-- the delta is placed
+placed : (c : tie.After-effective) → let s = start (looked c .before) in
+    Tried (setIn (s .args .pool .now) (s .args .starts .now)) (s .args .rows .now) (s .args .counts .now) (s .args .placed .now) (s .args .count) (s .args .i)
+    (set (s .args .placed .now) (s .args .i) 1) (set (s .args .blocks .now) (s .args .i) (c .effective .result)) (set (s .args .order .now) (s .args .count) (s .args .i)) (s .args .count + 1)
+placed c =
+    let s = start (looked c .before) in
+    tried-more (setIn (s .args .pool .now) (s .args .starts .now)) (s .pre .0) (s .args .placed .now) (s .args .blocks .now) (s .args .order .now) (s .args .count) (s .pre .2) (s .args .rows .now) (s .args .counts .now) (s .args .i)
+    (s .pre .1) (inside s) (sym (looked c .ready .ensures) ∙ not-false (looked c .ready .result) (c .before .before .before .if1 .left)) (c .effective .result)
+    (c .effective .ensures ∙ ap (effectiveIn (s .args .rows .now) (s .args .counts .now) (s .args .blocks .now) (s .args .i)) (c .before .own-block .ensures))
+
+slice-write-placed : tie.Need-slice-write-placed
+slice-write-placed c = let s = start (looked c .before) in omega (arith, inside s, s .pre .0 .fits, s .pre .2 .placing .marks .size)
+
+mul-blocks : tie.Need-mul-blocks
+mul-blocks c = search needs
+
+slice-write-blocks : tie.Need-slice-write-blocks
+slice-write-blocks c = let s = start (looked c .before) in omega (arith, inside s, s .pre .0 .fits, s .pre .2 .effective .size)
+
+cast-order : tie.Need-cast-order
+cast-order c = let s = start (looked c .before) in omega (arith, inside s, s .pre .0 .fits)
+
+slice-write-order : tie.Need-slice-write-order
+slice-write-order c = let s = start (looked c .before) in omega (arith, placed c .closing .few, s .pre .0 .fits, s .pre .2 .size)
+
+add-result : tie.Need-add-result
+add-result c = search needs
+
+same-length-2 : tie.Need-same-length-2
+same-length-2 c = search needs
+
+same-length-3 : tie.Need-same-length-3
+same-length-3 c = search needs
+
+same-length-4 : tie.Need-same-length-4
+same-length-4 c = search needs
+
+returns-2 : tie.Need-returns-2
+returns-2 c = placed c
+
+pub try-place-spec : {M : Type 1} → statement M
+try-place-spec =
+    tie.close
+    (tie.spec
+    ready-requires
+    same-length
+    returns
+    own-block-requires
+    effective-requires
+    slice-write-placed
+    mul-blocks
+    slice-write-blocks
+    cast-order
+    slice-write-order
+    add-result
+    same-length-2
+    same-length-3
+    same-length-4
+    returns-2)

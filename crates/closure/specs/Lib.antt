@@ -1,0 +1,4 @@
+pub mod Ready
+pub mod ReadyLaws
+pub mod Closing
+pub mod ClosingLaws

@@ -1,0 +1,2 @@
+pub mod CommandTests
+pub mod CommandFacts

@@ -1,0 +1,43 @@
+-- The answers as the definitions have them: document 01's number and counts for each case, beside the buffers afterwards.
+use mathlib.Core.Bool.{Bool, true, false}
+use mathlib.Core.List.{List}
+use Prim.Native.Nat.{ℕ}
+use Rattle.model.specs.Calls.{Emptied, Delivered}
+use Rattle.parse.specs.declared.Parsed.{Parsed}
+use Rattle.parse.specs.declared.Parsed.the-variants as parsed
+use Rattle.deliver.specs.declared.answer.Delivery.{Delivery}
+use Rattle.deliver.specs.declared.answer.Delivery.the-variants as delivery
+use Rattle.deliver.specs.declared.answer.Emptying.{Emptying}
+use Rattle.deliver.specs.declared.answer.Emptying.the-variants as emptying
+
+-- a refusal: its number, and no steps
+abbrev pub refusal : ℕ → List ℕ → List ℕ → Delivered
+refusal code image steps = record { code = code; undos = 0; executions = 0; image = image; steps = steps }
+
+abbrev pub deliveredBy : Delivery → List ℕ → List ℕ → Delivered
+deliveredBy (delivery.Accepted undos executions) image steps = record { code = 0; undos = undos; executions = executions; image = image; steps = steps }
+deliveredBy delivery.WrongSize image steps = refusal 1 image steps
+deliveredBy delivery.NoImage image steps = refusal 2 image steps
+deliveredBy delivery.WrongLayout image steps = refusal 3 image steps
+deliveredBy delivery.WrongNumber image steps = refusal 4 image steps
+deliveredBy delivery.WrongDependencies image steps = refusal 5 image steps
+deliveredBy delivery.WrongContent image steps = refusal 6 image steps
+deliveredBy delivery.Conflict image steps = refusal 7 image steps
+deliveredBy delivery.Full image steps = refusal 8 image steps
+
+abbrev pub emptiedBy : Emptying → List ℕ → Emptied
+emptiedBy emptying.Done image = record { code = 0; image = image }
+emptiedBy emptying.WrongSize image = record { code = 1; image = image }
+
+-- the refusal of a message that fails 3 to 6 (of one that passes it is asked nowhere)
+abbrev pub refusalOf : Parsed → Delivery
+refusalOf (parsed.Message h) = delivery.WrongLayout
+refusalOf parsed.WrongLayout = delivery.WrongLayout
+refusalOf parsed.WrongNumber = delivery.WrongNumber
+refusalOf parsed.WrongDependencies = delivery.WrongDependencies
+refusalOf parsed.WrongContent = delivery.WrongContent
+
+-- the answer for a sequence that is there, by whether the bytes are equal
+abbrev pub repeatOf : Bool → Delivery
+repeatOf true = delivery.Accepted 0 0
+repeatOf false = delivery.Conflict

@@ -1,0 +1,63 @@
+-- A delivery has at most 64 undos and 64 executions, so that its answer fits one number.
+use mathlib.Core.Path.{_≡_, refl, sym, _∙_, ap, subst}
+use mathlib.Core.Logic.{_⊎_, inl, inr, ⊎-elim}
+use mathlib.Core.Bool.{not, _||_}
+use mathlib.Core.List.{List}
+use Prim.Native.Nat.{ℕ, zero, suc, _≤_}
+use native.Mathlib.Omega.{arith}
+use lib.ListN.{length, length-map}
+use lib.Dec.{T}
+use Rattle.model.specs.Layout.{capacity}
+use Rattle.model.specs.Message.{Message, sequenceOf}
+use Rattle.model.specs.Order.{State, sequencesOf, logOf}
+use Rattle.model.specs.Image.{imageOf, Valid, stateIn, isImage}
+use Rattle.model.specs.Codes.{wrongSize, smallSteps}
+use Rattle.model.specs.Calls.{Delivered, deliverCode, deliver}
+use Rattle.model.specs.PlainStation.{receive}
+use Rattle.model.specs.Run.{delivery}
+use Rattle.order.specs.TestLaws.{decide, is-false}
+use Rattle.laws.specs.LogLaws.{log-length}
+use Rattle.laws.specs.ImageLaws.{image-own, own-valid}
+use Rattle.laws.specs.DeliverLaws.{receive-valid}
+use Rattle.run_laws.specs.RunLaws.{CallFacts, call-facts}
+use Rattle.deliver.specs.DeliverCases.{code-size, code-no-image, refused-is}
+
+pub record Counted (d : Delivered) : Type 0 where
+  pub undos : d .undos ≤ capacity
+  pub executions : d .executions ≤ capacity
+
+-- what is accepted is an image
+accepted-image : (b : List ℕ) (m : Message) (room : ℕ) → deliverCode b m room ≡ 0 → T (isImage b)
+accepted-image b m room e = ⊎-elim (λ t. t) (λ n. absurd (no (decide (wrongSize b || smallSteps room)) n)) (decide (isImage b))
+  where
+    no : T (wrongSize b || smallSteps room) ⊎ T (not (wrongSize b || smallSteps room)) → T (not (isImage b)) → ⊥
+    no (inl t) n = let z : _≡_ {A = ℕ} 0 1 = sym e ∙ code-size b m room t in omega arith
+    no (inr t) n = let z : _≡_ {A = ℕ} 0 2 = sym e ∙ code-no-image b m room t (is-false (isImage b) n) in omega arith
+
+names-few : (S : State) → Valid S → length (sequencesOf (logOf S)) ≤ capacity
+names-few S v = omega (arith, length-map (logOf S) sequenceOf, log-length S (v .ascends), v .fits)
+
+accepted-counts : (b : List ℕ) (m : Message) (steps : List ℕ) → T (isImage b) → Counted (deliver b m steps)
+accepted-counts b m steps image = record {
+  undos = omega (arith, facts .undos, names-few S valid);
+  executions = omega (arith, facts .executions, names-few (receive S m (length steps)) (receive-valid S valid m (length steps)));
+}
+  where
+    S : State
+    S = stateIn b
+
+    valid : Valid S
+    valid = own-valid b image
+
+    is : b ≡ imageOf S
+    is = image-own b image
+
+    facts : CallFacts S (receive S m (length steps)) (delivery m steps) (deliver b m steps)
+    facts = call-facts S valid (delivery m steps) (deliver b m steps) (ap (λ (i : List ℕ). deliver i m steps) is)
+
+pub deliver-counted : (b : List ℕ) (m : Message) (steps : List ℕ) → Counted (deliver b m steps)
+deliver-counted b m steps = go (deliverCode b m (length steps)) refl
+  where
+    go : (n : ℕ) → deliverCode b m (length steps) ≡ n → Counted (deliver b m steps)
+    go zero e = accepted-counts b m steps (accepted-image b m (length steps) e)
+    go (suc n) e = subst Counted (sym (refused-is b m steps n e)) (record { undos = omega arith; executions = omega arith })

@@ -1,0 +1,20 @@
+// Empty: a station begins.
+use crate::answer::Emptying;
+use crate::refusing::check_image_size;
+use image::put_empty;
+use message::checks::Check;
+ghost use mathlib.Core.Path.{_≡_};
+ghost use Rattle.model.specs.Calls as model;
+ghost use Rattle.deliver.specs.Answer.{emptiedBy};
+
+// Writes the image of no deltas into a buffer of an image's size. A buffer of another size stays as it is.
+pub fn empty(image: &mut [u8]) -> Emptying
+    ensures { λ r. ⌜ emptiedBy r (now (image .exit)) ≡ model.empty (now (image .entry)) ⌝ }
+{
+    let size = check_image_size(image.len());
+    let Check::Right = size else {
+        return Emptying::WrongSize;
+    };
+    put_empty(image);
+    Emptying::Done
+}

@@ -1,0 +1,86 @@
+-- The table and the listed places are lent to the log's check.
+use mathlib.Core.Path.{_≡_, sym}
+use lib.ListN.{length, length-map, length-take}
+use lib.Seq.{length-take-le}
+use native.Mathlib.Omega.{arith}
+use borrow.Author.Needs.{needs}
+use Rattle.model.specs.Layout.{capacity}
+use Rattle.table.specs.Table.{messageFrom, startsOf}
+use Rattle.judged.specs.LogRead.{ReadsLog}
+use Rattle.judged.proofs.judging.check_listed.Statement.{statement}
+use Rattle.judged.proofs.judging.check_listed.Tie as tie
+
+starts-size : (s : tie.Start) → length (s .args .listed .table .starts) ≡ capacity
+starts-size s = search needs
+
+places-size : (s : tie.Start) → length (s .args .listed .places) ≡ capacity
+places-size s = search needs
+
+-- where table and places are taken from what is listed
+abbrev taken : tie.After-places → tie.Start
+taken c = c .before .before .before .before
+
+-- the log as it was read
+read : (s : tie.Start) → ReadsLog (s .args .b .now) (startsOf (s .args .listed .table)) (s .args .listed .logged) (s .args .listed .places)
+read s = s .pre .2 .log
+
+array-share-prefix-starts : tie.Need-array-share-prefix-starts
+array-share-prefix-starts c = let s = taken c in omega (arith, starts-size s, s .pre .1 .fits)
+
+-- the table's own starts
+own-starts : (s : tie.Start) → s .args .listed .table .count ≡ length (startsOf (s .args .listed .table))
+own-starts s = let t = s .args .listed .table in sym (length-take-le (t .count) (t .starts) (omega (arith, starts-size s, s .pre .1 .fits)))
+
+slice-aggregate-prepare : tie.Need-slice-aggregate-prepare
+slice-aggregate-prepare c = own-starts (taken (c .before))
+
+prepare-requires : tie.Need-prepare-requires
+prepare-requires c κs = taken (c .before) .pre .1 .holds
+
+array-share-prefix-starts-2 : tie.Need-array-share-prefix-starts-2
+array-share-prefix-starts-2 c = let s = taken (c .before .before) in omega (arith, starts-size s, s .pre .1 .fits)
+
+-- where the log is lent
+abbrev lent : tie.After-starts3 → tie.After-places
+lent c = c .before .before .before
+
+slice-aggregate-check-log : tie.Need-slice-aggregate-check-log
+slice-aggregate-check-log c = own-starts (taken (lent c))
+
+array-share-prefix-places : tie.Need-array-share-prefix-places
+array-share-prefix-places c = let s = taken (lent c) in omega (arith, places-size s, s .pre .2 .fits)
+
+slice-aggregate-check-log-2 : tie.Need-slice-aggregate-check-log-2
+slice-aggregate-check-log-2 c =
+    let s = taken (lent (c .before)) in
+    let l = s .args .listed in
+    sym (length-take-le (l .logged) (l .places) (omega (arith, places-size s, s .pre .2 .fits)))
+
+check-log-requires : tie.Need-check-log-requires
+check-log-requires c κs =
+    let s = taken (lent (c .before)) in
+    let l = s .args .listed in (
+      s .pre .1 .holds,
+      c .before .before .prepare .ensures,
+      record {
+        few = omega (arith, length-take (l .logged) (l .places), s .pre .2 .fits);
+        small = λ i k. omega (arith, read s .inside i k, length-map (startsOf (l .table)) (messageFrom (s .args .b .now)));
+      },
+    )
+
+returns : tie.Need-returns
+returns c = c .check-log .ensures
+
+pub check-listed-spec : {M : Type 1} → statement M
+check-listed-spec =
+    tie.close
+    (tie.spec
+    array-share-prefix-starts
+    slice-aggregate-prepare
+    prepare-requires
+    array-share-prefix-starts-2
+    slice-aggregate-check-log
+    array-share-prefix-places
+    slice-aggregate-check-log-2
+    check-log-requires
+    returns)

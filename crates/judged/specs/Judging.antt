@@ -1,0 +1,51 @@
+-- What reading and judging an image answers.
+use mathlib.Core.Path.{_≡_}
+use mathlib.Core.Bool.{false}
+use mathlib.Core.List.{List}
+use Prim.Native.Nat.{ℕ, _≤_, _<_}
+use lib.ListN.{length, take}
+use lib.Dec.{T}
+use Rattle.model.specs.Lists.{_∈_}
+use Rattle.model.specs.Layout.{imageSize, capacity}
+use Rattle.model.specs.Order.{logOf}
+use Rattle.model.specs.Image.{isImage}
+use Rattle.message.specs.declared.checks.Check.{Check}
+use Rattle.message.specs.declared.checks.Check.the-variants.{Right, Wrong}
+use Rattle.table.specs.declared.Table.{Table}
+use Rattle.table.specs.Table.{startsOf, deltasOf, deltasAt, setIn, Holds}
+use Rattle.table.specs.Reading.{IsTable}
+use Rattle.judged.specs.declared.judging.Station.{Station}
+use Rattle.judged.specs.LogRead.{ReadsLog}
+
+-- The places of the log.
+abbrev pub placesIn : Station → List ℕ
+placesIn r = take (r .logged) (r .places)
+
+-- The table, and the log as the buffer lists it; nothing is judged yet.
+pub record ListsLog (b : List ℕ) (t : Table) (r : Station) : Type 0 where
+  pub unjudged : r .check ≡ Wrong
+  pub table : r .table ≡ t
+  pub fits : r .logged ≤ capacity
+  pub log : ReadsLog b (startsOf t) (r .logged) (r .places)
+
+-- The listed log is that of the set, and there is a buffer for its image.
+pub record Rewritable (out b : List ℕ) (r : Station) : Type 0 where
+  pub size : length out ≡ imageSize
+  pub holds : Holds b (startsOf (r .table))
+  pub counted : r .table .count ≤ capacity
+  pub fits : r .logged ≤ capacity
+  pub log : deltasAt (deltasOf b (startsOf (r .table))) (placesIn r) ≡ logOf (setIn b (startsOf (r .table)))
+
+pub record IsStation (b : List ℕ) (r : Station) : Type 0 where
+  pub image : T (isImage b)
+  pub table : IsTable b (r .table)
+  pub log : deltasAt (deltasOf b (startsOf (r .table))) (placesIn r) ≡ logOf (setIn b (startsOf (r .table)))
+  pub inside : (i : ℕ) → i ∈ placesIn r → i < length (startsOf (r .table))
+  pub fits : r .logged ≤ capacity
+
+abbrev judgedBy : List ℕ → Station → Check → Type 0
+judgedBy b r Right = IsStation b r
+judgedBy b r Wrong = isImage b ≡ false
+
+abbrev pub Judges : List ℕ → Station → Type 0
+Judges b r = judgedBy b r (r .check)

@@ -1,0 +1,57 @@
+-- A buffer whose messages were read into a table is an image exactly if it is the image of the table's set.
+use mathlib.Core.Path.{_≡_, sym, _∙_, ap, ap₂, subst}
+use mathlib.Core.Bool.{Bool, false, _&&_}
+use mathlib.Core.List.{List}
+use Prim.Native.Nat.{ℕ}
+use lib.ListN.{length, take}
+use lib.Dec.{leb, le→leb}
+use Rattle.model.specs.Lists.{every, same}
+use Rattle.model.specs.Layout.{capacity}
+use Rattle.model.specs.Message.{passes}
+use Rattle.model.specs.Order.{State, logOf}
+use Rattle.model.specs.Image.{imageOf, isImage}
+use Rattle.order.specs.TestLaws.{is-true, false-of, ∈-every}
+use Rattle.laws.specs.ImageLaws.{own-log}
+use Rattle.table.specs.Table.{startsOf, deltasOf, deltasAt, setIn}
+use Rattle.table.specs.declared.Table.{Table}
+use Rattle.table.specs.Reading.{IsTable, ReadsTable}
+use Rattle.message.specs.declared.checks.Check.{Check}
+use Rattle.message.specs.declared.checks.Check.the-variants.{Right, Wrong}
+use Rattle.judged.specs.declared.judging.Station.{Station}
+use Rattle.judged.specs.LogRead.{ReadsLog}
+use Rattle.judged.specs.Judging.{IsStation, Judges}
+
+pub judged : (b : List ℕ) (t : Table) → IsTable b t → isImage b ≡ same (imageOf (setIn b (startsOf t))) b
+unfolding isImage
+judged b t h =
+    ap (λ (R : State). leb (length (R .deltas)) capacity && every passes (R .deltas) && same (imageOf R) b) (sym (h .set))
+    ∙ ap₂ (λ (few right : Bool). few && right && same (imageOf S) b)
+    (is-true (leb (length (S .deltas)) capacity) (le→leb (length (S .deltas)) capacity (h .holds .fits)))
+    (is-true (every passes (S .deltas)) (∈-every passes (S .deltas) (h .holds .pass)))
+  where
+    S : State
+    S = setIn b (startsOf t)
+
+-- ---- by the answer of the reading
+pub read-wrong : (b : List ℕ) (k : Check) (t : Table) → ReadsTable b (record { check = k; table = t }) → k ≡ Wrong → isImage b ≡ false
+read-wrong b k t h e = subst (λ (x : Check). ReadsTable b (record { check = x; table = t })) e h
+
+pub read-right : (b : List ℕ) (k : Check) (t : Table) → ReadsTable b (record { check = k; table = t }) → k ≡ Right → IsTable b t
+read-right b k t h e = subst (λ (x : Check). ReadsTable b (record { check = x; table = t })) e h
+
+-- ---- a buffer whose log is not that of the table's set is no image
+pub other-log : (b : List ℕ) (t : Table) → IsTable b t → (logged : ℕ) (places : List ℕ) → ReadsLog b (startsOf t) logged places
+    → (deltasAt (deltasOf b (startsOf t)) (take logged places) ≡ logOf (setIn b (startsOf t)) → ⊥) → isImage b ≡ false
+other-log b t h logged places r f = false-of (isImage b) (λ i. f (r .log ∙ own-log b i ∙ ap logOf (sym (h .set))))
+
+-- ---- by the answer of the judgement
+pub unjudged : (b : List ℕ) (r : Station) → r .check ≡ Wrong → isImage b ≡ false → Judges b r
+unjudged b r e h = subst (λ (k : Check). Judges b (record { check = k; table = r .table; places = r .places; logged = r .logged })) (sym e) h
+
+pub judges-wrong : (b : List ℕ) (r : Station) → Judges b r → r .check ≡ Wrong → isImage b ≡ false
+judges-wrong b r h e = subst (λ (k : Check). Judges b (record { check = k; table = r .table; places = r .places; logged = r .logged })) e h
+
+pub judges-right : (b : List ℕ) (r : Station) → Judges b r → r .check ≡ Right → IsStation b r
+judges-right b r h e =
+    let s = subst (λ (k : Check). Judges b (record { check = k; table = r .table; places = r .places; logged = r .logged })) e h in
+    record { image = s .image; table = s .table; log = s .log; inside = s .inside; fits = s .fits }

@@ -1,0 +1,4 @@
+pub mod LogRead
+pub mod LogReadLaws
+pub mod Judging
+pub mod JudgingLaws

@@ -1,0 +1,117 @@
+// An image read and judged: code 2.
+use crate::places::read_places;
+use buffer::get_u16;
+use buffer::same;
+use image::write_image;
+use layout::CAPACITY;
+use layout::IMAGE_SIZE;
+use layout::LOG_COUNT_AT;
+use log::checking::check_log;
+use log::preparing::prepare;
+use message::checks::Check;
+use table::Table;
+use table::reading::read_table;
+ghost use mathlib.Core.Path.{_≡_};
+ghost use lib.ListN.{length};
+ghost use Rattle.model.specs.Layout.{imageSize};
+ghost use Rattle.model.specs.Image.{imageOf};
+ghost use Rattle.table.specs.Table.{startsOf, setIn};
+ghost use Rattle.table.specs.Reading.{IsTable};
+ghost use Rattle.log.specs.Checking.{ChecksLog};
+ghost use Rattle.judged.specs.Judging.{ListsLog, Rewritable, placesIn, Judges};
+
+// A judged buffer: whether it is an image, where its messages lie, and the places of its log.
+pub struct Station {
+    pub check: Check,
+    pub table: Table,
+    pub places: [u8; CAPACITY],
+    pub logged: usize,
+}
+
+// A buffer whose messages were read, with its log as it lists it. Nothing is judged yet.
+fn list(b: &[u8], table: Table) -> Station
+    requires { ⌜ (length (now b) ≡ imageSize) × IsTable (now b) table ⌝ }
+    ensures { λ r. ⌜ ListsLog (now (b .entry)) table r ⌝ }
+{
+    let starts = table.starts;
+    let count = table.count;
+    let logged = get_u16(b, LOG_COUNT_AT) as usize;
+    let places = read_places(b, &starts[..count], logged);
+    Station {
+        check: Check::Wrong,
+        table,
+        places,
+        logged,
+    }
+}
+
+// Whether the listed log is the log of the set.
+fn check_listed(b: &[u8], listed: Station) -> Check
+    requires { ⌜ (length (now b) ≡ imageSize) × IsTable (now b) (listed .table) × ListsLog (now b) (listed .table) listed ⌝ }
+    ensures { λ r. ⌜ ChecksLog (setIn (now (b .entry)) (startsOf (listed .table))) (placesIn listed) r ⌝ }
+{
+    let table = listed.table;
+    let starts = table.starts;
+    let count = table.count;
+    let places = listed.places;
+    let logged = listed.logged;
+    let prepared = prepare(b, &starts[..count]);
+    check_log(b, &starts[..count], prepared, &places[..logged])
+}
+
+// Writes the image of a set whose log is listed.
+fn rewrite(out: &mut [u8], b: &[u8], listed: Station)
+    requires { ⌜ Rewritable (now out) (now b) listed ⌝ }
+    ensures { λ _. ⌜ now (out .exit) ≡ imageOf (setIn (now (b .entry)) (startsOf (listed .table))) ⌝ }
+{
+    let table = listed.table;
+    let starts = table.starts;
+    let count = table.count;
+    let places = listed.places;
+    let logged = listed.logged;
+    write_image(out, b, &starts[..count], &places[..logged]);
+}
+
+// Judges a buffer whose messages were read: its log has to be that of their set, and it has to be their image, byte for byte.
+fn judge(b: &[u8], table: Table) -> Station
+    requires { ⌜ (length (now b) ≡ imageSize) × IsTable (now b) table ⌝ }
+    ensures { λ r. ⌜ Judges (now (b .entry)) r ⌝ }
+{
+    let listed = list(b, table);
+    let checked = check_listed(b, listed);
+    let Check::Right = checked else {
+        return listed;
+    };
+    let mut written = [0u8; IMAGE_SIZE];
+    rewrite(&mut written, b, listed);
+    if !same(&written, b) {
+        return listed;
+    }
+    let places = listed.places;
+    let logged = listed.logged;
+    Station {
+        check: Check::Right,
+        table,
+        places,
+        logged,
+    }
+}
+
+// Reads a buffer of an image's size and judges it.
+pub fn read_station(b: &[u8]) -> Station
+    requires { ⌜ length (now b) ≡ imageSize ⌝ }
+    ensures { λ r. ⌜ Judges (now (b .entry)) r ⌝ }
+{
+    let reading = read_table(b);
+    let check = reading.check;
+    let table = reading.table;
+    let Check::Right = check else {
+        return Station {
+            check: Check::Wrong,
+            table,
+            places: [0; CAPACITY],
+            logged: 0,
+        };
+    };
+    judge(b, table)
+}

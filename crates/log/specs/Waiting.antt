@@ -1,0 +1,16 @@
+-- Whether one of the first deltas is ready.
+use mathlib.Core.Path.{_≡_}
+use mathlib.Core.Bool.{Bool, true, false}
+use mathlib.Core.List.{List}
+use Prim.Native.Nat.{ℕ, _≤_, _<_}
+use Rattle.model.specs.Layout.{capacity}
+use Rattle.needs.specs.Rows.{RowFits}
+use Rattle.closure.specs.Ready.{readyIn}
+
+pub record AllFit (rows counts : List ℕ) (count : ℕ) : Type 0 where
+  pub few : count ≤ capacity
+  pub rows-fit : (i : ℕ) → i < count → RowFits rows counts i
+
+abbrev pub AnyReady : List ℕ → List ℕ → List ℕ → ℕ → Bool → Type 0
+AnyReady rows counts placed count true = (i : ℕ) × (i < count) × (readyIn rows counts placed i ≡ true)
+AnyReady rows counts placed count false = (i : ℕ) → i < count → readyIn rows counts placed i ≡ false

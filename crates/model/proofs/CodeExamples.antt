@@ -1,0 +1,227 @@
+-- Examples for every row of the code table, of each call that can meet it, and of what each call answers beside a code.
+-- Inputs and outcomes side by side, and one proof over the list of them.
+use mathlib.Core.Path.{_≡_, refl}
+use mathlib.Core.Bool.{Bool, true, false}
+use mathlib.Core.Option.{Option, some}
+use mathlib.Core.List.{List, [], _∷_, _++_, map}
+use Prim.Native.Nat.{ℕ, zero, suc, _+_, _*_, _-_}
+use lib.ListN.{take, drop, replicate}
+use lib.IntN.{ℤ, pos}
+use Rattle.model.specs.Lists.{same}
+use Rattle.model.specs.Bytes.{bytes}
+use Rattle.model.specs.Layout.{imageSize, stepSize, stepRoom, messageRoom, lineSize, fieldLimit}
+use Rattle.model.specs.Message.{Message, layoutRight, numbersRight, dependenciesRight, contentRight, commandRight, passes}
+use Rattle.model.specs.Order.{stateOf, needs, executablesOf, logOf, heldOf}
+use Rattle.model.specs.Setpoints.{startValues, stop, raise, operate, changeOf, apply, runCommand, runDelta, setpointsOf}
+use Rattle.model.specs.Image.{messagesStart, messagesOf, valuesOf, headerOf, sectionsOf, usedOf, imageOf, messagesStartIn, setOf, isImage}
+use Rattle.model.specs.Steps.{Step, undo, execute, readSteps}
+use Rattle.model.specs.Compose.{messageOf, newDependencies, composed}
+use Rattle.model.specs.Calls.{emptyState, Emptied, empty, Delivered, deliver, deliverCode, Composed, compose, composeCode, logMessage, logMessageCode, Setpoint, setpoint, Reader, start, next}
+use Rattle.model.specs.Program.{printedLine, lastLine, badCut, linesFrom, listing}
+use Rattle.model.proofs.ExampleMessages.{lineNumber, A, B, C, command, plain, urgent, a1, a2, b1, c2, b1-5}
+
+-- ---- the deltas, beside those of the starred examples
+-- "A1 twice, values 1 and 2"
+abbrev a1-value : ℕ → Message
+a1-value v = plain (A 1) [] (command 1 3 (pos v))
+
+-- commands that are right
+abbrev right : List ℕ
+right = command 1 3 (pos 5)
+
+-- deltas of this number, each of a line of its own: of number 1 "lone lines", of number 2 held, since the predecessor is missing
+abbrev lines : ℕ → ℕ → List Message
+lines number zero = []
+lines number (suc n) = plain (lineNumber (100 - n) * 65536 + number) [] right ∷ lines number n
+
+-- ---- a buffer that is lent as an image
+data Buffer : Type 0 where
+  -- the image of these deltas
+  holding : List Message → Buffer
+  -- "image of 16,383"; "L = 1, no message"; the image of no deltas, but with a last byte of 1
+  short noMessage endNotZero : Buffer
+
+abbrev none : Buffer
+none = holding []
+
+abbrev bytesOf : Buffer → List ℕ
+bytesOf (holding l) = imageOf (stateOf (setOf l))
+bytesOf short = take (imageSize - 1) (imageOf emptyState)
+bytesOf noMessage = bytes 2 1 ++ drop 2 (imageOf emptyState)
+bytesOf endNotZero = take (imageSize - 1) (imageOf emptyState) ++ 1 ∷ []
+
+-- ---- a call: what it is given, and what it answers
+data Input : Type 0 where
+  emptyOn : ℕ → Input
+  -- the length of the step buffer last
+  deliverTo : Buffer → Message → ℕ → Input
+  -- line, its size, commands, flag, priority, the length of the message buffer
+  composeOn : Buffer → ℕ → ℕ → List ℕ → ℕ → ℕ → ℕ → Input
+  logMessageOf : Buffer → ℕ → Input
+  setpointOf : Buffer → ℕ → Input
+  -- so many nexts from the start
+  readLog : Buffer → ℕ → Input
+  list : List ℕ → Input
+
+data Outcome : Type 0 where
+  -- the code, and whether the buffer is as it was
+  emptied : ℕ → Bool → Outcome
+  -- code, undos and executions; the steps; whether the image is as it was, and the step buffer past the steps
+  delivered : ℕ → ℕ → ℕ → Option (List Step) → Bool → Bool → Outcome
+  -- code, size and the bytes written; whether the buffer past them is as it was
+  composes : ℕ → ℕ → List ℕ → Bool → Outcome
+  -- the part, and the second call's code
+  part : List ℕ → ℕ → Outcome
+  -- code and value
+  value : ℕ → ℤ → Outcome
+  -- the offset at the start; each part, and the offset after it
+  parts : ℕ → List (List ℕ × ℕ) → Outcome
+  printed : List ℕ → Outcome
+
+abbrev showEmptied : List ℕ → Emptied → Outcome
+showEmptied lent a = emptied (a .code) (same (a .image) lent)
+
+abbrev showDelivered : List ℕ → List ℕ → Delivered → Outcome
+showDelivered b lent d =
+    let n = d .undos + d .executions in
+    delivered (d .code) (d .undos) (d .executions) (readSteps n (d .steps))
+    (same (d .image) b) (same (drop (stepSize * n) (d .steps)) (drop (stepSize * n) lent))
+
+abbrev showComposed : List ℕ → Composed → Outcome
+showComposed lent c = composes (c .code) (c .size) (take (c .size) (c .message)) (same (drop (c .size) (c .message)) (drop (c .size) lent))
+
+abbrev showSetpoint : Setpoint → Outcome
+showSetpoint s = value (s .code) (s .value)
+
+abbrev nexts : ℕ → Reader → List (List ℕ × ℕ)
+nexts zero r = []
+nexts (suc n) r = let a = next r in (a .part, a .reader .offset) ∷ nexts n (a .reader)
+
+-- The buffers that a call writes hold 0xEE before it.
+abbrev lent : ℕ → List ℕ
+lent size = replicate size 0xEE
+
+-- A call on an image, which is made once.
+abbrev onImage : Input → List ℕ → Outcome
+onImage (emptyOn size) b = showEmptied (lent size) (empty (lent size))
+onImage (deliverTo at m room) b = showDelivered b (lent room) (deliver b m (lent room))
+onImage (composeOn at line size commands flag priority room) b =
+    showComposed (lent room) (compose b (bytes size line) commands flag priority (lent room))
+onImage (logMessageOf at place) b = part (logMessage b place) (logMessageCode b place)
+onImage (setpointOf at tag) b = showSetpoint (setpoint b tag)
+onImage (readLog at n) b = parts (start b .offset) (nexts n (start b))
+onImage (list input) b = printed (listing input)
+
+abbrev bufferOf : Input → Buffer
+bufferOf (emptyOn size) = none
+bufferOf (deliverTo b m room) = b
+bufferOf (composeOn b line size commands flag priority room) = b
+bufferOf (logMessageOf b place) = b
+bufferOf (setpointOf b tag) = b
+bufferOf (readLog b n) = b
+bufferOf (list input) = none
+
+abbrev outcomeOf : Input → Outcome
+outcomeOf i = onImage i (bytesOf (bufferOf i))
+
+-- A refusal writes nothing, and its counts and length are 0.
+abbrev refusedDelivery : ℕ → Outcome
+refusedDelivery code = delivered code 0 0 (some []) true true
+
+abbrev refusedCompose : ℕ → Outcome
+refusedCompose code = composes code 0 [] true
+
+-- compose with a right line and room: without the flag, and with it
+abbrev composePlain : Buffer → ℕ → List ℕ → Input
+composePlain b line commands = composeOn b line lineSize commands 0 0 messageRoom
+
+abbrev composeUrgent : Buffer → ℕ → ℕ → Input
+composeUrgent b line priority = composeOn b line lineSize right 1 priority messageRoom
+
+abbrev lineA : ℕ
+lineA = lineNumber 0xA
+
+abbrev lineC : ℕ
+lineC = lineNumber 0xC
+
+-- log A1, B1, and C2 held
+abbrev station : Buffer
+station = holding (a1 ∷ b1 ∷ c2 ∷ [])
+
+examples : List (Input × Outcome)
+examples =
+    -- ---- code by code
+    -- 1: image of 16,383; a step buffer, a message buffer or a line of wrong size
+    (emptyOn (imageSize - 1), emptied 1 true)
+    ∷ (emptyOn imageSize, emptied 0 false)
+    ∷ (deliverTo short a1 stepRoom, refusedDelivery 1)
+    ∷ (deliverTo none a1 2031, refusedDelivery 1)
+    ∷ (composePlain short lineA right, refusedCompose 1)
+    ∷ (composeOn none lineA lineSize right 0 0 199, refusedCompose 1)
+    ∷ (composeOn none lineA 9 right 0 0 messageRoom, refusedCompose 1)
+    ∷ (logMessageOf short 0, part [] 1)
+    ∷ (setpointOf short 3, value 1 (pos 0))
+    -- 2: L = 1, no message
+    ∷ (deliverTo noMessage a1 stepRoom, refusedDelivery 2)
+    ∷ (composePlain noMessage lineA right, refusedCompose 2)
+    ∷ (logMessageOf noMessage 0, part [] 2)
+    ∷ (setpointOf noMessage 3, value 2 (pos 0))
+    ∷ (setpointOf endNotZero 3, value 2 (pos 0))
+    -- 3: 47-byte message; to compose, commands of 15 bytes and of none
+    ∷ (deliverTo none (take 47 a1) stepRoom, refusedDelivery 3)
+    ∷ (composePlain none lineA (take 15 (right ++ right)), refusedCompose 3)
+    ∷ (composePlain none lineA [], refusedCompose 3)
+    -- 4: A0
+    ∷ (deliverTo none (plain (A 0) [] right) stepRoom, refusedDelivery 4)
+    -- 5: A2 naming A1
+    ∷ (deliverTo none (plain (A 2) (A 1 ∷ []) right) stepRoom, refusedDelivery 5)
+    -- 6: tag 64; to compose also a flag of 2, and a priority without the flag
+    ∷ (deliverTo none (plain (A 1) [] (command 1 64 (pos 5))) stepRoom, refusedDelivery 6)
+    ∷ (composePlain none lineA (command 1 64 (pos 5)), refusedCompose 6)
+    ∷ (composeOn none lineA lineSize right 2 0 messageRoom, refusedCompose 6)
+    ∷ (composeOn none lineA lineSize right 0 7 messageRoom, refusedCompose 6)
+    -- 7: A1 twice, values 1 and 2
+    ∷ (deliverTo (holding (a1-value 1 ∷ [])) (a1-value 2) stepRoom, refusedDelivery 7)
+    -- 8: a 65th delta
+    ∷ (deliverTo (holding (lines 2 64)) a2 stepRoom, refusedDelivery 8)
+    -- 9: A3 alone, compose on A
+    ∷ (composePlain (holding (plain (A 3) [] right ∷ [])) lineA right, refusedCompose 9)
+    -- 10: with priority, after block 2147483647
+    ∷ (composeUrgent (holding (urgent (B 1) fieldLimit 5 right ∷ [])) lineC 7, refusedCompose 10)
+    -- 11: nine lone lines, a tenth composes
+    ∷ (composePlain (holding (lines 1 9)) lineA right, refusedCompose 11)
+    -- 12: place 0 of an empty log; tag 64
+    ∷ (logMessageOf none 0, part [] 12)
+    ∷ (setpointOf none 64, value 12 (pos 0))
+    -- ---- deliver: undos and executions apart, and every byte past the steps as it was, the 2,033rd too
+    ∷ (deliverTo (holding (b1 ∷ [])) a1 2033, delivered 0 1 2 (some (undo (B 1) ∷ execute (A 1) ∷ execute (B 1) ∷ [])) false true)
+    -- ---- compose with the flag: block 1 on an empty log, 2 after block 1
+    ∷ (composeUrgent none lineA 0, composes 0 48 (messageOf true (A 1) 1 1 0 [] right) true)
+    ∷ (composeUrgent (holding (b1-5 ∷ [])) lineC 7, composes 0 60 (messageOf true (C 1) 1 2 7 (B 1 ∷ []) right) true)
+    -- ---- log message and its second call: place 1 of the log A1, B1
+    ∷ (logMessageOf station 1, part b1 0)
+    -- ---- setpoint: 1500 - 20 at tag 3
+    ∷ (setpointOf station 3, value 0 (pos 1480))
+    -- ---- the reader: its start, two nexts and one past the end; then on buffers that answer 1 and 2
+    ∷ (readLog station 3, parts 272 ((a1, 320) ∷ (b1, 368) ∷ ([], 368) ∷ []))
+    ∷ (readLog short 1, parts 272 (([], 272) ∷ []))
+    ∷ (readLog noMessage 1, parts 272 (([], 272) ∷ []))
+    -- ---- the listing. B1, A1: "1 0 0 1", "2 0 1 2", "log 2 held 0".
+    ∷ (
+      list (b1 ++ a1),
+      printed (49 ∷ 32 ∷ 48 ∷ 32 ∷ 48 ∷ 32 ∷ 49 ∷ 10
+          ∷ 50 ∷ 32 ∷ 48 ∷ 32 ∷ 49 ∷ 32 ∷ 50 ∷ 10
+          ∷ 108 ∷ 111 ∷ 103 ∷ 32 ∷ 50 ∷ 32 ∷ 104 ∷ 101 ∷ 108 ∷ 100 ∷ 32 ∷ 48 ∷ 10 ∷ []),
+    )
+    -- A rest of five bytes: "1 3 0 0", "log 0 held 0".
+    ∷ (
+      list (1 ∷ 0 ∷ 0 ∷ 1 ∷ 0 ∷ []),
+      printed (49 ∷ 32 ∷ 51 ∷ 32 ∷ 48 ∷ 32 ∷ 48 ∷ 10
+          ∷ 108 ∷ 111 ∷ 103 ∷ 32 ∷ 48 ∷ 32 ∷ 104 ∷ 101 ∷ 108 ∷ 100 ∷ 32 ∷ 48 ∷ 10 ∷ []),
+    )
+    ∷ []
+
+-- Every example has the outcome that stands beside it.
+examples-hold : map (λ e. outcomeOf (e .0)) examples ≡ map (λ e. e .1) examples
+unfolding examples empty deliver deliverCode compose composeCode logMessage logMessageCode setpoint start next listing linesFrom badCut printedLine lastLine composed newDependencies isImage imageOf usedOf sectionsOf headerOf valuesOf messagesOf messagesStart messagesStartIn setpointsOf startValues logOf heldOf executablesOf needs runDelta runCommand apply changeOf operate raise stop passes layoutRight numbersRight dependenciesRight contentRight commandRight
+examples-hold = refl

@@ -1,0 +1,76 @@
+-- The deltas of the examples, and the buffers that their calls are given.
+use mathlib.Core.Bool.{true, false}
+use mathlib.Core.List.{List, [], _∷_, _++_}
+use Prim.Native.Nat.{ℕ, _+_, _*_, _^_}
+use lib.ListN.{replicate}
+use lib.IntN.{ℤ, pos, negsuc}
+use Rattle.model.specs.Bytes.{bytes, word}
+use Rattle.model.specs.Layout.{imageSize, stepRoom}
+use Rattle.model.specs.Message.{Message}
+use Rattle.model.specs.Compose.{messageOf}
+use Rattle.model.specs.Calls.{empty}
+
+-- "Line A is UID 00000000000A, creator 00000001; B and C alike."
+abbrev pub lineNumber : ℕ → ℕ
+lineNumber uid = uid * 2 ^ 32 + 1
+
+abbrev pub A : ℕ → ℕ
+A n = lineNumber 0xA * 65536 + n
+
+abbrev pub B : ℕ → ℕ
+B n = lineNumber 0xB * 65536 + n
+
+abbrev pub C : ℕ → ℕ
+C n = lineNumber 0xC * 65536 + n
+
+abbrev pub command : ℕ → ℕ → ℤ → List ℕ
+command operation tag v = operation ∷ tag ∷ 0 ∷ 0 ∷ bytes 4 (word v)
+
+-- "Group 1 and no dependency unless said."
+abbrev pub plain : ℕ → List ℕ → List ℕ → Message
+plain s dependencies commands = messageOf false s 1 0 0 dependencies commands
+
+abbrev pub urgent : ℕ → ℕ → ℕ → List ℕ → Message
+urgent s block priority commands = messageOf true s 1 block priority [] commands
+
+-- "A1 sets tag 3 to 1500; B1 adds -20 to tag 3."
+abbrev pub a1 : Message
+a1 = plain (A 1) [] (command 1 3 (pos 1500))
+
+abbrev pub a2 : Message
+a2 = plain (A 2) [] (command 1 3 (pos 7))
+
+abbrev pub b1 : Message
+b1 = plain (B 1) [] (command 2 3 (negsuc 19))
+
+abbrev pub c2 : Message
+c2 = plain (C 2) [] (command 2 4 (pos 1))
+
+abbrev pub stopped : Message
+stopped = plain (A 1) [] (command 1 3 (pos 999990) ++ command 2 3 (pos 20) ++ command 2 3 (negsuc 19))
+
+abbrev pub b1-5 : Message
+b1-5 = urgent (B 1) 1 5 (command 2 3 (negsuc 19))
+
+abbrev pub c1-7 : Message
+c1-7 = urgent (C 1) 1 7 (command 2 4 (pos 20))
+
+-- "3 raises the tag to v if it is lower": to 3 it does nothing after 5, to 9 it raises.
+abbrev pub raised : Message
+raised = plain (A 1) [] (command 1 3 (pos 5) ++ command 3 3 (pos 3) ++ command 3 3 (pos 9) ++ command 3 3 (negsuc 0))
+
+abbrev pub a1-group-2 : Message
+a1-group-2 = messageOf false (A 1) 2 0 0 [] (command 1 3 (pos 1500))
+
+abbrev pub a1-naming-b1 : Message
+a1-naming-b1 = plain (A 1) (B 1 ∷ []) (command 1 3 (pos 1500))
+
+abbrev pub b1-naming-a1 : Message
+b1-naming-a1 = plain (B 1) (A 1 ∷ []) (command 2 3 (negsuc 19))
+
+-- ---- a step buffer as lent, and the image that empty writes
+abbrev pub stepBuffer : List ℕ
+stepBuffer = replicate stepRoom 0xEE
+
+abbrev pub begun : List ℕ
+begun = empty (replicate imageSize 0xEE) .image

@@ -1,0 +1,66 @@
+-- A message needs its dependencies, and one more where its sequence has a predecessor.
+use mathlib.Core.Path.{_≡_, sym, _∙_, ap}
+use native.Mathlib.Omega.{arith}
+use borrow.Author.Needs.{needs}
+use Rattle.model.specs.Message.{sequenceOf, predecessorOf}
+use Rattle.sequence.specs.Sequence.{predecessorList}
+use Rattle.needs.specs.WantedLaws.{length-needs, dependencies-lie}
+use Rattle.needs.proofs.wanted.count_needs.Statement.{statement}
+use Rattle.needs.proofs.wanted.count_needs.Tie as tie
+
+-- the start, and the call that counted the dependencies
+abbrev start : tie.After-byte → tie.Start
+start c = c .before .before
+
+abbrev counted : tie.After-predecessor-of → tie.After-byte
+counted c = c .before .before
+
+before-is : (c : tie.After-predecessor-of) → predecessorList (c .predecessor-of .result) ≡ predecessorOf (sequenceOf (start (counted c) .args .m .now))
+before-is c = c .predecessor-of .ensures ∙ ap predecessorOf (c .before .read-sequence .ensures)
+
+byte-requires : tie.Need-byte-requires
+byte-requires c κs = omega (arith, dependencies-lie (c .before .args .m .now) (c .before .pre))
+
+cast-dependencies : tie.Need-cast-dependencies
+cast-dependencies c = search needs
+
+read-sequence-requires : tie.Need-read-sequence-requires
+read-sequence-requires c κs = omega (arith, dependencies-lie (start c .args .m .now) (start c .pre))
+
+predecessor-of-requires : tie.Need-predecessor-of-requires
+predecessor-of-requires c κs = search needs
+
+enum-told : tie.Need-enum-told
+enum-told c = search needs
+
+enum-told-2 : tie.Need-enum-told-2
+enum-told-2 c = search needs
+
+returns : tie.Need-returns
+returns c =
+    let p = c .before .before in
+    let none = ap predecessorList (sym (c .enum-told2 .given .1)) ∙ before-is p in
+    omega (arith, length-needs (start (counted p) .args .m .now) none, counted p .byte .ensures)
+
+add-result : tie.Need-add-result
+add-result c = search needs
+
+returns-2 : tie.Need-returns-2
+returns-2 c =
+    let p = c .before .before in
+    let one = ap predecessorList (sym (c .enum-told .given .1)) ∙ before-is p in
+    omega (arith, length-needs (start (counted p) .args .m .now) one, counted p .byte .ensures)
+
+pub count-needs-spec : {M : Type 1} → statement M
+count-needs-spec =
+    tie.close
+    (tie.spec
+    byte-requires
+    cast-dependencies
+    read-sequence-requires
+    predecessor-of-requires
+    enum-told
+    enum-told-2
+    returns
+    add-result
+    returns-2)

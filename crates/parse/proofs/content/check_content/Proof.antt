@@ -1,0 +1,106 @@
+-- Group, then block and priority, then the commands: the definition's test in its order.
+use native.Mathlib.Omega.{arith}
+use mathlib.Core.Path.{_≡_, refl, sym, _∙_, ap}
+use mathlib.Core.Bool.{Bool, _&&_}
+use Prim.Native.Nat.{ℕ, _-_}
+use lib.ListN.{length, take, drop, length-drop}
+use lib.Seq.{take-all}
+use borrow.Author.Tests.{le-leb, lt-leb}
+use Rattle.model.specs.Lists.{every}
+use Rattle.model.specs.Layout.{fieldLimit}
+use Rattle.model.specs.Message.{Message, commandsStart, groupOf, commandsOf, commandRight, contentRight}
+use Rattle.message.specs.Check.{right}
+use Rattle.commands.specs.CommandTests.{commandsRight}
+use Rattle.parse.specs.ContentLaws.{content-is, commands-past}
+use borrow.Author.Needs.{needs}
+use Rattle.parse.proofs.content.check_content.Statement.{statement}
+use Rattle.parse.proofs.content.check_content.Tie as tie
+
+abbrev start : tie.After-get-u32 → tie.Start
+start c = c .before .before
+
+abbrev begun : tie.After-check-priority → tie.Start
+begun c = start (c .before .before)
+
+abbrev bytes : tie.After-check-priority → Message
+bytes c = begun c .args .m .now
+
+-- the group is within its limit: block and priority decide next
+by-priority : (c : tie.After-check-priority) {t e : Bool} → right (c .check-priority .result) ≡ t → every commandRight (commandsOf (bytes c)) ≡ e → contentRight (bytes c) ≡ t && e
+by-priority c p e = content-is (bytes c) (le-leb (groupOf (bytes c)) fieldLimit (omega arith)) (sym (c .check-priority .ensures) ∙ p) e
+
+get-u32-requires : tie.Need-get-u32-requires
+get-u32-requires c κs = search needs
+
+returns : tie.Need-returns
+returns c =
+    let m = start (c .before) .args .m .now in
+    sym (content-is m (lt-leb (groupOf m) fieldLimit (omega arith)) refl refl)
+
+check-priority-requires : tie.Need-check-priority-requires
+check-priority-requires c κs = search needs
+
+enum-told : tie.Need-enum-told
+enum-told c = search needs
+
+enum-told-2 : tie.Need-enum-told-2
+enum-told-2 c = search needs
+
+returns-2 : tie.Need-returns-2
+returns-2 c = sym (by-priority (c .before .before) (ap right (c .enum-told2 .given .1)) refl)
+
+byte-requires : tie.Need-byte-requires
+byte-requires c κs = search needs
+
+cast-dependencies : tie.Need-cast-dependencies
+cast-dependencies c = search needs
+
+mul-from : tie.Need-mul-from
+mul-from c = search needs
+
+add-from : tie.Need-add-from
+add-from c = search needs
+
+sub-check-commands : tie.Need-sub-check-commands
+sub-check-commands c = search needs
+
+part-check-commands-start : tie.Need-part-check-commands-start
+part-check-commands-start c = search needs
+
+part-check-commands-end : tie.Need-part-check-commands-end
+part-check-commands-end c = search needs
+
+check-commands-requires : tie.Need-check-commands-requires
+check-commands-requires c κs = search needs
+
+returns-3 : tie.Need-returns-3
+returns-3 c =
+    let read = c .before .before in
+    let told = read .before in
+    let checked = told .before .before in
+    let m = bytes checked in
+    let from = commandsStart (read .byte .result) in
+    let handed : right (c .check-commands .result) ≡ commandsRight (take (length m - from) (drop from m)) = c .check-commands .ensures in
+    handed ∙ ap commandsRight (take-all (length m - from) (drop from m) (omega (arith, length-drop from m)))
+    ∙ ap (λ (n : ℕ). commandsRight (drop (commandsStart n) m)) (read .byte .ensures .0)
+    ∙ sym (commands-past m (begun checked .pre)) ∙ sym (by-priority checked (ap right (told .enum-told .given .1)) refl)
+
+pub check-content-spec : {M : Type 1} → statement M
+check-content-spec =
+    tie.close
+    (tie.spec
+    get-u32-requires
+    returns
+    check-priority-requires
+    enum-told
+    enum-told-2
+    returns-2
+    byte-requires
+    cast-dependencies
+    mul-from
+    add-from
+    sub-check-commands
+    part-check-commands-start
+    part-check-commands-end
+    check-commands-requires
+    returns-3)

@@ -1,0 +1,4 @@
+pub mod Content
+pub mod ContentLaws
+pub mod Parsed
+pub mod ParsedLaws

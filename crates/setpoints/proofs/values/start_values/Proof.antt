@@ -1,0 +1,12 @@
+-- The array of zeros is the list of them.
+use mathlib.Core.Path.{refl}
+use Rattle.model.specs.Setpoints.{startValues}
+use Rattle.setpoints.proofs.values.start_values.Statement.{statement}
+use Rattle.setpoints.proofs.values.start_values.Tie as tie
+
+returns : tie.Need-returns
+unfolding startValues
+returns c = λ S. refl
+
+pub start-values-spec : {M : Type 1} → statement M
+start-values-spec = tie.close (tie.spec returns)

@@ -1,0 +1,57 @@
+// A command's change of the setpoints, as a value: made from the command and the values, then applied to them.
+use crate::integers::of_word;
+use crate::operations::operate;
+use buffer::byte;
+use buffer::get_u32;
+use layout::OPERATION_AT;
+use layout::TAG_AT;
+use layout::VALUE_AT;
+ghost use mathlib.Core.Path.{_≡_};
+ghost use Prim.Native.Nat.{_+_, _≤_};
+ghost use lib.IntN.{pos};
+ghost use lib.ListN.{length, take, drop, getD};
+ghost use Rattle.model.specs.Layout.{commandSize};
+ghost use Rattle.model.specs.Setpoints as model;
+ghost use Rattle.setpoints.specs.Changes.{changeIn};
+
+// A command's tag, and the tag's value before and after it.
+pub struct Change {
+    pub tag: usize,
+    pub before: i32,
+    pub after: i32,
+}
+
+// The value of a tag. A tag past the last one has none, and reads as 0.
+fn value_of(values: &[i32], tag: usize) -> i32
+    ensures { λ r. ⌜ r ≡ getD (now (values .entry)) tag (pos 0) ⌝ }
+{
+    if tag < values.len() {
+        return values[tag];
+    }
+    0
+}
+
+// The change that the command at a place makes.
+pub fn change_of(values: &[i32], c: &[u8], at: usize) -> Change
+    requires { ⌜ at + commandSize ≤ length (now c) ⌝ }
+    ensures { λ r. ⌜ changeIn r ≡ model.changeOf (take commandSize (drop at (now (c .entry)))) (now (values .entry)) ⌝ }
+{
+    let operation = byte(c, at + OPERATION_AT);
+    let tag = byte(c, at + TAG_AT) as usize;
+    let v = of_word(get_u32(c, at + VALUE_AT));
+    let before = value_of(values, tag);
+    let after = operate(operation, before, v);
+    Change { tag, before, after }
+}
+
+// Sets a change's tag to the value after. A tag past the last one changes nothing.
+pub fn apply(values: &mut [i32], change: Change)
+    ensures { λ _. ⌜ now (values .exit) ≡ model.apply (changeIn change) (now (values .entry)) ⌝ }
+{
+    let tag = change.tag;
+    let after = change.after;
+    if values.len() <= tag {
+        return;
+    }
+    values[tag] = after;
+}

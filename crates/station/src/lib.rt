@@ -1,9 +1,0 @@
-// The calls of a station: empty and deliver.
-pub mod accepting;
-pub mod answer;
-pub mod delivery;
-pub mod emptying;
-pub mod limits;
-pub mod ordering;
-pub mod reading;
-pub mod refusing;

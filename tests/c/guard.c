@@ -1,0 +1,267 @@
+/* A host whose buffers end, and then begin, at a page that may not be touched, and whose read-only buffers are mapped
+ * read-only. It makes the calls that it reads from standard input (written by the program guard_cases), then calls with
+ * hostile sizes and starts, and compares no result: it fails if a call touches a byte that is not its own. The library's
+ * compiler put no checks into it, so that a sanitizer of the host sees only the host; a page sees every access.
+ *
+ * It ends with 1, and a line that says what was touched, at the first such access. The last line counts the calls.
+ * With the word `codes` it also fails unless deliver answered each of its codes, so that no part of it was left out. */
+#define _DEFAULT_SOURCE
+#include "bivamolune.h"
+
+#include <signal.h>
+#include <stdio.h>
+#include <stdlib.h>
+#include <string.h>
+#include <sys/mman.h>
+#include <unistd.h>
+
+/* The library has it or not; the linker leaves a null where it has not. */
+__attribute__((weak)) uint32_t bivamolune_compose(const uint8_t *image, size_t image_size, const uint8_t *line, size_t line_size,
+                                                  const uint8_t *commands, size_t commands_size, uint32_t priority_flag,
+                                                  uint32_t priority, uint8_t *message, size_t message_size);
+
+#define PAGES 8u
+#define MOST (PAGES * 4096u)
+#define REST 0x5Au
+
+/* Some pages between two that may not be touched. A buffer lies at their end, at their start, or some bytes after that. */
+struct area {
+    const char *name;
+    uint8_t *pages;
+    uint8_t *at;
+    size_t size;
+};
+
+static struct area image = {"the image", NULL, NULL, 0}, message = {"the message", NULL, NULL, 0},
+                   steps = {"the steps", NULL, NULL, 0}, line = {"the line", NULL, NULL, 0},
+                   commands = {"the commands", NULL, NULL, 0};
+static struct area *const areas[] = {&image, &message, &steps, &line, &commands};
+enum { AREAS = sizeof areas / sizeof areas[0] };
+
+enum place { AT_END, AT_START, UNALIGNED };
+static enum place place = AT_END;
+static size_t shift;
+
+static const char *call = "nothing";
+static unsigned long calls;
+static unsigned answered[256];
+
+/* ---- what was touched */
+static void die(const char *text) {
+    size_t left = strlen(text);
+    while (left > 0) {
+        ssize_t n = write(STDOUT_FILENO, text, left);
+        if (n <= 0) break;
+        text += n;
+        left -= (size_t)n;
+    }
+    _exit(1);
+}
+
+static void touched(int signal, siginfo_t *info, void *context) {
+    char text[200];
+    const uint8_t *at = (const uint8_t *)info->si_addr;
+    (void)signal;
+    (void)context;
+    for (size_t i = 0; i < AREAS; i++) {
+        const struct area *a = areas[i];
+        if (at < a->pages - 4096 || at >= a->pages + MOST + 4096) continue;
+        const char *what = at >= a->at + a->size ? "touched a byte past" : at < a->at ? "touched a byte before" : "wrote into";
+        snprintf(text, sizeof text, "call %lu, %s: %s %s\n", calls, call, what, a->name);
+        die(text);
+    }
+    snprintf(text, sizeof text, "call %lu, %s: touched a byte of no buffer\n", calls, call);
+    die(text);
+}
+
+/* ---- buffers */
+static void map(struct area *a) {
+    uint8_t *all = (uint8_t *)mmap(NULL, MOST + 2 * 4096, PROT_NONE, MAP_PRIVATE | MAP_ANONYMOUS, -1, 0);
+    if (all == MAP_FAILED || mprotect(all + 4096, MOST, PROT_READ | PROT_WRITE) != 0) die("no pages\n");
+    a->pages = all + 4096;
+}
+
+/* Lays a buffer down at the place that is tried; the bytes around it get a known value. */
+static void lay(struct area *a, const uint8_t *bytes, size_t size, int read_only) {
+    if (size + shift > MOST) die("a buffer too large for this program\n");
+    if (mprotect(a->pages, MOST, PROT_READ | PROT_WRITE) != 0) die("mprotect\n");
+    memset(a->pages, REST, MOST);
+    a->at = place == AT_END ? a->pages + MOST - size : place == AT_START ? a->pages : a->pages + shift;
+    a->size = size;
+    if (bytes != NULL) memcpy(a->at, bytes, size);
+    if (read_only && mprotect(a->pages, MOST, PROT_READ) != 0) die("mprotect\n");
+}
+
+/* The bytes around a buffer are as they were. */
+static void around(const struct area *a) {
+    for (const uint8_t *p = a->pages; p < a->pages + MOST; p++) {
+        if (p == a->at) p += a->size;
+        if (p < a->pages + MOST && *p != REST) {
+            char text[200];
+            snprintf(text, sizeof text, "call %lu, %s: wrote a byte %s %s\n", calls, call, p < a->at ? "before" : "past", a->name);
+            die(text);
+        }
+    }
+}
+
+/* ---- calls */
+static void begin_call(const char *name) {
+    call = name;
+    calls++;
+}
+
+static uint32_t empty(const uint8_t *bytes, size_t size) {
+    uint32_t answer;
+    begin_call("empty");
+    lay(&image, bytes, size, 0);
+    answer = bivamolune_empty(image.at, size);
+    around(&image);
+    return answer;
+}
+
+static uint32_t deliver(const uint8_t *bytes, size_t size, const uint8_t *delta, size_t delta_size, size_t room) {
+    uint32_t answer;
+    begin_call("deliver");
+    lay(&image, bytes, size, 0);
+    lay(&message, delta, delta_size, 1);
+    lay(&steps, NULL, room, 0);
+    answer = bivamolune_deliver(image.at, size, message.at, delta_size, steps.at, room);
+    answered[bivamolune_code(answer)]++;
+    around(&image);
+    around(&steps);
+    return answer;
+}
+
+struct request {
+    const uint8_t *line, *commands;
+    size_t line_size, commands_size;
+    uint32_t flag, priority;
+};
+
+static void compose(const uint8_t *bytes, size_t size, const struct request *r, size_t room) {
+    if (bivamolune_compose == NULL) return;
+    begin_call("compose");
+    lay(&image, bytes, size, 1);
+    lay(&line, r->line, r->line_size, 1);
+    lay(&commands, r->commands, r->commands_size, 1);
+    lay(&message, NULL, room, 0);
+    bivamolune_compose(image.at, size, line.at, r->line_size, commands.at, r->commands_size, r->flag, r->priority, message.at, room);
+    around(&message);
+}
+
+/* ---- the generator's calls: a letter, then each buffer as a size and its bytes, then numbers; all numbers of four bytes */
+static uint32_t number(void) {
+    uint32_t n;
+    if (fread(&n, sizeof n, 1, stdin) != 1) die("the input ends early\n");
+    return n;
+}
+
+static size_t buffer(uint8_t *into) {
+    size_t size = number();
+    if (size > MOST || fread(into, 1, size, stdin) != size) die("the input ends early\n");
+    return size;
+}
+
+static void run_input(void) {
+    static uint8_t one[MOST], two[MOST], three[MOST];
+    for (int letter = getchar(); letter != EOF; letter = getchar()) {
+        size_t size = buffer(one), second = 0, third = 0;
+        uint32_t flag = 0, priority = 0, room = 0;
+        if (letter == 'd') {
+            second = buffer(two);
+            room = number();
+        } else if (letter == 'c') {
+            second = buffer(two);
+            third = buffer(three);
+            flag = number();
+            priority = number();
+            room = number();
+        }
+        struct request r = {two, three, second, third, flag, priority};
+        for (place = AT_END; place <= AT_START; place = (enum place)(place + 1)) {
+            if (letter == 'e') empty(one, size);
+            else if (letter == 'd') deliver(one, size, two, second, room);
+            else if (letter == 'c') compose(one, size, &r, room);
+            else die("a letter that means no call\n");
+        }
+    }
+}
+
+/* ---- hostile sizes and starts */
+static const uint8_t a1[48] = {1, 0, 0, 1, 0, 48, 0, 40, 0, 40, 0, 0, 0, 0, 0, 0, 0, 10, 0, 0, 0, 1, 0, 1,
+                               0, 0, 0, 1, 0, 0, 0, 0, 0, 0, 0, 0, 0, 0, 0, 0, 1, 3, 0, 0, 0, 0, 5, 220};
+static const size_t image_sizes[] = {0, 1, 2, 15, 16, 17, 271, 272, 273, 16383, 16384, 16385, 20000};
+static const size_t message_sizes[] = {0, 1, 2, 11, 39, 40, 41, 47, 48, 49, 199, 200, 201, 4096};
+static const size_t step_sizes[] = {0, 1, 15, 16, 17, 2031, 2032, 2033, 4096};
+
+/* An image, grown by zeros, and messages of four kinds: right, one that claims the most, all ones, and random. */
+static void run_sizes(const uint8_t *right) {
+    static uint8_t grown[MOST];
+    static uint8_t kinds[4][4096];
+    memcpy(grown, right, BIVAMOLUNE_IMAGE_SIZE);
+    for (size_t i = 0; i < 4096; i++) kinds[3][i] = (uint8_t)(i * 2654435761u >> 13);
+    memcpy(kinds[0], a1, sizeof a1);
+    memcpy(kinds[1], a1, sizeof a1);
+    kinds[1][2] = kinds[1][3] = 8;
+    kinds[1][5] = 200;
+    kinds[1][9] = 136;
+    memset(kinds[2], 255, sizeof kinds[2]);
+    for (size_t i = 0; i < sizeof image_sizes / sizeof image_sizes[0]; i++) {
+        empty(grown, image_sizes[i]);
+        for (size_t m = 0; m < sizeof message_sizes / sizeof message_sizes[0]; m++)
+            for (size_t s = 0; s < sizeof step_sizes / sizeof step_sizes[0]; s++)
+                for (size_t kind = 0; kind < 4; kind++)
+                    deliver(grown, image_sizes[i], kinds[kind], message_sizes[m], step_sizes[s]);
+    }
+}
+
+/* A null pointer with size 0 in the place of each buffer, and of all. */
+static void run_nulls(const uint8_t *right) {
+    for (unsigned which = 1; which < 8; which++) {
+        size_t sizes[3] = {which & 1 ? 0 : BIVAMOLUNE_IMAGE_SIZE, which & 2 ? 0 : sizeof a1, which & 4 ? 0 : BIVAMOLUNE_STEP_ROOM};
+        begin_call("deliver with null");
+        lay(&image, right, sizes[0], 0);
+        lay(&message, a1, sizes[1], 1);
+        lay(&steps, NULL, sizes[2], 0);
+        bivamolune_deliver(which & 1 ? NULL : image.at, sizes[0], which & 2 ? NULL : message.at, sizes[1],
+                           which & 4 ? NULL : steps.at, sizes[2]);
+    }
+    begin_call("empty with null");
+    bivamolune_empty(NULL, 0);
+    if (bivamolune_compose == NULL) return;
+    begin_call("compose with null");
+    lay(&image, right, BIVAMOLUNE_IMAGE_SIZE, 1);
+    bivamolune_compose(image.at, image.size, NULL, 0, NULL, 0, 0, 0, NULL, 0);
+    bivamolune_compose(NULL, 0, NULL, 0, NULL, 0, 0, 0, NULL, 0);
+}
+
+static void run_hostile(void) {
+    static uint8_t right[BIVAMOLUNE_IMAGE_SIZE];
+    bivamolune_empty(right, sizeof right);
+    place = AT_END;
+    run_sizes(right);
+    run_nulls(right);
+    place = AT_START;
+    run_sizes(right);
+    place = UNALIGNED;
+    for (shift = 1; shift < 16; shift++) {
+        empty(right, sizeof right);
+        deliver(right, sizeof right, a1, sizeof a1, BIVAMOLUNE_STEP_ROOM);
+        deliver(right, sizeof right, a1, sizeof a1 - 1, BIVAMOLUNE_STEP_ROOM);
+    }
+}
+
+int main(int count, char **words) {
+    struct sigaction action;
+    memset(&action, 0, sizeof action);
+    action.sa_sigaction = touched;
+    action.sa_flags = SA_SIGINFO;
+    if (sigaction(SIGSEGV, &action, NULL) != 0 || sigaction(SIGBUS, &action, NULL) != 0) die("sigaction\n");
+    for (size_t i = 0; i < AREAS; i++) map(areas[i]);
+    run_input();
+    run_hostile();
+    for (unsigned code = 0; count > 1 && strcmp(words[1], "codes") == 0 && code <= BIVAMOLUNE_FULL; code++)
+        if (answered[code] == 0) die("deliver did not answer each of its codes\n");
+    printf("%lu calls, no byte touched that was not the call's own\n", calls);
+    return 0;
+}

@@ -1,0 +1,15 @@
+// The header as C++ reads it: twice without harm, each type by its plain name, each constant where one is needed.
+#include "bivamolune.h"
+#include "bivamolune.h"
+
+static_assert(BIVAMOLUNE_FULL == 8 && BIVAMOLUNE_ACCEPTED == 0, "codes are constants");
+
+int main() {
+    const bivamolune_result wanted = BIVAMOLUNE_ACCEPTED;
+    static uint8_t image[BIVAMOLUNE_IMAGE_SIZE];
+    static uint8_t steps[BIVAMOLUNE_STEP_ROOM];
+    const uint8_t message[BIVAMOLUNE_MESSAGE_LEAST] = {};
+    if (bivamolune_empty(image, sizeof image) != wanted) return 1;
+    const uint32_t answer = bivamolune_deliver(image, sizeof image, message, sizeof message, steps, sizeof steps);
+    return bivamolune_code(answer) == BIVAMOLUNE_WRONG_LAYOUT ? 0 : 1;
+}

@@ -1,0 +1,93 @@
+//! Writes the calls of the generator's first seeds to standard output, for the host with
+//! guarded pages (`c/guard.c`), which makes them on the library.
+//!
+//! `guard_cases COUNT`, the number of seeds. A call is a letter, then each buffer that it
+//! reads as a size and its bytes, then its numbers, all numbers of four bytes.
+
+#![deny(warnings)]
+
+use std::cell::RefCell;
+use std::env;
+use std::io::{self, Write};
+use std::process::ExitCode;
+
+use bivamolune_tests::boundary::{Calls, Reference};
+use bivamolune_tests::call::World;
+use bivamolune_tests::generate::case;
+use bivamolune_tests::reference::compose::Request;
+
+/// The second implementation, which writes down what it was called with.
+#[derive(Default)]
+struct Recorder {
+    written: RefCell<Vec<u8>>,
+}
+
+impl Recorder {
+    fn letter(&self, letter: u8) {
+        self.written.borrow_mut().push(letter);
+    }
+
+    fn number(&self, number: u32) {
+        self.written.borrow_mut().extend(number.to_ne_bytes());
+    }
+
+    fn buffer(&self, bytes: &[u8]) {
+        self.number(bytes.len() as u32);
+        self.written.borrow_mut().extend(bytes);
+    }
+}
+
+impl Calls for Recorder {
+    fn empty(&self, image: &mut [u8]) -> u32 {
+        self.letter(b'e');
+        self.buffer(image);
+        Reference.empty(image)
+    }
+
+    fn deliver(&self, image: &mut [u8], message: &[u8], steps: &mut [u8]) -> u32 {
+        self.letter(b'd');
+        self.buffer(image);
+        self.buffer(message);
+        self.number(steps.len() as u32);
+        Reference.deliver(image, message, steps)
+    }
+
+    fn compose(&self, image: &[u8], request: &Request, message: &mut [u8]) -> u32 {
+        self.letter(b'c');
+        self.buffer(image);
+        self.buffer(request.line);
+        self.buffer(request.commands);
+        self.number(request.priority_flag);
+        self.number(request.priority);
+        self.number(message.len() as u32);
+        Reference.compose(image, request, message)
+    }
+}
+
+fn main() -> ExitCode {
+    let count = env::args().nth(1).and_then(|word| word.parse().ok());
+    let written = count.map(|count: u64| (0..count).try_for_each(write_case));
+    match written {
+        Some(Ok(())) => ExitCode::SUCCESS,
+        Some(Err(error)) => {
+            eprintln!("guard_cases: {error}");
+            ExitCode::FAILURE
+        }
+        None => {
+            eprintln!("usage: guard_cases COUNT");
+            ExitCode::from(2)
+        }
+    }
+}
+
+/// Makes the calls of a seed, and writes them.
+fn write_case(seed: u64) -> io::Result<()> {
+    let recorder = Recorder::default();
+    let mut world = World::default();
+    for call in case(seed) {
+        let outcome = world.perform(&recorder, &call);
+        world.follow(&call, &outcome);
+    }
+    let written = recorder.written.borrow();
+    io::stdout().lock().write_all(&written)
+}

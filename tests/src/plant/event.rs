@@ -1,0 +1,66 @@
+//! What happens in a plant, in order: who composed, executed and undid what, and when.
+
+use std::fmt::{self, Display, Formatter};
+
+use crate::call::hex;
+use crate::wire::Sequence;
+
+/// Something that happened at a time, which is counted from 1.
+#[derive(Clone, Debug, PartialEq, Eq)]
+pub struct Event {
+    pub time: usize,
+    pub what: What,
+}
+
+/// Stations are counted from 0.
+#[derive(Clone, Debug, PartialEq, Eq)]
+pub enum What {
+    /// A delta was composed; with priority, its block and priority.
+    Composed(usize, Sequence, Option<(u32, u32)>),
+    /// A compose was refused by this code.
+    NotComposed(usize, u32),
+    /// A message of a sequence was delivered, with this code.
+    Delivered(usize, Sequence, u32),
+    /// The steps of the delivery, in order.
+    Undone(usize, Sequence),
+    Executed(usize, Sequence),
+    /// The image was saved.
+    Saved(usize),
+    /// The station began again from the image it had saved.
+    Restarted(usize),
+    /// A message set out, from a station to another.
+    Sent(usize, usize, Sequence),
+    /// A message on its way to a station was lost.
+    Lost(usize, Sequence),
+    /// The network fell apart, or came together: the side of each station.
+    Sides(Vec<bool>),
+    /// From here on everything reaches all.
+    Exchange,
+}
+
+impl Display for Event {
+    /// Time, station (or - for the network), what, and of what.
+    fn fmt(&self, f: &mut Formatter<'_>) -> fmt::Result {
+        write!(f, "{} ", self.time)?;
+        match &self.what {
+            What::Composed(at, own, None) => write!(f, "{at} compose {}", hex(own)),
+            What::Composed(at, own, Some((block, priority))) => {
+                let own = hex(own);
+                write!(f, "{at} compose {own} block {block} priority {priority}")
+            }
+            What::NotComposed(at, code) => write!(f, "{at} no-compose code {code}"),
+            What::Delivered(at, own, code) => write!(f, "{at} deliver {} code {code}", hex(own)),
+            What::Undone(at, own) => write!(f, "{at} undo {}", hex(own)),
+            What::Executed(at, own) => write!(f, "{at} execute {}", hex(own)),
+            What::Saved(at) => write!(f, "{at} save"),
+            What::Restarted(at) => write!(f, "{at} restart"),
+            What::Sent(at, to, own) => write!(f, "{at} send {} to {to}", hex(own)),
+            What::Lost(to, own) => write!(f, "- lose {} to {to}", hex(own)),
+            What::Sides(sides) => {
+                let sides: String = sides.iter().map(|s| if *s { '1' } else { '0' }).collect();
+                write!(f, "- sides {sides}")
+            }
+            What::Exchange => write!(f, "- exchange"),
+        }
+    }
+}

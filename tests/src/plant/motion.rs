@@ -1,0 +1,246 @@
+//! The plant's day: operators compose, packets arrive, stations save and begin again.
+
+use std::collections::{BTreeMap, BTreeSet};
+
+use super::event::{Event, What};
+use super::network::Network;
+use super::run::Run;
+use super::station::{Delivery, Station, Step};
+use super::Duty;
+use crate::boundary::Calls;
+use crate::call::Composing;
+use crate::generate::{drafts, nearly_right, LINES};
+use crate::random::Random;
+use crate::view::{sequence_of, u32_at};
+use crate::wire::{command, Draft, Line, Sequence};
+
+/// The stations, the network between, and all that has happened.
+pub struct Plant<'a> {
+    calls: &'a dyn Calls,
+    duty: Duty,
+    pub random: Random,
+    pub stations: Vec<Station>,
+    pub network: Network,
+    pub outside: Outside,
+    /// Right messages that set out, by sequence.
+    pub sent: BTreeMap<Sequence, BTreeSet<Vec<u8>>>,
+    pub time: usize,
+    events: Vec<Event>,
+    /// How many deltas may still be composed: there is room for all in the end.
+    budget: usize,
+    /// The chance of an operator's turn, and of a crash at each point of a compose.
+    pace: usize,
+    crash: usize,
+}
+
+/// Messages from outside: right ones of lines that no station has, and wrong ones with
+/// their code.
+#[derive(Clone, Debug)]
+pub struct Outside {
+    pub right: Vec<Vec<u8>>,
+    pub wrong: BTreeMap<Vec<u8>, u32>,
+}
+
+impl Outside {
+    fn new(random: &mut Random) -> Outside {
+        let right = match random.below(6) {
+            0 | 1 => Vec::new(),
+            // As many ends for each log as lines.
+            2 => LINES.iter().map(|line| Draft::new(*line, 1)).collect(),
+            _ => {
+                let count = random.pick(&[1, 4, 12]);
+                drafts(random, count)
+            }
+        };
+        let some = right.iter().take(4);
+        let wrong = some.map(|draft| nearly_right(random, draft));
+        Outside {
+            wrong: wrong.map(|(code, message)| (message, code)).collect(),
+            right: right.iter().map(Draft::bytes).collect(),
+        }
+    }
+}
+
+impl<'a> Plant<'a> {
+    /// The plant of a seed, before anything happens.
+    pub fn new(calls: &'a dyn Calls, seed: u64, duty: Duty) -> Result<Plant<'a>, String> {
+        let mut random = Random::new(seed);
+        let count = random.pick(&[2, 3, 3, 4, 4, 5, 6, 10]);
+        let lines = random.pick(&[1, 1, 1, 2]);
+        let station = |at| Station::new(calls, own_lines(&mut random, at, lines));
+        let stations = (0..count).map(station).collect::<Result<Vec<_>, _>>()?;
+        let (loss, repeat) = (random.pick(&[0, 5, 20, 50]), random.pick(&[0, 10, 30]));
+        let most = random.pick(&[6, 12, 20, 50]);
+        Ok(Plant {
+            calls,
+            duty,
+            stations,
+            network: Network::new(count, loss, repeat),
+            outside: Outside::new(&mut random),
+            sent: BTreeMap::new(),
+            time: 0,
+            events: Vec::new(),
+            budget: random.within(most / 2, most),
+            pace: random.pick(&[10, 20, 35]),
+            crash: random.pick(&[0, 5, 20]),
+            random,
+        })
+    }
+
+    /// One thing after another, until all that may be composed is.
+    pub fn work(&mut self) -> Result<(), String> {
+        if self.random.chance(30) {
+            self.begin_from_outside()?;
+        }
+        let most = self.budget * 100 / self.pace + 100;
+        while self.time < most {
+            self.time += 1;
+            let at = self.random.below(self.stations.len());
+            if self.random.chance(self.pace) {
+                self.operate(at)?;
+                continue;
+            }
+            match self.random.below(100) {
+                0..=69 => self.arrive()?,
+                70..=77 => self.resend(at),
+                78..=83 => self.stranger_sends(at),
+                84..=91 => self.save(at),
+                92..=95 => self.restart(at),
+                96..=97 => self.part(true),
+                _ => self.part(false),
+            }
+        }
+        Ok(())
+    }
+
+    /// An operator's turn. The duty is in the order of what follows a compose; a crash may
+    /// come between.
+    fn operate(&mut self, at: usize) -> Result<(), String> {
+        if self.budget == 0 {
+            return Ok(());
+        }
+        let composing = self.composing(at);
+        let (code, message) = self.stations[at].compose(self.calls, &composing);
+        if code != 0 {
+            return self.not_composed(at, code);
+        }
+        self.budget -= 1;
+        let explicit = (message[1] == 1).then(|| (u32_at(&message, 28), u32_at(&message, 32)));
+        self.note(What::Composed(at, sequence_of(&message), explicit));
+        if self.crashes(at) {
+            return Ok(());
+        }
+        self.deliver_own(at, &message)?;
+        if self.duty == Duty::Kept {
+            if self.crashes(at) {
+                return Ok(());
+            }
+            self.save(at);
+        }
+        if !self.crashes(at) {
+            self.send(at, &message);
+        }
+        Ok(())
+    }
+
+    /// What an operator asks for.
+    fn composing(&mut self, at: usize) -> Composing {
+        let random = &mut self.random;
+        let line = random.pick(&self.stations[at].lines);
+        let count = random.pick(&[1, 1, 2, 8]);
+        let mut commands = Vec::new();
+        for _ in 0..count {
+            let operation = random.pick(&[1, 2, 2, 3]);
+            let value = random.pick(&[1, -1, 900_000, -900_000, 20, 1_500]);
+            let tag = random.pick(&[0, 1, 63]);
+            commands.extend(command(operation, tag, value + random.below(50) as i32));
+        }
+        let priority_flag = u32::from(random.chance(25));
+        Composing {
+            line: line.to_vec(),
+            commands,
+            priority_flag,
+            priority: priority_flag * random.pick(&[0, 1, 5, 1_000]),
+            room: 200,
+        }
+    }
+
+    /// Where the duty is kept, compose is refused by limits and by too many ends alone.
+    fn not_composed(&mut self, at: usize, code: u32) -> Result<(), String> {
+        self.note(What::NotComposed(at, code));
+        match (self.duty, code) {
+            (_, 10 | 11) | (Duty::SavedLater, 9) => Ok(()),
+            _ => Err(format!("compose at {at} answers {code}")),
+        }
+    }
+
+    /// Delivers a composed delta to its own station: no undo, and executed first.
+    fn deliver_own(&mut self, at: usize, message: &[u8]) -> Result<(), String> {
+        let delivery = self.deliver(at, message)?;
+        let first = delivery.steps.first().copied();
+        let undone = delivery.steps.iter().any(|s| matches!(s, Step::Undo(_)));
+        if delivery.code != 0 || undone || first != Some(Step::Execute(sequence_of(message))) {
+            return Err(format!("own delta at {at}: {delivery:?}"));
+        }
+        Ok(())
+    }
+
+    /// Delivers, and notes the steps.
+    pub fn deliver(&mut self, at: usize, message: &[u8]) -> Result<Delivery, String> {
+        let delivered = self.stations[at].deliver(self.calls, message);
+        let delivery = delivered.map_err(|error| format!("station {at}: {error}"))?;
+        self.note(What::Delivered(at, sequence_of(message), delivery.code));
+        for step in &delivery.steps {
+            self.note(match *step {
+                Step::Undo(sequence) => What::Undone(at, sequence),
+                Step::Execute(sequence) => What::Executed(at, sequence),
+            });
+        }
+        Ok(delivery)
+    }
+
+    fn save(&mut self, at: usize) {
+        self.stations[at].save();
+        self.note(What::Saved(at));
+    }
+
+    fn restart(&mut self, at: usize) {
+        self.stations[at].restart();
+        self.note(What::Restarted(at));
+    }
+
+    /// By chance, the station begins again from what it saved.
+    fn crashes(&mut self, at: usize) -> bool {
+        let crashes = self.random.chance(self.crash);
+        if crashes {
+            self.restart(at);
+        }
+        crashes
+    }
+
+    pub fn note(&mut self, what: What) {
+        let time = self.time;
+        self.events.push(Event { time, what });
+    }
+
+    /// The end of the run.
+    pub fn ended(self) -> Run {
+        let reused = |(sequence, messages): (&Sequence, &BTreeSet<Vec<u8>>)| {
+            (messages.len() > 1).then_some(*sequence)
+        };
+        Run {
+            reused: self.sent.iter().filter_map(reused).collect(),
+            sent: self.sent.into_values().flatten().collect(),
+            memories: self.stations.into_iter().map(|s| s.memory).collect(),
+            events: self.events,
+        }
+    }
+}
+
+/// The lines of a station, above and below those of others and of the strangers.
+fn own_lines(random: &mut Random, station: usize, count: u8) -> Vec<Line> {
+    let first = random.pick(&[0x00, 0x01, 0x7F, 0x80, 0xFF]);
+    let uid = 0x20 + station as u8;
+    let line = |creator| [first, 0, 0, 0, 0, uid, 0, 0, 0, creator];
+    (1..=count).map(line).collect()
+}

@@ -1,0 +1,78 @@
+//! How a plant's run ended, and what must hold of it.
+
+use std::collections::BTreeSet;
+
+use super::event::{Event, What};
+use super::station::{Memory, Station};
+use crate::boundary::Calls;
+use crate::call::hex;
+use crate::view::{all_messages, log, sequence_of};
+use crate::wire::Sequence;
+
+/// The end of a run, after everything reached all.
+#[derive(Clone, Debug, PartialEq, Eq)]
+pub struct Run {
+    /// Images and host models, by station.
+    pub memories: Vec<Memory>,
+    /// Every right message that ever set out.
+    pub sent: BTreeSet<Vec<u8>>,
+    /// Sequences under which different messages set out.
+    pub reused: BTreeSet<Sequence>,
+    pub events: Vec<Event>,
+}
+
+impl Run {
+    /// Whether all images are equal.
+    pub fn agrees(&self) -> bool {
+        let images: BTreeSet<&Vec<u8>> = self.memories.iter().map(|m| &m.image).collect();
+        images.len() == 1
+    }
+
+    /// How many deltas the first station has.
+    pub fn deltas(&self) -> usize {
+        self.memories
+            .first()
+            .map_or(0, |memory| all_messages(&memory.image).len())
+    }
+
+    /// How many events are of a kind.
+    pub fn count(&self, kind: fn(&What) -> bool) -> usize {
+        self.events.iter().filter(|event| kind(&event.what)).count()
+    }
+
+    /// What holds where the duty is kept: equal images, which are those of a station that
+    /// got all deltas one after another; host models that show the log; nothing lost.
+    pub fn check(&self, calls: &dyn Calls) -> Result<(), String> {
+        if let Some(sequence) = self.reused.iter().next() {
+            return Err(format!("{} was used again", hex(sequence)));
+        }
+        if !self.agrees() {
+            return Err("the images differ".to_string());
+        }
+        for memory in &self.memories {
+            if memory.host.log != log(&memory.image) {
+                return Err("a host's log is not its image's".to_string());
+            }
+            let known: BTreeSet<Vec<u8>> = all_messages(&memory.image).into_iter().collect();
+            if let Some(lost) = self.sent.difference(&known).next() {
+                return Err(format!("{} was lost", hex(lost)));
+            }
+        }
+        self.check_fresh(calls)
+    }
+
+    /// A fresh station that gets the deltas by sequence ends with the same image.
+    fn check_fresh(&self, calls: &dyn Calls) -> Result<(), String> {
+        let mut fresh = Station::new(calls, Vec::new())?;
+        let image = self.memories.first().map(|memory| &memory.image);
+        let mut known = image.map_or_else(Vec::new, |image| all_messages(image));
+        known.sort_unstable_by_key(|message| sequence_of(message));
+        for message in &known {
+            fresh.deliver(calls, message)?;
+        }
+        match Some(&fresh.memory.image) == image {
+            true => Ok(()),
+            false => Err("a fresh station ends with another image".to_string()),
+        }
+    }
+}

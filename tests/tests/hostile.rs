@@ -1,0 +1,142 @@
+//! "Bad input is refused by its number and nothing is written": any bytes, and bytes that
+//! are right but for one thing. Every refusal of every call is met.
+
+#![deny(warnings)]
+
+mod common;
+
+use std::collections::BTreeMap;
+
+use bivamolune_tests::boundary::{code, Calls};
+use bivamolune_tests::generate::{any_draft, conflicting, drafts, nearly_right};
+use bivamolune_tests::random::Random;
+use bivamolune_tests::reference::compose::Request;
+use bivamolune_tests::reference::listing::listing;
+use bivamolune_tests::reference::reader::Reader;
+use bivamolune_tests::reference::station::{log_message, log_message_code, setpoint};
+use bivamolune_tests::wire::Draft;
+use common::{Station, IMAGE, MESSAGE, STEPS, SUBJECT};
+
+/// A buffer of any bytes, of a size near one that matters.
+fn noise(random: &mut Random, sizes: &[usize]) -> Vec<u8> {
+    let size = random.pick(sizes);
+    let mask = random.pick(&[0x00, 0x01, 0x03, 0xFF]);
+    (0..size).map(|_| random.byte() & mask).collect()
+}
+
+/// An image, or any bytes.
+fn any_image(random: &mut Random) -> Vec<u8> {
+    let sizes = [0, 1, 5, 271, 272, 277, IMAGE - 1, IMAGE, IMAGE + 1];
+    match random.below(3) {
+        0 => Station::new().image,
+        _ => noise(random, &sizes),
+    }
+}
+
+/// Any bytes are answered by every call; deliver refuses them and writes nothing.
+#[test]
+fn any_bytes_are_answered() {
+    for seed in 0..3_000 {
+        let mut random = Random::new(5_000_000 + seed);
+        let mut image = any_image(&mut random);
+        let sizes = [0, 1, 6, 39, 40, 47, 48, 60, 200, 201, 70_000];
+        let message = noise(&mut random, &sizes);
+        let mut steps = noise(&mut random, &[0, 15, STEPS - 1, STEPS, STEPS + 1]);
+        let (old, before) = (image.clone(), steps.clone());
+        let answer = SUBJECT.deliver(&mut image, &message, &mut steps);
+        assert!((1..=6).contains(&answer), "seed {seed}: {answer}");
+        assert!(image == old && steps == before);
+        compose_any(&mut random, &image);
+        let (place, tag) = (random.below(70), random.below(70));
+        let part = log_message(&image, place);
+        assert_eq!(part.is_empty(), log_message_code(&image, place) != 0);
+        let (code, value) = setpoint(&image, tag);
+        assert!(code == 0 || value == 0);
+        assert!(Reader::new(&image).next_message().is_empty());
+        assert!(image == old);
+        assert!(listing(&message).ends_with("held 0\n"));
+    }
+}
+
+/// A compose of any bytes: a refusal writes nothing.
+fn compose_any(random: &mut Random, image: &[u8]) {
+    let line = noise(random, &[0, 9, 10, 11]);
+    let commands = noise(random, &[0, 7, 8, 16, 64, 65, 72]);
+    let request = Request {
+        line: &line,
+        commands: &commands,
+        priority_flag: random.below(3) as u32,
+        priority: random.bits() as u32,
+    };
+    let mut buffer = noise(random, &[0, MESSAGE - 1, MESSAGE, 300]);
+    let before = buffer.clone();
+    let answer = SUBJECT.compose(image, &request, &mut buffer);
+    assert!(code(answer) == 0 || (buffer == before && answer < 256));
+}
+
+/// A station of some deltas, one of them or another draft, and what is wrong with its
+/// delivery: an image byte (2), the message (3 to 6), other bytes (7), or no room (8).
+fn nearly_right_delivery(random: &mut Random) -> (Station, u32, Vec<u8>) {
+    let count = random.pick(&[1, 3, 12, 64]);
+    let all = drafts(random, count);
+    let mut station = Station::with(&all);
+    let own: &Draft = &all[random.below(count)];
+    let new = any_draft(random);
+    let is_new = all.iter().all(|draft| draft.sequence() != new.sequence());
+    match random.below(6) {
+        0 => {
+            let at = random.pick(&[0, 9, 15, 16, 271, IMAGE - 1]);
+            station.image[at] ^= 1 << random.below(8);
+            (station, 2, own.bytes())
+        }
+        1 => (station, 7, conflicting(random, own)),
+        2 if is_new && count == 64 => (station, 8, new.bytes()),
+        _ => {
+            let (code, message) = nearly_right(random, if is_new { &new } else { own });
+            (station, code, message)
+        }
+    }
+}
+
+/// Deliveries that are right but for one thing are refused by the number of that thing.
+#[test]
+fn nearly_right_deliveries_are_refused_by_their_number() {
+    let mut met: BTreeMap<u32, usize> = BTreeMap::new();
+    for seed in 0..6_000 {
+        let mut random = Random::new(8_000_000 + seed);
+        let (mut station, expected, message) = nearly_right_delivery(&mut random);
+        let short = random.chance(10);
+        let (size, expected) = match short {
+            true => (random.pick(&[0, 16, STEPS - 1]), 1),
+            false => (STEPS, expected),
+        };
+        let (code, _) = station.deliver_into(&message, size);
+        assert_eq!(code, expected, "seed {seed}");
+        *met.entry(code).or_default() += 1;
+    }
+    let codes: Vec<u32> = met.keys().copied().collect();
+    assert_eq!(codes, [1, 2, 3, 4, 5, 6, 7, 8]);
+    assert!(met.values().all(|count| *count > 50), "{met:?}");
+}
+
+/// The same messages as the listing program's input: their numbers are printed.
+#[test]
+fn nearly_right_messages_are_listed_with_their_number() {
+    let mut met: BTreeMap<u32, usize> = BTreeMap::new();
+    for seed in 0..600 {
+        let mut random = Random::new(9_000_000 + seed);
+        let draft = any_draft(&mut random);
+        let (code, message) = nearly_right(&mut random, &draft);
+        // A message whose length field is right is one cut, whatever else is wrong.
+        let length = usize::from(message[4]) * 256 + usize::from(message[5]);
+        if length == message.len() && (48..=200).contains(&length) {
+            assert_eq!(
+                listing(&message),
+                format!("1 {code} 0 0\nlog 0 held 0\n"),
+                "seed {seed}"
+            );
+            *met.entry(code).or_default() += 1;
+        }
+    }
+    assert_eq!(met.keys().copied().collect::<Vec<u32>>(), [3, 4, 5, 6]);
+}

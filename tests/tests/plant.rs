@@ -1,0 +1,231 @@
+//! A plant in motion: several stations over a bad network, to the end, by seeds; and the
+//! host's duty to save a delta of its own before it sends it.
+
+#![deny(warnings)]
+
+mod common;
+
+use std::collections::{BTreeMap, BTreeSet};
+use std::process::{Command, Output};
+
+use bivamolune_tests::boundary::Calls;
+use bivamolune_tests::faulty::{Fault, Faulty};
+use bivamolune_tests::plant::{run, Duty, Run, Station, What};
+use bivamolune_tests::view::u16_at;
+use bivamolune_tests::wire::{line, set, Line};
+use common::{A, B, SUBJECT};
+
+/// The seeds that are run here; the program runs more.
+const SEEDS: std::ops::Range<u64> = 0..300;
+
+/// Runs a seed with the duty kept, and checks its end.
+fn kept(calls: &dyn Calls, seed: u64) -> Result<Run, String> {
+    let run = run(calls, seed, Duty::Kept)?;
+    run.check(calls)?;
+    Ok(run)
+}
+
+/// After the last exchange all images are equal, nothing is lost, and every host's log, fed
+/// by the steps alone, was the image's after every call.
+#[test]
+fn stations_agree_in_the_end() {
+    let mut seen: BTreeMap<&str, usize> = BTreeMap::new();
+    for seed in SEEDS {
+        let run = kept(&SUBJECT, seed).unwrap_or_else(|error| panic!("seed {seed}: {error}"));
+        let mut mark = |name, is: bool| *seen.entry(name).or_default() += usize::from(is);
+        let any = |kind: fn(&What) -> bool| run.count(kind) > 0;
+        mark("undone", any(|what| matches!(what, What::Undone(..))));
+        mark("lost", any(|what| matches!(what, What::Lost(..))));
+        mark("restarted", any(|what| matches!(what, What::Restarted(..))));
+        mark(
+            "split",
+            any(|w| matches!(w, What::Sides(s) if s.contains(&true))),
+        );
+        mark(
+            "priority",
+            any(|w| matches!(w, What::Composed(_, _, Some(_)))),
+        );
+        mark(
+            "refused",
+            any(|w| matches!(w, What::Delivered(_, _, 3..=6))),
+        );
+        mark(
+            "crowded",
+            any(|what| matches!(what, What::NotComposed(_, 11))),
+        );
+        mark("forty deltas", run.deltas() >= 40);
+        mark("ten stations", run.memories.len() == 10);
+        mark("held for good", u16_at(&run.memories[0].image, 2) > 0);
+    }
+    println!("{seen:?}");
+    assert_eq!(seen.len(), 10);
+    assert!(seen.values().all(|count| *count >= 10), "{seen:?}");
+}
+
+#[test]
+fn a_seed_gives_its_run_again() {
+    for seed in [0, 7, 4_000_000_000] {
+        assert_eq!(kept(&SUBJECT, seed), kept(&SUBJECT, seed));
+        assert_ne!(kept(&SUBJECT, seed), kept(&SUBJECT, seed + 1));
+    }
+}
+
+/// The events tell the whole run: played again, they give each host's log.
+#[test]
+fn events_tell_each_log() {
+    for seed in SEEDS.take(40) {
+        let run = kept(&SUBJECT, seed).expect("it runs");
+        let mut logs = vec![Vec::new(); run.memories.len()];
+        let mut saved = logs.clone();
+        let mut time = 0;
+        for event in &run.events {
+            assert!(event.time >= time);
+            time = event.time;
+            match event.what {
+                What::Executed(at, sequence) => logs[at].push(sequence),
+                What::Undone(at, sequence) => assert_eq!(logs[at].pop(), Some(sequence)),
+                What::Saved(at) => saved[at] = logs[at].clone(),
+                What::Restarted(at) => logs[at] = saved[at].clone(),
+                _ => {}
+            }
+        }
+        let hosts: Vec<_> = run.memories.iter().map(|m| m.host.log.clone()).collect();
+        assert_eq!(logs, hosts, "seed {seed}");
+    }
+}
+
+/// Wrong implementations do not come through.
+#[test]
+fn the_plant_finds_faults() {
+    for fault in [
+        Fault::KeyAlone,
+        Fault::RepeatWrites,
+        Fault::CountsOff,
+        Fault::WaitsBehindHeld,
+        Fault::Subtracts,
+        Fault::StepsCleared,
+        Fault::EchoesLater,
+        Fault::HoldsAll,
+        Fault::LeavesImage,
+        Fault::SameLog,
+        Fault::RefusesAll,
+    ] {
+        let found = SEEDS
+            .clone()
+            .find(|seed| kept(&Faulty(fault), *seed).is_err());
+        println!("{fault:?}: seed {found:?}");
+        assert!(found.is_some(), "{fault:?}");
+    }
+}
+
+/// A station of one line.
+fn station(letter: u8) -> Station {
+    Station::new(&SUBJECT, vec![line(letter)]).expect("an empty station")
+}
+
+/// Composes on a station's line a delta that sets tag 0, and delivers it there.
+fn compose_own(station: &mut Station, value: i32) -> Vec<u8> {
+    let own: Line = station.lines[0];
+    let request = bivamolune_tests::call::Composing {
+        line: own.to_vec(),
+        commands: set(0, value).to_vec(),
+        priority_flag: 0,
+        priority: 0,
+        room: 200,
+    };
+    let (code, message) = station.compose(&SUBJECT, &request);
+    assert_eq!((code, deliver(station, &message)), (0, 0));
+    message
+}
+
+fn deliver(station: &mut Station, message: &[u8]) -> u32 {
+    station.deliver(&SUBJECT, message).expect("a delivery").code
+}
+
+/// The host sends before it saves: after a restart the sequence is used again, each station
+/// refuses the other's delta, and the two stay different for good.
+#[test]
+fn a_delta_sent_before_it_is_saved_parts_the_stations() {
+    let (mut a, mut b) = (station(A), station(B));
+    let first = compose_own(&mut a, 1);
+    assert_eq!(deliver(&mut b, &first), 0);
+    a.restart();
+    let second = compose_own(&mut a, 2);
+    assert_eq!(first[12..24], second[12..24]);
+    assert_ne!(first, second);
+    for _ in 0..3 {
+        assert_eq!(deliver(&mut b, &second), 7);
+        assert_eq!(deliver(&mut a, &first), 7);
+    }
+    assert!(a.memory.image != b.memory.image);
+}
+
+/// The host saves before it sends: the next sequence is used, and the two stay equal.
+#[test]
+fn a_delta_saved_before_it_is_sent_keeps_the_stations_together() {
+    let (mut a, mut b) = (station(A), station(B));
+    let first = compose_own(&mut a, 1);
+    a.save();
+    assert_eq!(deliver(&mut b, &first), 0);
+    a.restart();
+    let second = compose_own(&mut a, 2);
+    assert_eq!(second[22..24], [0, 2]);
+    a.save();
+    assert_eq!(deliver(&mut b, &second), 0);
+    assert!(a.memory.image == b.memory.image);
+}
+
+/// Over the same seeds: with the duty kept no sequence is used again and no two stations
+/// differ; with deltas saved later both happen, and never the second without the first.
+#[test]
+fn the_duty_makes_the_difference() {
+    let (mut parted, mut reused) = (BTreeSet::new(), BTreeSet::new());
+    for seed in SEEDS {
+        let with = run(&SUBJECT, seed, Duty::Kept).expect("it runs");
+        assert!(with.agrees() && with.reused.is_empty(), "seed {seed}");
+        let without = run(&SUBJECT, seed, Duty::SavedLater).expect("it runs");
+        if !without.reused.is_empty() {
+            reused.insert(seed);
+        }
+        if !without.agrees() {
+            parted.insert(seed);
+        }
+    }
+    println!("{} runs used again, {} parted", reused.len(), parted.len());
+    assert!(parted.len() > 50, "{}", parted.len());
+    assert!(parted.is_subset(&reused));
+}
+
+/// Runs the program with these words.
+fn program(words: &[&str]) -> Output {
+    Command::new(env!("CARGO_BIN_EXE_plant"))
+        .args(words)
+        .output()
+        .expect("the program runs")
+}
+
+#[test]
+fn the_program_runs_seeds_and_prints_events() {
+    let output = program(&["--seeds", "5..9"]);
+    let printed = String::from_utf8_lossy(&output.stdout);
+    assert_eq!(output.status.code(), Some(0), "{printed}");
+    assert!(printed.contains("seeds 5..9: 4 runs, "), "{printed}");
+    let output = program(&["--events", "5"]);
+    let printed = String::from_utf8_lossy(&output.stdout);
+    assert_eq!(output.status.code(), Some(0), "{printed}");
+    let events = kept(&SUBJECT, 5).expect("it runs").events;
+    let lines: Vec<String> = events.iter().map(|event| event.to_string()).collect();
+    assert_eq!(printed.lines().collect::<Vec<_>>(), lines);
+    let output = program(&["--unsaved", "0..40"]);
+    let printed = String::from_utf8_lossy(&output.stdout);
+    assert_eq!(output.status.code(), Some(0), "{printed}");
+    assert!(printed.contains("ended with different images"), "{printed}");
+    for words in [
+        &["--seeds"][..],
+        &["--seeds", "5"],
+        &["--nothing", "3"],
+        &[],
+    ] {
+        assert_eq!(program(words).status.code(), Some(2));
+    }
+}
