@@ -2,3 +2,4 @@ pub mod ExampleMessages
 pub mod Examples
 pub mod CodeExamples
 pub mod CodeLists
+pub mod GroundExamples
