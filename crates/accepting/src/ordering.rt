@@ -1,5 +1,6 @@
 // A table with its log: ordered, and written as an image and as steps.
 use image::write_used;
+use key::KEYS;
 use layout::CAPACITY;
 use log::listing::order;
 use log_order::LogOrder;
@@ -24,8 +25,9 @@ pub fn order_table(pool: &[u8], table: Table, old: [u8; CAPACITY], old_count: us
     let starts = table.starts;
     let count = table.count;
     let begun = LogOrder::begin(old, old_count);
-    let prepared = prepare(pool, &starts[..count]);
-    order(pool, &starts[..count], prepared, begun)
+    let mut keys = [0u64; KEYS];
+    let needed = prepare(&mut keys, pool, &starts[..count]);
+    order(pool, &starts[..count], needed, &keys, begun)
 }
 
 // Writes the used bytes of the image of a table's set, whose log is at the given places.

@@ -3,6 +3,7 @@ use crate::places::read_places;
 use buffer::get_u16;
 use buffer::same;
 use image::write_used;
+use key::KEYS;
 use layout::CAPACITY;
 use layout::IMAGE_SIZE;
 use layout::LOG_COUNT_AT;
@@ -56,8 +57,9 @@ fn check_listed(b: &[u8], listed: Station) -> Check
     let count = table.count;
     let places = listed.places;
     let logged = listed.logged;
-    let prepared = prepare(b, &starts[..count]);
-    check_log(b, &starts[..count], prepared, &places[..logged])
+    let mut keys = [0u64; KEYS];
+    let needed = prepare(&mut keys, b, &starts[..count]);
+    check_log(b, &starts[..count], needed, &keys, &places[..logged])
 }
 
 // Writes the used bytes of the image of a set whose log is listed.

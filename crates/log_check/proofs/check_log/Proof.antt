@@ -19,10 +19,10 @@ use Rattle.log_check.proofs.check_log.Statement.{statement}
 use Rattle.log_check.proofs.check_log.Tie as tie
 
 abbrev Inv-loop : tie.InvT-loop
-Inv-loop pool starts places rows counts keys placed₀ ends₀ froms₀ k₀ placed ends froms k = Checking (setIn pool starts) keys places placed ends froms k
+Inv-loop pool starts keys places rows counts placed₀ ends₀ froms₀ k₀ placed ends froms k = Checking (setIn pool starts) keys places placed ends froms k
 
 abbrev μ-loop : tie.MeasureT-loop
-μ-loop pool starts places rows counts keys placed₀ ends₀ froms₀ k₀ placed ends froms k = length places - k
+μ-loop pool starts keys places rows counts placed₀ ends₀ froms₀ k₀ placed ends froms k = length places - k
 
 -- where the loop is entered, where a turn of it begins, and where the delta is known to be ready
 abbrev entry : tie.At-loop Inv-loop μ-loop → tie.Start Inv-loop μ-loop
@@ -35,7 +35,7 @@ abbrev looked : tie.After-ends Inv-loop μ-loop → tie.After-ready Inv-loop μ-
 looked c = c .before .before .before .before
 
 abbrev known : tie.After-froms Inv-loop μ-loop → tie.After-effective Inv-loop μ-loop
-known c = c .before .before
+known c = c .before
 
 abbrev begun : tie.After-froms Inv-loop μ-loop → tie.After-ends Inv-loop μ-loop
 begun c = known c .before
@@ -52,7 +52,7 @@ small s k h = s .pre .2 .small (getD (s .args .places .now) k 0) (getD-∈ (s .a
 loop-holds : tie.Need-loop-holds Inv-loop μ-loop
 loop-holds c =
     let s = c .before .before .before .before .before .before in
-    checking-none (setIn (s .args .pool .now) (s .args .starts .now)) (s .pre .0) (s .args .places .now) (s .pre .2) (s .args .prepared .rows) (s .args .prepared .counts) (s .pre .1 .needs) (s .args .prepared .keys) (s .pre .1 .keyed)
+    checking-none (setIn (s .args .pool .now) (s .args .starts .now)) (s .pre .0) (s .args .places .now) (s .pre .2) (s .args .needed .rows) (s .args .needed .counts) (s .pre .1 .needs) (s .args .keys .now) (s .pre .1 .keyed)
 
 shared-slice-read-i : tie.Need-shared-slice-read-i Inv-loop μ-loop
 shared-slice-read-i c = omega arith
@@ -81,7 +81,7 @@ returns c =
     let a = c .before in
     let l = turn a .before in
     let s = entry l in
-    not-ready (setIn (s .args .pool .now) (s .args .starts .now)) (s .pre .0) (s .args .places .now) (s .pre .2) (s .args .prepared .rows) (s .args .prepared .counts) (s .pre .1 .needs) (s .args .prepared .keys) (s .pre .1 .keyed)
+    not-ready (setIn (s .args .pool .now) (s .args .starts .now)) (s .pre .0) (s .args .places .now) (s .pre .2) (s .args .needed .rows) (s .args .needed .counts) (s .pre .1 .needs) (s .args .keys .now) (s .pre .1 .keyed)
     (l .loop .placed) (l .loop .ends) (l .loop .froms) (l .loop .k) (l .loop .inv) (omega arith) (sym (a .ready .ensures) ∙ not-true (a .ready .result) (c .if1 .taken))
 
 slice-aggregate-effective : tie.Need-slice-aggregate-effective Inv-loop μ-loop
@@ -100,14 +100,11 @@ effective-requires c κs =
     (rows-fit (setIn (s .args .pool .now) (s .args .starts .now)) (s .pre .0) (s .pre .1 .needs) _ (small s (l .loop .k) (room (turn (looked c)))), l .loop .inv .ends-size)
 
 slice-aggregate-above : tie.Need-slice-aggregate-above Inv-loop μ-loop
-slice-aggregate-above c = omega (arith, entry (turn (looked (c .before .before)) .before) .pre .1 .keyed .size)
-
-slice-aggregate-above-2 : tie.Need-slice-aggregate-above-2 Inv-loop μ-loop
-slice-aggregate-above-2 c = omega (arith, turn (looked (begun c)) .before .loop .inv .froms-size)
+slice-aggregate-above c = omega (arith, turn (looked (begun c)) .before .loop .inv .froms-size)
 
 -- the delta is ready, and was so from a place on that is not behind its own
 yes : (c : tie.After-ends Inv-loop μ-loop) → let l = turn (looked c) .before in let s = entry l in
-    readyIn (s .args .prepared .rows) (s .args .prepared .counts) (l .loop .placed) (getD (s .args .places .now) (l .loop .k) 0) ≡ true
+    readyIn (s .args .needed .rows) (s .args .needed .counts) (l .loop .placed) (getD (s .args .places .now) (l .loop .k) 0) ≡ true
 yes c = let a = looked c in sym (a .ready .ensures) ∙ not-false (a .ready .result) (c .before .before .before .if1 .left)
 
 early : (c : tie.After-effective Inv-loop μ-loop) → c .effective .result ≤ turn (looked (c .before)) .before .loop .k
@@ -119,8 +116,8 @@ early c =
     omega (
       arith,
       c .effective .ensures,
-      start-small (setIn (s .args .pool .now) (s .args .starts .now)) (s .pre .0) (s .args .places .now) (s .pre .2) (s .args .prepared .rows) (s .args .prepared .counts) (s .pre .1 .needs) (s .args .prepared .keys) (s .pre .1 .keyed) (l .loop .placed) (l .loop .ends) (l .loop .froms) (l .loop .k) (l .loop .inv) k
-          (now-ready (setIn (s .args .pool .now) (s .args .starts .now)) (s .pre .0) (s .args .places .now) (s .pre .2) (s .args .prepared .rows) (s .args .prepared .counts) (s .pre .1 .needs) (s .args .prepared .keys) (s .pre .1 .keyed) (l .loop .placed) (l .loop .ends) (l .loop .froms) (l .loop .k) (l .loop .inv) k (yes e)),
+      start-small (setIn (s .args .pool .now) (s .args .starts .now)) (s .pre .0) (s .args .places .now) (s .pre .2) (s .args .needed .rows) (s .args .needed .counts) (s .pre .1 .needs) (s .args .keys .now) (s .pre .1 .keyed) (l .loop .placed) (l .loop .ends) (l .loop .froms) (l .loop .k) (l .loop .inv) k
+          (now-ready (setIn (s .args .pool .now) (s .args .starts .now)) (s .pre .0) (s .args .places .now) (s .pre .2) (s .args .needed .rows) (s .args .needed .counts) (s .pre .1 .needs) (s .args .keys .now) (s .pre .1 .keyed) (l .loop .placed) (l .loop .ends) (l .loop .froms) (l .loop .k) (l .loop .inv) k (yes e)),
     )
 
 cast-above : tie.Need-cast-above Inv-loop μ-loop
@@ -130,16 +127,16 @@ above-requires : tie.Need-above-requires Inv-loop μ-loop
 above-requires c κs =
     let l = turn (looked (begun c)) .before in
     let s = entry l in
-    comparable (setIn (s .args .pool .now) (s .args .starts .now)) (s .pre .0) (s .args .places .now) (s .pre .2) (s .args .prepared .rows) (s .args .prepared .counts) (s .pre .1 .needs) (s .args .prepared .keys) (s .pre .1 .keyed) (l .loop .placed) (l .loop .ends) (l .loop .froms) (l .loop .k) (l .loop .inv) (room (turn (looked (begun c))))
+    comparable (setIn (s .args .pool .now) (s .args .starts .now)) (s .pre .0) (s .args .places .now) (s .pre .2) (s .args .needed .rows) (s .args .needed .counts) (s .pre .1 .needs) (s .args .keys .now) (s .pre .1 .keyed) (l .loop .placed) (l .loop .ends) (l .loop .froms) (l .loop .k) (l .loop .inv) (room (turn (looked (begun c))))
 
 -- what the comparison says, from where the delta was ready
 compared : (c : tie.After-above Inv-loop μ-loop) (t : Bool) → c .above .result ≡ t → let e = begun (c .before) in let l = turn (looked e) .before in let s = entry l in
-    Above (s .args .prepared .keys) (s .args .places .now) (effectiveIn (s .args .prepared .rows) (s .args .prepared .counts) (l .loop .ends) (getD (s .args .places .now) (l .loop .k) 0) 0) (l .loop .k) t
+    Above (s .args .keys .now) (s .args .places .now) (effectiveIn (s .args .needed .rows) (s .args .needed .counts) (l .loop .ends) (getD (s .args .places .now) (l .loop .k) 0) 0) (l .loop .k) t
 compared c t q =
     let l = turn (looked (begun (c .before))) .before in
     let s = entry l in
-    subst (λ (x : ℕ). Above (s .args .prepared .keys) (s .args .places .now) x (l .loop .k) t) (known (c .before) .effective .ensures)
-    (subst (Above (s .args .prepared .keys) (s .args .places .now) (known (c .before) .effective .result) (l .loop .k)) q (c .above .ensures))
+    subst (λ (x : ℕ). Above (s .args .keys .now) (s .args .places .now) x (l .loop .k) t) (known (c .before) .effective .ensures)
+    (subst (Above (s .args .keys .now) (s .args .places .now) (known (c .before) .effective .result) (l .loop .k)) q (c .above .ensures))
 
 returns-2 : tie.Need-returns-2 Inv-loop μ-loop
 returns-2 c =
@@ -147,7 +144,7 @@ returns-2 c =
     let e = begun (a .before) in
     let l = turn (looked e) .before in
     let s = entry l in
-    not-above (setIn (s .args .pool .now) (s .args .starts .now)) (s .pre .0) (s .args .places .now) (s .pre .2) (s .args .prepared .rows) (s .args .prepared .counts) (s .pre .1 .needs) (s .args .prepared .keys) (s .pre .1 .keyed)
+    not-above (setIn (s .args .pool .now) (s .args .starts .now)) (s .pre .0) (s .args .places .now) (s .pre .2) (s .args .needed .rows) (s .args .needed .counts) (s .pre .1 .needs) (s .args .keys .now) (s .pre .1 .keyed)
     (l .loop .placed) (l .loop .ends) (l .loop .froms) (l .loop .k) (l .loop .inv) (room (turn (looked e))) (yes e) (compared a false (not-true (a .above .result) (c .if2 .taken)))
 
 -- where a turn ends: its beginning
@@ -188,8 +185,8 @@ loop-again c =
     let l = ends-turn c in
     let s = entry l in
     let i : ℕ = getD (s .args .places .now) (l .loop .k) 0 in
-    subst (λ (x : ℕ). Checking (setIn (s .args .pool .now) (s .args .starts .now)) (s .args .prepared .keys) (s .args .places .now) (set (l .loop .placed) i 1) (set (l .loop .ends) i (l .loop .k + 1)) (set (l .loop .froms) (l .loop .k) x) (l .loop .k + 1)) (sym (known (a .before) .effective .ensures))
-    (checking-more (setIn (s .args .pool .now) (s .args .starts .now)) (s .pre .0) (s .args .places .now) (s .pre .2) (s .args .prepared .rows) (s .args .prepared .counts) (s .pre .1 .needs) (s .args .prepared .keys) (s .pre .1 .keyed)
+    subst (λ (x : ℕ). Checking (setIn (s .args .pool .now) (s .args .starts .now)) (s .args .keys .now) (s .args .places .now) (set (l .loop .placed) i 1) (set (l .loop .ends) i (l .loop .k + 1)) (set (l .loop .froms) (l .loop .k) x) (l .loop .k + 1)) (sym (known (a .before) .effective .ensures))
+    (checking-more (setIn (s .args .pool .now) (s .args .starts .now)) (s .pre .0) (s .args .places .now) (s .pre .2) (s .args .needed .rows) (s .args .needed .counts) (s .pre .1 .needs) (s .args .keys .now) (s .pre .1 .keyed)
     (l .loop .placed) (l .loop .ends) (l .loop .froms) (l .loop .k) (l .loop .inv) (room (turn (looked e))) (yes e) (compared a true (not-false (a .above .result) (c .if2 .left))))
 
 slice-aggregate-any-ready : tie.Need-slice-aggregate-any-ready Inv-loop μ-loop
@@ -216,19 +213,19 @@ any-ready-requires c κs =
 
 -- whether one of the deltas is ready in the end
 waiting : (c : tie.After-any-ready Inv-loop μ-loop) (t : Bool) → c .any-ready .result ≡ t → let l = done (c .before) .before in let s = entry l in
-    AnyReady (s .args .prepared .rows) (s .args .prepared .counts) (l .loop .placed) (length (setIn (s .args .pool .now) (s .args .starts .now) .deltas)) t
+    AnyReady (s .args .needed .rows) (s .args .needed .counts) (l .loop .placed) (length (setIn (s .args .pool .now) (s .args .starts .now) .deltas)) t
 waiting c t q =
     let l = done (c .before) .before in
     let s = entry l in
-    subst (λ (n : ℕ). AnyReady (s .args .prepared .rows) (s .args .prepared .counts) (l .loop .placed) n t) (size s)
-    (subst (AnyReady (s .args .prepared .rows) (s .args .prepared .counts) (l .loop .placed) (length (s .args .starts .now))) q (c .any-ready .ensures))
+    subst (λ (n : ℕ). AnyReady (s .args .needed .rows) (s .args .needed .counts) (l .loop .placed) n t) (size s)
+    (subst (AnyReady (s .args .needed .rows) (s .args .needed .counts) (l .loop .placed) (length (s .args .starts .now))) q (c .any-ready .ensures))
 
 returns-3 : tie.Need-returns-3 Inv-loop μ-loop
 returns-3 c =
     let a = c .before in
     let l = done (a .before) .before in
     let s = entry l in
-    not-whole (setIn (s .args .pool .now) (s .args .starts .now)) (s .pre .0) (s .args .places .now) (s .pre .2) (s .args .prepared .rows) (s .args .prepared .counts) (s .pre .1 .needs) (s .args .prepared .keys) (s .pre .1 .keyed)
+    not-whole (setIn (s .args .pool .now) (s .args .starts .now)) (s .pre .0) (s .args .places .now) (s .pre .2) (s .args .needed .rows) (s .args .needed .counts) (s .pre .1 .needs) (s .args .keys .now) (s .pre .1 .keyed)
     (l .loop .placed) (l .loop .ends) (l .loop .froms) (l .loop .k) (l .loop .inv) (omega arith) (waiting a true (c .if3 .taken))
 
 returns-4 : tie.Need-returns-4 Inv-loop μ-loop
@@ -236,7 +233,7 @@ returns-4 c =
     let a = c .before in
     let l = done (a .before) .before in
     let s = entry l in
-    is-log (setIn (s .args .pool .now) (s .args .starts .now)) (s .pre .0) (s .args .places .now) (s .pre .2) (s .args .prepared .rows) (s .args .prepared .counts) (s .pre .1 .needs) (s .args .prepared .keys) (s .pre .1 .keyed)
+    is-log (setIn (s .args .pool .now) (s .args .starts .now)) (s .pre .0) (s .args .places .now) (s .pre .2) (s .args .needed .rows) (s .args .needed .counts) (s .pre .1 .needs) (s .args .keys .now) (s .pre .1 .keyed)
     (l .loop .placed) (l .loop .ends) (l .loop .froms) (l .loop .k) (l .loop .inv) (omega arith) (waiting a false (c .if3 .left))
 
 pub check-log-spec : {M : Type 1} → statement M
@@ -258,7 +255,6 @@ check-log-spec =
     slice-aggregate-effective-3
     effective-requires
     slice-aggregate-above
-    slice-aggregate-above-2
     cast-above
     above-requires
     returns-2

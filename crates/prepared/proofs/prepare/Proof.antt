@@ -7,7 +7,7 @@ use Rattle.prepared.proofs.prepare.Tie as tie
 
 -- where the closure and, before it, the rows are known
 abbrev closed : tie.After-fill-keys → tie.After-close
-closed c = c .before .before .before
+closed c = c .before .before .before .before
 
 abbrev filled : tie.After-close → tie.After-fill-rows
 filled c = c .before .before .before .before .before
@@ -30,14 +30,18 @@ slice-aggregate-fill-keys c = search needs
 fill-keys-requires : tie.Need-fill-keys-requires
 fill-keys-requires c κs = search needs
 
+same-length : tie.Need-same-length
+same-length c = search needs
+
 returns : tie.Need-returns
 returns c =
-    let k = closed c in
+    let made = c .before .before in
+    let k = closed made in
     let f = filled k in
-    let s = f .before .before .before in
+    let s = f .before .before .before .before in
     record {
       needs = f .fill-rows .ensures;
-      keyed = keys-closed (setIn (s .args .pool .now) (s .args .starts .now)) (s .pre) (f .fill-rows .result .rows) (f .fill-rows .result .counts) (f .fill-rows .ensures) (k .close .result) (k .close .ensures) (c .fill-keys .result) (c .fill-keys .ensures);
+      keyed = keys-closed (setIn (s .args .pool .now) (s .args .starts .now)) (s .pre .1) (f .fill-rows .result .rows) (f .fill-rows .result .counts) (f .fill-rows .ensures) (k .close .result) (k .close .ensures) (made .fill-keys .last .0) (made .fill-keys .ensures);
     }
 
 pub prepare-spec : {M : Type 1} → statement M
@@ -50,4 +54,5 @@ prepare-spec =
     close-requires
     slice-aggregate-fill-keys
     fill-keys-requires
+    same-length
     returns)

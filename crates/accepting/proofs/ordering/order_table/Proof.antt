@@ -1,5 +1,5 @@
 -- The log beside the old one is what `order` grows from the prepared table, and an order that is begun has placed none.
-use mathlib.Core.Path.{_≡_, sym, _∙_}
+use mathlib.Core.Path.{_≡_, refl, sym, _∙_}
 use native.Mathlib.Omega.{arith}
 use lib.ListN.{length, length-map}
 use lib.Seq.{length-take-le}
@@ -16,43 +16,53 @@ starts-size s = search needs
 own-starts : (s : tie.Start) → s .args .table .count ≡ length (startsOf (s .args .table))
 own-starts s = let t = s .args .table in sym (length-take-le (t .count) (t .starts) (omega (arith, starts-size s, s .pre .fits)))
 
--- where the call began, from where the order is begun, prepared and lent
+-- where the call began, from where the order is begun; and where that is, from where the keys are lent, written and lent again
 abbrev began : tie.After-begin → tie.Start
 began c = c .before .before .before
 
-abbrev prepared : tie.After-starts3 → tie.After-prepare
-prepared c = c .before
+abbrev begun : tie.After-keys → tie.After-begin
+begun c = c .before
 
-abbrev begun : tie.After-prepare → tie.After-begin
-begun c = c .before .before
+abbrev lent : tie.After-prepare → tie.After-keys
+lent c = c .before .before
+
+abbrev prepared : tie.After-keys3 → tie.After-prepare
+prepared c = c .before .before .before
 
 begin-requires : tie.Need-begin-requires
 begin-requires c κs = search needs
 
-array-share-prefix-starts : tie.Need-array-share-prefix-starts
-array-share-prefix-starts c = let s = began c in omega (arith, starts-size s, s .pre .fits)
-
 slice-aggregate-prepare : tie.Need-slice-aggregate-prepare
-slice-aggregate-prepare c = own-starts (began (c .before))
+slice-aggregate-prepare c = refl
+
+array-share-prefix-starts : tie.Need-array-share-prefix-starts
+array-share-prefix-starts c = let s = began (begun c) in omega (arith, starts-size s, s .pre .fits)
+
+slice-aggregate-prepare-2 : tie.Need-slice-aggregate-prepare-2
+slice-aggregate-prepare-2 c = own-starts (began (begun (c .before)))
 
 prepare-requires : tie.Need-prepare-requires
-prepare-requires c κs = began (c .before) .pre .holds
+prepare-requires c κs = (refl, began (begun (c .before)) .pre .holds)
 
 array-share-prefix-starts-2 : tie.Need-array-share-prefix-starts-2
-array-share-prefix-starts-2 c = let s = began (begun c) in omega (arith, starts-size s, s .pre .fits)
+array-share-prefix-starts-2 c = let s = began (begun (lent (c .before))) in omega (arith, starts-size s, s .pre .fits)
 
 slice-aggregate-order : tie.Need-slice-aggregate-order
-slice-aggregate-order c = own-starts (began (begun (prepared c)))
+slice-aggregate-order c = own-starts (began (begun (lent (c .before .before))))
+
+slice-aggregate-order-2 : tie.Need-slice-aggregate-order-2
+slice-aggregate-order-2 c = omega (arith, prepared c .prepare .kept .0)
 
 order-requires : tie.Need-order-requires
 order-requires c κs =
-    let b = begun (prepared c) in
-    (began b .pre .holds, prepared c .prepare .ensures, b .begin .ensures .right, b .begin .ensures .none)
+    let p = prepared c in
+    let b = begun (lent p) in
+    (began b .pre .holds, p .prepare .ensures, b .begin .ensures .right, b .begin .ensures .none)
 
 returns : tie.Need-returns
 returns c =
     let placed = c .order .ensures in
-    let b = begun (prepared (c .before)) in
+    let b = begun (lent (prepared (c .before))) in
     let a = began b .args in
     record {
       log = record { log = placed .log; within = λ i k. omega (arith, placed .within i k, length-map (startsOf (a .table)) (messageFrom (a .pool .now))) };
@@ -65,10 +75,12 @@ order-table-spec =
     tie.close
     (tie.spec
     begin-requires
-    array-share-prefix-starts
     slice-aggregate-prepare
+    array-share-prefix-starts
+    slice-aggregate-prepare-2
     prepare-requires
     array-share-prefix-starts-2
     slice-aggregate-order
+    slice-aggregate-order-2
     order-requires
     returns)

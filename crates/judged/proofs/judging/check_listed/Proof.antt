@@ -1,5 +1,5 @@
 -- The table and the listed places are lent to the log's check.
-use mathlib.Core.Path.{_≡_, sym}
+use mathlib.Core.Path.{_≡_, refl, sym}
 use lib.ListN.{length, length-map, length-take}
 use lib.Seq.{length-take-le}
 use native.Mathlib.Omega.{arith}
@@ -16,52 +16,61 @@ starts-size s = search needs
 places-size : (s : tie.Start) → length (s .args .listed .places) ≡ capacity
 places-size s = search needs
 
--- where table and places are taken from what is listed
-abbrev taken : tie.After-places → tie.Start
-taken c = c .before .before .before .before
+-- where the call began, from where the keys are lent to be written; and where they were, from where they are lent again
+abbrev taken : tie.After-keys → tie.Start
+taken c = c .before .before .before .before .before
+
+abbrev prepared : tie.After-keys3 → tie.After-prepare
+prepared c = c .before .before .before
+
+abbrev lent : tie.After-prepare → tie.After-keys
+lent c = c .before .before
 
 -- the log as it was read
 read : (s : tie.Start) → ReadsLog (s .args .b .now) (startsOf (s .args .listed .table)) (s .args .listed .logged) (s .args .listed .places)
 read s = s .pre .2 .log
-
-array-share-prefix-starts : tie.Need-array-share-prefix-starts
-array-share-prefix-starts c = let s = taken c in omega (arith, starts-size s, s .pre .1 .fits)
 
 -- the table's own starts
 own-starts : (s : tie.Start) → s .args .listed .table .count ≡ length (startsOf (s .args .listed .table))
 own-starts s = let t = s .args .listed .table in sym (length-take-le (t .count) (t .starts) (omega (arith, starts-size s, s .pre .1 .fits)))
 
 slice-aggregate-prepare : tie.Need-slice-aggregate-prepare
-slice-aggregate-prepare c = own-starts (taken (c .before))
+slice-aggregate-prepare c = refl
+
+array-share-prefix-starts : tie.Need-array-share-prefix-starts
+array-share-prefix-starts c = let s = taken c in omega (arith, starts-size s, s .pre .1 .fits)
+
+slice-aggregate-prepare-2 : tie.Need-slice-aggregate-prepare-2
+slice-aggregate-prepare-2 c = own-starts (taken (c .before))
 
 prepare-requires : tie.Need-prepare-requires
-prepare-requires c κs = taken (c .before) .pre .1 .holds
+prepare-requires c κs = (refl, taken (c .before) .pre .1 .holds)
 
 array-share-prefix-starts-2 : tie.Need-array-share-prefix-starts-2
-array-share-prefix-starts-2 c = let s = taken (c .before .before) in omega (arith, starts-size s, s .pre .1 .fits)
-
--- where the log is lent
-abbrev lent : tie.After-starts3 → tie.After-places
-lent c = c .before .before .before
+array-share-prefix-starts-2 c = let s = taken (lent (c .before)) in omega (arith, starts-size s, s .pre .1 .fits)
 
 slice-aggregate-check-log : tie.Need-slice-aggregate-check-log
-slice-aggregate-check-log c = own-starts (taken (lent c))
-
-array-share-prefix-places : tie.Need-array-share-prefix-places
-array-share-prefix-places c = let s = taken (lent c) in omega (arith, places-size s, s .pre .2 .fits)
+slice-aggregate-check-log c = own-starts (taken (lent (c .before .before)))
 
 slice-aggregate-check-log-2 : tie.Need-slice-aggregate-check-log-2
-slice-aggregate-check-log-2 c =
-    let s = taken (lent (c .before)) in
+slice-aggregate-check-log-2 c = omega (arith, prepared c .prepare .kept .0)
+
+array-share-prefix-places : tie.Need-array-share-prefix-places
+array-share-prefix-places c = let s = taken (lent (prepared c)) in omega (arith, places-size s, s .pre .2 .fits)
+
+slice-aggregate-check-log-3 : tie.Need-slice-aggregate-check-log-3
+slice-aggregate-check-log-3 c =
+    let s = taken (lent (prepared (c .before))) in
     let l = s .args .listed in
     sym (length-take-le (l .logged) (l .places) (omega (arith, places-size s, s .pre .2 .fits)))
 
 check-log-requires : tie.Need-check-log-requires
 check-log-requires c κs =
-    let s = taken (lent (c .before)) in
+    let p = prepared (c .before) in
+    let s = taken (lent p) in
     let l = s .args .listed in (
       s .pre .1 .holds,
-      c .before .before .prepare .ensures,
+      p .prepare .ensures,
       record {
         few = omega (arith, length-take (l .logged) (l .places), s .pre .2 .fits);
         small = λ i k. omega (arith, read s .inside i k, length-map (startsOf (l .table)) (messageFrom (s .args .b .now)));
@@ -75,12 +84,14 @@ pub check-listed-spec : {M : Type 1} → statement M
 check-listed-spec =
     tie.close
     (tie.spec
-    array-share-prefix-starts
     slice-aggregate-prepare
+    array-share-prefix-starts
+    slice-aggregate-prepare-2
     prepare-requires
     array-share-prefix-starts-2
     slice-aggregate-check-log
-    array-share-prefix-places
     slice-aggregate-check-log-2
+    array-share-prefix-places
+    slice-aggregate-check-log-3
     check-log-requires
     returns)

@@ -21,17 +21,17 @@ use Rattle.log.proofs.listing.order.Statement.{statement}
 use Rattle.log.proofs.listing.order.Tie as tie
 
 abbrev Inv-loop : tie.InvT-loop
-Inv-loop pool starts rows counts used sorted placed₀ log₀ first₀ k₀ placed log first k = Growing (setIn pool starts) log₀ placed log k × Skips (take used sorted) placed 0 first
+Inv-loop pool starts keys rows counts used sorted placed₀ log₀ first₀ k₀ placed log first k = Growing (setIn pool starts) log₀ placed log k × Skips (take used sorted) placed 0 first
 
 abbrev μ-loop : tie.MeasureT-loop
-μ-loop pool starts rows counts used sorted placed₀ log₀ first₀ k₀ placed log first k = used - k
+μ-loop pool starts keys rows counts used sorted placed₀ log₀ first₀ k₀ placed log first k = used - k
 
 -- where the deltas are sorted, where the call began, and where a turn skips and looks
 abbrev sorting : tie.At-loop Inv-loop μ-loop → tie.After-sort-by-key Inv-loop μ-loop
 sorting l = l .before
 
 abbrev begun : tie.After-sort-by-key Inv-loop μ-loop → tie.Start Inv-loop μ-loop
-begun c = c .before .before .before .before .before .before .before
+begun c = c .before .before .before .before .before .before
 
 abbrev entry : tie.At-loop Inv-loop μ-loop → tie.Start Inv-loop μ-loop
 entry l = begun (sorting l)
@@ -64,15 +64,15 @@ by-key c = take (length (begun c .args .starts .now)) (c .sort-by-key .result)
 all : (c : tie.After-sort-by-key Inv-loop μ-loop) → length (by-key c) ≡ length (begun c .args .starts .now)
 all c = let s = begun c in length-take-le (length (s .args .starts .now)) (c .sort-by-key .result) (omega (arith, sorted-size c, size s, s .pre .0 .fits))
 
-is-sorted : (c : tie.After-sort-by-key Inv-loop μ-loop) → Sorted (begun c .args .prepared .keys) (by-key c) (length (setOf (begun c) .deltas))
+is-sorted : (c : tie.After-sort-by-key Inv-loop μ-loop) → Sorted (begun c .args .keys .now) (by-key c) (length (setOf (begun c) .deltas))
 is-sorted c =
     let s = begun c in
-    subst (Sorted (s .args .prepared .keys) (by-key c)) (size s) (sorted-take (s .args .prepared .keys) (c .sort-by-key .result) (length (s .args .starts .now)) (c .sort-by-key .ensures))
+    subst (Sorted (s .args .keys .now) (by-key c)) (size s) (sorted-take (s .args .keys .now) (c .sort-by-key .result) (length (s .args .starts .now)) (c .sort-by-key .ensures))
 
 small : (c : tie.After-sort-by-key Inv-loop μ-loop) (q : ℕ) → q < length (by-key c) → getD (by-key c) q 0 < length (setOf (begun c) .deltas)
 small c q h = is-sorted c .inside q (omega (arith, all c, size (begun c)))
 
-lookable : (c : tie.After-sort-by-key Inv-loop μ-loop) → Lookable (begun c .args .prepared .rows) (begun c .args .prepared .counts) (by-key c)
+lookable : (c : tie.After-sort-by-key Inv-loop μ-loop) → Lookable (begun c .args .needed .rows) (begun c .args .needed .counts) (by-key c)
 lookable c =
     let s = begun c in
     record {
@@ -88,15 +88,12 @@ comes-next : (c : tie.After-first-ready Inv-loop μ-loop) → let l = turn (skip
 comes-next c =
     let l = turn (skipped c) .before in
     let s = entry l in
-    next-right (setOf s) (s .pre .0) (s .args .prepared .rows) (s .args .prepared .counts) (s .args .prepared .keys) (by-key (sorting l)) (l .loop .placed) (s .pre .1 .needs) (s .pre .1 .keyed) (all (sorting l) ∙ size s) (is-sorted (sorting l))
+    next-right (setOf s) (s .pre .0) (s .args .needed .rows) (s .args .needed .counts) (s .args .keys .now) (by-key (sorting l)) (l .loop .placed) (s .pre .1 .needs) (s .pre .1 .keyed) (all (sorting l) ∙ size s) (is-sorted (sorting l))
     (skipped c .skip-placed .result) (passed (skipped c)) (c .first-ready .result) (c .first-ready .ensures)
-
-slice-aggregate-sort-by-key : tie.Need-slice-aggregate-sort-by-key Inv-loop μ-loop
-slice-aggregate-sort-by-key c = omega (arith, c .before .before .before .before .before .before .pre .1 .keyed .size)
 
 sort-by-key-requires : tie.Need-sort-by-key-requires Inv-loop μ-loop
 sort-by-key-requires c κs =
-    let s = c .before .before .before .before .before .before in
+    let s = c .before .before .before .before .before in
     (s .pre .1 .keyed .size, omega (arith, size s, s .pre .0 .fits))
 
 loop-holds : tie.Need-loop-holds Inv-loop μ-loop
@@ -203,7 +200,6 @@ order-spec =
     (tie.spec
     Inv-loop
     μ-loop
-    slice-aggregate-sort-by-key
     sort-by-key-requires
     loop-holds
     array-share-prefix-sorted

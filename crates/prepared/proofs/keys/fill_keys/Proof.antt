@@ -1,6 +1,6 @@
 -- The keys below i are made, each from its delta's header and its block.
 use Prim.Native.Nat.{ℕ, _+_, _-_, _≤_}
-use mathlib.Core.Path.{_≡_, refl, sym, _∙_, ap, subst}
+use mathlib.Core.Path.{_≡_, sym, _∙_, ap, subst}
 use mathlib.Core.List.{List}
 use lib.ListN.{length, getD, length-map}
 use native.Mathlib.Omega.{arith}
@@ -16,48 +16,45 @@ use Rattle.prepared.proofs.keys.fill_keys.Statement.{statement}
 use Rattle.prepared.proofs.keys.fill_keys.Tie as tie
 
 abbrev Inv-loop : tie.InvT-loop
-Inv-loop pool starts blocks keys₀ i₀ keys i = (i ≤ length starts) × KeysBelow (deltasOf pool starts) blocks keys i
+Inv-loop keys₀ pool starts blocks i₀ keys i = (i ≤ length starts) × KeysBelow (deltasOf pool starts) blocks keys i
 
 abbrev μ-loop : tie.MeasureT-loop
-μ-loop pool starts blocks keys₀ i₀ keys i = length starts - i
+μ-loop keys₀ pool starts blocks i₀ keys i = length starts - i
 
 -- where the loop is entered, and where a turn of it begins
 abbrev entry : tie.At-loop Inv-loop μ-loop → tie.Start Inv-loop μ-loop
-entry c = c .before .before .before .before
+entry c = c .before .before .before .before .before
 
 abbrev turn : tie.After-shared-slice-known4 Inv-loop μ-loop → tie.In-loop Inv-loop μ-loop
 turn c = c .before .before .before
 
 -- where a key is made, from where the keys are lent
-abbrev made : tie.After-keys Inv-loop μ-loop → tie.After-make-key Inv-loop μ-loop
+abbrev made : tie.After-put-key-arg Inv-loop μ-loop → tie.After-make-key Inv-loop μ-loop
 made c = c .before
 
 few : (s : tie.Start Inv-loop μ-loop) → length (s .args .starts .now) ≤ capacity
-few s = omega (arith, s .pre .0 .fits, length-map (s .args .starts .now) (messageFrom (s .args .pool .now)))
+few s = omega (arith, s .pre .1 .fits, length-map (s .args .starts .now) (messageFrom (s .args .pool .now)))
 
 loop-holds : tie.Need-loop-holds Inv-loop μ-loop
-loop-holds c = (omega arith, record { size = refl; made = λ k h. let z : ⊥ = omega arith in absurd z })
+loop-holds c = (omega arith, record { size = c .before .before .before .before .pre .0; made = λ k h. let z : ⊥ = omega arith in absurd z })
 
 message-at-requires : tie.Need-message-at-requires Inv-loop μ-loop
-message-at-requires c κs = (entry (c .before) .pre .0, omega arith)
+message-at-requires c κs = (entry (c .before) .pre .1, omega arith)
 
 read-header-requires : tie.Need-read-header-requires Inv-loop μ-loop
 read-header-requires c κs =
     let l = c .before .before in
     let s = entry l in
-    omega (arith, ap length (c .message-at .ensures), entry-long (s .args .pool .now) (s .args .starts .now) (s .pre .0) (l .loop .i) (omega arith))
+    omega (arith, ap length (c .message-at .ensures), entry-long (s .args .pool .now) (s .args .starts .now) (s .pre .1) (l .loop .i) (omega arith))
 
 mul-make-key : tie.Need-mul-make-key Inv-loop μ-loop
 mul-make-key c = let l = c .before .before .before in omega (arith, few (entry l))
 
 shared-slice-read-make-key : tie.Need-shared-slice-read-make-key Inv-loop μ-loop
-shared-slice-read-make-key c = let s = entry (turn c .before) in omega (arith, few s, s .pre .1)
+shared-slice-read-make-key c = let s = entry (turn c .before) in omega (arith, few s, s .pre .2)
 
 make-key-requires : tie.Need-make-key-requires Inv-loop μ-loop
 make-key-requires c κs = search needs
-
-slice-aggregate-put-key : tie.Need-slice-aggregate-put-key Inv-loop μ-loop
-slice-aggregate-put-key c = sym (turn (made c .before) .before .loop .inv .1 .size)
 
 put-key-requires : tie.Need-put-key-requires Inv-loop μ-loop
 put-key-requires c κs =
@@ -72,7 +69,7 @@ loop-less c = omega arith
 
 loop-again : tie.Need-loop-again Inv-loop μ-loop
 loop-again c =
-    let put = c .before in
+    let put = c .before .before in
     let m = made (put .before) in
     let l = turn (m .before) .before in
     let s = entry l in
@@ -82,6 +79,9 @@ loop-again c =
           (keys-more (deltasOf (s .args .pool .now) (s .args .starts .now)) (s .args .blocks .now) (l .loop .keys) (l .loop .i) (m .make-key .result) (omega (arith, few s)) (l .loop .inv .1)
           (m .make-key .ensures ∙ ap (headerKey (getD (s .args .blocks .now) (l .loop .i) 0)) header)),
     )
+
+same-length : tie.Need-same-length Inv-loop μ-loop
+same-length c = let l = c .before in omega (arith, l .loop .inv .1 .size, entry l .pre .0)
 
 returns : tie.Need-returns Inv-loop μ-loop
 returns c =
@@ -102,9 +102,9 @@ fill-keys-spec =
     mul-make-key
     shared-slice-read-make-key
     make-key-requires
-    slice-aggregate-put-key
     put-key-requires
     add-i
     loop-less
     loop-again
+    same-length
     returns)
