@@ -2,7 +2,7 @@
 use mathlib.Core.Path.{_≡_, refl, sym, _∙_, ap, subst}
 use mathlib.Core.Logic.{⊎-elim}
 use mathlib.Core.Bool.{Bool, true, false, not, _||_}
-use mathlib.Core.List.{List, [], _∷_, _++_, map-append, List·Memᴰ·not-nil, List·Memᴰ·cases-cons, List·Memᴰ·append-cases, List·Memᴰ·eq-of-singleton, Memᴰ·cast}
+use mathlib.Core.List.{List, [], _∷_, _++_, map-append, List·Memᴰ·not-nil, List·Memᴰ·cases-cons, List·Memᴰ·append-cases, List·Memᴰ·eq-of-singleton, Memᴰ·cast, Memᴰ·of-map}
 use Prim.Native.Nat.{ℕ, _+_, _≤_, _<_}
 use native.Mathlib.Omega.{arith}
 use native.Mathlib.Numerals.{add-one}
@@ -16,12 +16,13 @@ use Rattle.model.specs.Message.{Message, sequenceOf, blockOf}
 use Rattle.model.specs.Order.{State, RightSet, sequencesOf, needs, placedBy, ready, Executable, effectiveBlock}
 use Rattle.order.specs.ListLaws.{getD-∈}
 use Rattle.order.specs.TestLaws.{decide, not-eqb}
-use Rattle.order.specs.ListingLaws.{Stuck, stuck-complete, listing-snoc, listing-length, after-snoc, after-has}
+use Rattle.order.specs.ListingLaws.{stuck-complete, listing-snoc, listing-length, after-snoc, after-has}
 use Rattle.laws.specs.SetLaws.{ascending-names}
 use Rattle.table.specs.Table.{deltasAt}
 use Rattle.table.specs.PlaceLaws.{one-place}
-use Rattle.needs.specs.Names.{missing}
-use Rattle.needs.specs.NameLaws.{sequence-at}
+use Rattle.needs.specs.Names.{missing, indexOf}
+use Rattle.needs.specs.IndexLaws.{index-here}
+use Rattle.needs.specs.NameLaws.{sequence-at, set-ascends}
 use Rattle.needs.specs.Rows.{RowsRight}
 use Rattle.closure.specs.declared.closing.Closure.{Closure}
 use Rattle.closure.specs.Ready.{marksSize, isPlaced, readyIn, effectiveIn, Marks, Placing, Blocks}
@@ -161,19 +162,25 @@ module _ (S : State) (right : RightSet (S .deltas)) where
           is-ready = subst T (sym r ∙ ready-is S placed so-far (c .placing) rows counts rr i inside) tt
 
   -- ---- where none is ready, all executable deltas are placed, with their effective blocks
-  pub closed-block : (rows counts : List ℕ) → RowsRight S rows counts → (r : Closure) → Closed S rows counts r
-      → (i : ℕ) → i < length (S .deltas) → Executable S (getD (S .deltas) i []) → getD (r .blocks) i 0 ≡ effectiveBlock S (getD (S .deltas) i [])
-  closed-block rows counts rr r c i h ex = c .closing .effective .here i h (subst (λ (s : ℕ). s ∈ placedBy l) (sym (sequence-at (S .deltas) i)) (after-has sequenceOf l [] listed))
-    where
-      l : List Message
-      l = deltasAt (S .deltas) (take (r .count) (r .order))
+  module _ (rows counts : List ℕ) (rr : RowsRight S rows counts) (r : Closure) (c : Closed S rows counts r) (i : ℕ) (h : i < length (S .deltas)) (ex : Executable S (getD (S .deltas) i [])) where
+    abbrev placed-deltas : List Message
+    placed-deltas = deltasAt (S .deltas) (take (r .count) (r .order))
 
-      stuck : Stuck sequenceOf (needs S) (S .deltas) (placedBy l)
-      stuck = idle-stuck S (r .placed) l (c .closing .placing) rows counts rr (c .idle)
+    listed : getD (S .deltas) i [] ∈ placed-deltas
+    listed = stuck-complete sequenceOf (needs S) (S .deltas) (ascending-names (S .deltas) (right .ascends)) placed-deltas (c .closing .placing .listing) (c .closing .placing .received)
+        (idle-stuck S (r .placed) placed-deltas (c .closing .placing) rows counts rr (c .idle)) .complete (getD (S .deltas) i []) (getD-∈ (S .deltas) i [] h) ex
 
-      listed : getD (S .deltas) i [] ∈ l
-      listed = stuck-complete sequenceOf (needs S) (S .deltas) (ascending-names (S .deltas) (right .ascends)) l (c .closing .placing .listing) (c .closing .placing .received) stuck .complete
-          (getD (S .deltas) i []) (getD-∈ (S .deltas) i [] h) ex
+    pub closed-block : getD (r .blocks) i 0 ≡ effectiveBlock S (getD (S .deltas) i [])
+    closed-block = c .closing .effective .here i h (subst (λ (s : ℕ). s ∈ placedBy placed-deltas) (sym (sequence-at (S .deltas) i)) (after-has sequenceOf placed-deltas [] listed))
+
+    -- it is one of those in the closure's order
+    pub closed-placed : i ∈ take (r .count) (r .order)
+    closed-placed =
+        let m = Memᴰ·of-map (λ j. getD (S .deltas) j []) (take (r .count) (r .order)) listed in
+        subst (λ (j : ℕ). j ∈ take (r .count) (r .order)) (index (m .0) (c .closing .inside (m .0) (m .1)) (ap sequenceOf (m .2)) ∙ sym (index i h refl)) (m .1)
+      where
+        index : (j : ℕ) → j < length (S .deltas) → sequenceOf (getD (S .deltas) j []) ≡ sequenceOf (getD (S .deltas) i []) → j ≡ indexOf (sequencesOf (S .deltas)) (sequenceOf (getD (S .deltas) i []))
+        index j q e = index-here (sequencesOf (S .deltas)) (set-ascends (S .deltas) (right .ascends)) (sequenceOf (getD (S .deltas) i [])) j (omega (arith, length-map (S .deltas) sequenceOf)) (sequence-at (S .deltas) j ∙ e)
 
 -- ---- what holds where the loop of `pass` tests
 module _ (S : State) (rows counts : List ℕ) (count : ℕ) where

@@ -3,6 +3,7 @@ use mathlib.Core.Path.{_≡_}
 use mathlib.Core.List.{List, []}
 use Prim.Native.Nat.{ℕ, _*_, _<_}
 use lib.ListN.{length, getD}
+use Rattle.model.specs.Lists.{_∈_}
 use Rattle.model.specs.Layout.{capacity}
 use Rattle.model.specs.Message.{Message}
 use Rattle.model.specs.Order.{State, Executable, keyOf, less}
@@ -14,13 +15,14 @@ use Rattle.needs.specs.declared.rows.Rows.{Rows}
 abbrev pub Keyed : List ℕ → Type 0
 Keyed keys = length keys ≡ keySize * capacity
 
--- The first n keys, each of its delta with the block beside it.
-pub record KeysBelow (l : List Message) (blocks keys : List ℕ) (n : ℕ) : Type 0 where
-  pub size : Keyed keys
-  pub made : (i : ℕ) → i < n → keyIn keys i ≡ headerKey (getD blocks i 0) (headerOf (getD l i []))
+-- Indices of a table.
+abbrev pub InTable : List ℕ → List ℕ → Type 0
+InTable starts indices = (i : ℕ) → i ∈ indices → i < length starts
 
-abbrev pub KeysMade : List Message → List ℕ → List ℕ → Type 0
-KeysMade l blocks keys = KeysBelow l blocks keys (length l)
+-- The keys at these indices, each of its delta with the block beside it.
+pub record KeysMade (l : List Message) (blocks indices keys : List ℕ) : Type 0 where
+  pub size : Keyed keys
+  pub made : (i : ℕ) → i ∈ indices → keyIn keys i ≡ headerKey (getD blocks i 0) (headerOf (getD l i []))
 
 -- The keys of executable deltas are compared as the definitions' keys are.
 pub record KeysRight (S : State) (keys : List ℕ) : Type 0 where

@@ -1,4 +1,4 @@
-// The keys of a table's deltas, each made once.
+// The keys of a table's executable deltas, each made once.
 use key::make_key;
 use key::put_key;
 use message::header::read_header;
@@ -7,18 +7,19 @@ ghost use mathlib.Core.Path.{_≡_};
 ghost use lib.ListN.{length};
 ghost use Rattle.table.specs.Table.{deltasOf, Holds};
 ghost use Rattle.closure.specs.Ready.{marksSize};
-ghost use Rattle.prepared.specs.Keys.{Keyed, KeysMade};
+ghost use Rattle.prepared.specs.Keys.{Keyed, InTable, KeysMade};
 
-// Writes the key of each delta with its effective block.
-pub fn fill_keys(keys: &mut [u64], pool: &[u8], starts: &[u16], blocks: &[u32])
-    requires { ⌜ Keyed (now keys) × Holds (now pool) (now starts) × (length (now blocks) ≡ marksSize) ⌝ }
-    ensures { λ _. ⌜ KeysMade (deltasOf (now (pool .entry)) (now (starts .entry))) (now (blocks .entry)) (now (keys .exit)) ⌝ }
+// Writes the keys of the deltas at these indices, each with its effective block.
+pub fn fill_keys(keys: &mut [u64], pool: &[u8], starts: &[u16], blocks: &[u32], indices: &[u8])
+    requires { ⌜ Keyed (now keys) × Holds (now pool) (now starts) × (length (now blocks) ≡ marksSize) × InTable (now starts) (now indices) ⌝ }
+    ensures { λ _. ⌜ KeysMade (deltasOf (now (pool .entry)) (now (starts .entry))) (now (blocks .entry)) (now (indices .entry)) (now (keys .exit)) ⌝ }
 {
-    let mut i = 0;
-    while i < starts.len() {
+    let mut k = 0;
+    while k < indices.len() {
+        let i = indices[k] as usize;
         let header = read_header(message_at(pool, starts, i));
         let key = make_key(blocks[i], header);
         put_key(keys, i, key);
-        i += 1;
+        k += 1;
     }
 }

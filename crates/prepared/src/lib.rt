@@ -8,7 +8,7 @@ use needs::rows::fill_rows;
 ghost use Rattle.table.specs.Table.{setIn, Holds};
 ghost use Rattle.prepared.specs.Keys.{Keyed, PreparedRight};
 
-// Finds the needs of all deltas, closes them for their effective blocks, and writes the keys.
+// Finds the needs of all deltas, closes them for what is executable and the effective blocks, and writes the keys.
 pub fn prepare(keys: &mut [u64], pool: &[u8], starts: &[u16]) -> Rows
     requires { ⌜ Keyed (now keys) × Holds (now pool) (now starts) ⌝ }
     ensures { λ r. ⌜ PreparedRight (setIn (now (pool .entry)) (now (starts .entry))) r (now (keys .exit)) ⌝ }
@@ -18,6 +18,8 @@ pub fn prepare(keys: &mut [u64], pool: &[u8], starts: &[u16]) -> Rows
     let counts = needed.counts;
     let closed = close(pool, starts, &rows, &counts);
     let blocks = closed.blocks;
-    fill_keys(keys, pool, starts, &blocks);
+    let executable = closed.order;
+    let count = closed.count;
+    fill_keys(keys, pool, starts, &blocks, &executable[..count]);
     needed
 }

@@ -1,68 +1,88 @@
--- The keys below i are made, each from its delta's header and its block.
-use Prim.Native.Nat.{ℕ, _+_, _-_, _≤_}
-use mathlib.Core.Path.{_≡_, sym, _∙_, ap, subst}
+-- The keys at the first k indices are made, each from its delta's header and its block.
+use Prim.Native.Nat.{ℕ, _+_, _-_, _≤_, _<_}
+use mathlib.Core.Path.{sym, _∙_, ap, subst}
 use mathlib.Core.List.{List}
-use lib.ListN.{length, getD, length-map}
+use lib.ListN.{length, getD, take, length-map}
 use native.Mathlib.Omega.{arith}
-use borrow.Author.Needs.{needs}
 use Rattle.model.specs.Layout.{capacity}
+use Rattle.order.specs.ListLaws.{getD-∈}
 use Rattle.message.specs.Header.{headerOf}
 use Rattle.key.specs.Key.{headerKey}
 use Rattle.table.specs.Table.{messageFrom, deltasOf}
 use Rattle.table.specs.PlaceLaws.{entry-long}
-use Rattle.prepared.specs.Keys.{KeysBelow}
-use Rattle.prepared.specs.KeyMaking.{keys-more}
+use Rattle.prepared.specs.Keys.{KeysMade}
+use Rattle.prepared.specs.KeyMaking.{keys-none, keys-more, keys-all}
 use Rattle.prepared.proofs.keys.fill_keys.Statement.{statement}
 use Rattle.prepared.proofs.keys.fill_keys.Tie as tie
 
 abbrev Inv-loop : tie.InvT-loop
-Inv-loop keys₀ pool starts blocks i₀ keys i = (i ≤ length starts) × KeysBelow (deltasOf pool starts) blocks keys i
+Inv-loop keys₀ pool starts blocks indices k₀ keys k = (k ≤ length indices) × KeysMade (deltasOf pool starts) blocks (take k indices) keys
 
 abbrev μ-loop : tie.MeasureT-loop
-μ-loop keys₀ pool starts blocks i₀ keys i = length starts - i
+μ-loop keys₀ pool starts blocks indices k₀ keys k = length indices - k
 
--- where the loop is entered, and where a turn of it begins
+-- where the call began, where a turn reads its index, and where it made the key
 abbrev entry : tie.At-loop Inv-loop μ-loop → tie.Start Inv-loop μ-loop
-entry c = c .before .before .before .before .before
+entry c = c .before .before .before .before .before .before
 
-abbrev turn : tie.After-shared-slice-known4 Inv-loop μ-loop → tie.In-loop Inv-loop μ-loop
-turn c = c .before .before .before
+abbrev turn : tie.After-shared-slice-known5 Inv-loop μ-loop → tie.At-loop Inv-loop μ-loop
+turn c = c .before .before
 
--- where a key is made, from where the keys are lent
+abbrev indexed : tie.After-message-at Inv-loop μ-loop → tie.After-shared-slice-known5 Inv-loop μ-loop
+indexed c = c .before
+
 abbrev made : tie.After-put-key-arg Inv-loop μ-loop → tie.After-make-key Inv-loop μ-loop
 made c = c .before
+
+abbrev messaged : tie.After-make-key Inv-loop μ-loop → tie.After-message-at Inv-loop μ-loop
+messaged c = c .before .before .before
+
+-- the index is one of the table
+inside : (c : tie.After-shared-slice-known5 Inv-loop μ-loop) → getD (entry (turn c) .args .indices .now) (turn c .loop .k) 0 < length (entry (turn c) .args .starts .now)
+inside c = let l = turn c in let s = entry l in s .pre .3 (getD (s .args .indices .now) (l .loop .k) 0) (getD-∈ (s .args .indices .now) (l .loop .k) 0 (omega arith))
 
 few : (s : tie.Start Inv-loop μ-loop) → length (s .args .starts .now) ≤ capacity
 few s = omega (arith, s .pre .1 .fits, length-map (s .args .starts .now) (messageFrom (s .args .pool .now)))
 
 loop-holds : tie.Need-loop-holds Inv-loop μ-loop
-loop-holds c = (omega arith, record { size = c .before .before .before .before .pre .0; made = λ k h. let z : ⊥ = omega arith in absurd z })
+loop-holds c =
+    let s = c .before .before .before .before .before in
+    (omega arith, keys-none (deltasOf (s .args .pool .now) (s .args .starts .now)) (s .args .blocks .now) (s .args .indices .now) (s .args .keys .now) (s .pre .0))
+
+shared-slice-read-i : tie.Need-shared-slice-read-i Inv-loop μ-loop
+shared-slice-read-i c = omega arith
+
+cast-i : tie.Need-cast-i Inv-loop μ-loop
+cast-i c = omega (arith, inside c, few (entry (turn c)))
 
 message-at-requires : tie.Need-message-at-requires Inv-loop μ-loop
-message-at-requires c κs = (entry (c .before) .pre .1, omega arith)
+message-at-requires c κs = (entry (turn c) .pre .1, inside c)
 
 read-header-requires : tie.Need-read-header-requires Inv-loop μ-loop
 read-header-requires c κs =
-    let l = c .before .before in
-    let s = entry l in
-    omega (arith, ap length (c .message-at .ensures), entry-long (s .args .pool .now) (s .args .starts .now) (s .pre .1) (l .loop .i) (omega arith))
+    let i = indexed c in
+    let s = entry (turn i) in
+    omega (arith, ap length (c .message-at .ensures), entry-long (s .args .pool .now) (s .args .starts .now) (s .pre .1) (getD (s .args .indices .now) (turn i .loop .k) 0) (inside i))
 
 mul-make-key : tie.Need-mul-make-key Inv-loop μ-loop
-mul-make-key c = let l = c .before .before .before in omega (arith, few (entry l))
+mul-make-key c = let i = indexed (c .before) in omega (arith, inside i, few (entry (turn i)))
 
 shared-slice-read-make-key : tie.Need-shared-slice-read-make-key Inv-loop μ-loop
-shared-slice-read-make-key c = let s = entry (turn c .before) in omega (arith, few s, s .pre .2)
+shared-slice-read-make-key c =
+    let i = indexed (c .before .before) in
+    let s = entry (turn i) in
+    omega (arith, inside i, few s, s .pre .2)
 
 make-key-requires : tie.Need-make-key-requires Inv-loop μ-loop
-make-key-requires c κs = search needs
+make-key-requires c κs = tt
 
 put-key-requires : tie.Need-put-key-requires Inv-loop μ-loop
 put-key-requires c κs =
-    let l = turn (made c .before) .before in
-    omega (arith, l .loop .inv .1 .size, few (entry l))
+    let i = indexed (messaged (made c)) in
+    omega (arith, turn i .loop .inv .1 .size, inside i, few (entry (turn i)))
 
-add-i : tie.Need-add-i Inv-loop μ-loop
-add-i c = omega arith
+add-k : tie.Need-add-k Inv-loop μ-loop
+add-k c = omega arith
 
 loop-less : tie.Need-loop-less Inv-loop μ-loop
 loop-less c = omega arith
@@ -71,13 +91,15 @@ loop-again : tie.Need-loop-again Inv-loop μ-loop
 loop-again c =
     let put = c .before .before in
     let m = made (put .before) in
-    let l = turn (m .before) .before in
+    let at = messaged m in
+    let i = indexed at in
+    let l = turn i in
     let s = entry l in
-    let header = m .before .before .read-header .ensures ∙ ap headerOf (m .before .before .before .message-at .ensures) in (
+    let header = m .before .before .read-header .ensures ∙ ap headerOf (at .message-at .ensures) in (
       omega arith,
-      subst (λ (x : List ℕ). KeysBelow (deltasOf (s .args .pool .now) (s .args .starts .now)) (s .args .blocks .now) x (l .loop .i + 1)) (sym (put .put-key .ensures))
-          (keys-more (deltasOf (s .args .pool .now) (s .args .starts .now)) (s .args .blocks .now) (l .loop .keys) (l .loop .i) (m .make-key .result) (omega (arith, few s)) (l .loop .inv .1)
-          (m .make-key .ensures ∙ ap (headerKey (getD (s .args .blocks .now) (l .loop .i) 0)) header)),
+      subst (λ (x : List ℕ). KeysMade (deltasOf (s .args .pool .now) (s .args .starts .now)) (s .args .blocks .now) (take (l .loop .k + 1) (s .args .indices .now)) x) (sym (put .put-key .ensures))
+          (keys-more (deltasOf (s .args .pool .now) (s .args .starts .now)) (s .args .blocks .now) (s .args .indices .now) (l .loop .keys) (l .loop .k) (m .make-key .result) (omega arith) (omega (arith, inside i, few s)) (l .loop .inv .1)
+          (m .make-key .ensures ∙ ap (headerKey (getD (s .args .blocks .now) (getD (s .args .indices .now) (l .loop .k) 0) 0)) header)),
     )
 
 same-length : tie.Need-same-length Inv-loop μ-loop
@@ -87,8 +109,7 @@ returns : tie.Need-returns Inv-loop μ-loop
 returns c =
     let l = c .before in
     let s = entry l in
-    let all : l .loop .i ≡ length (deltasOf (s .args .pool .now) (s .args .starts .now)) = omega (arith, length-map (s .args .starts .now) (messageFrom (s .args .pool .now))) in
-    subst (KeysBelow (deltasOf (s .args .pool .now) (s .args .starts .now)) (s .args .blocks .now) (l .loop .keys)) all (l .loop .inv .1)
+    keys-all (deltasOf (s .args .pool .now) (s .args .starts .now)) (s .args .blocks .now) (s .args .indices .now) (l .loop .keys) (l .loop .k) (omega arith) (l .loop .inv .1)
 
 pub fill-keys-spec : {M : Type 1} → statement M
 fill-keys-spec =
@@ -97,13 +118,15 @@ fill-keys-spec =
     Inv-loop
     μ-loop
     loop-holds
+    shared-slice-read-i
+    cast-i
     message-at-requires
     read-header-requires
     mul-make-key
     shared-slice-read-make-key
     make-key-requires
     put-key-requires
-    add-i
+    add-k
     loop-less
     loop-again
     same-length
