@@ -7,9 +7,10 @@ use Rattle.model.specs.Message.{Message}
 use Rattle.model.specs.Calls as model
 use Rattle.deliver.specs.declared.answer.Delivery.{Delivery}
 use Rattle.deliver.specs.declared.answer.Delivery.the-variants as delivery
-use Rattle.deliver.specs.declared.answer.Emptying.{Emptying}
-use Rattle.deliver.specs.declared.answer.Emptying.the-variants as emptying
-use Rattle.deliver.specs.Answer.{deliveredBy, emptiedBy}
+use Rattle.emptying.specs.declared.Emptying.{Emptying}
+use Rattle.emptying.specs.declared.Emptying.the-variants as emptying
+use Rattle.deliver.specs.Answer.{deliveredBy}
+use Rattle.emptying.specs.EmptyAnswer.{emptiedBy}
 use Rattle.deliver.specs.CountLaws.{Counted, deliver-counted}
 use Rattle.bivamolune.specs.Packing.{packed, AnswerFits, Unpacks}
 use Rattle.bivamolune.specs.PackingLaws.{unpacked}

@@ -7,8 +7,8 @@ use Rattle.model.specs.Message.{Message}
 use Rattle.model.specs.Calls.{empty, deliver}
 use Rattle.deliver.specs.declared.answer.Delivery.{Delivery}
 use Rattle.deliver.specs.declared.answer.Delivery.the-variants as delivery
-use Rattle.deliver.specs.declared.answer.Emptying.{Emptying}
-use Rattle.deliver.specs.declared.answer.Emptying.the-variants as emptying
+use Rattle.emptying.specs.declared.Emptying.{Emptying}
+use Rattle.emptying.specs.declared.Emptying.the-variants as emptying
 use Rattle.bivamolune.specs.Packing.{packed, Unpacks}
 
 pub record Empties (entry : List ℕ) (r : ℕ) (exit : List ℕ) : Type 0 where

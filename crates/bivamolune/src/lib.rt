@@ -3,9 +3,9 @@ mod packing;
 
 use crate::packing::pack_answer;
 use deliver::answer::Delivery;
-use deliver::answer::Emptying;
 use deliver::delivery::deliver;
-use deliver::emptying::empty;
+use emptying::Emptying;
+use emptying::empty;
 ghost use mathlib.Core.Path.{_≡_};
 ghost use Rattle.bivamolune.specs.Answers.{Empties, Delivers, packedBy, codeBy, Small};
 

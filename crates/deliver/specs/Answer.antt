@@ -1,14 +1,12 @@
--- The answers as the definitions have them: document 01's number and counts for each case, beside the buffers afterwards.
+-- The answer of deliver as the definitions have it: document 01's number and counts for each case, beside the buffers afterwards.
 use mathlib.Core.Bool.{Bool, true, false}
 use mathlib.Core.List.{List}
 use Prim.Native.Nat.{ℕ}
-use Rattle.model.specs.Calls.{Emptied, Delivered}
+use Rattle.model.specs.Calls.{Delivered}
 use Rattle.parse.specs.declared.Parsed.{Parsed}
 use Rattle.parse.specs.declared.Parsed.the-variants as parsed
 use Rattle.deliver.specs.declared.answer.Delivery.{Delivery}
 use Rattle.deliver.specs.declared.answer.Delivery.the-variants as delivery
-use Rattle.deliver.specs.declared.answer.Emptying.{Emptying}
-use Rattle.deliver.specs.declared.answer.Emptying.the-variants as emptying
 
 -- a refusal: its number, and no steps
 abbrev pub refusal : ℕ → List ℕ → List ℕ → Delivered
@@ -24,10 +22,6 @@ deliveredBy delivery.WrongDependencies image steps = refusal 5 image steps
 deliveredBy delivery.WrongContent image steps = refusal 6 image steps
 deliveredBy delivery.Conflict image steps = refusal 7 image steps
 deliveredBy delivery.Full image steps = refusal 8 image steps
-
-abbrev pub emptiedBy : Emptying → List ℕ → Emptied
-emptiedBy emptying.Done image = record { code = 0; image = image }
-emptiedBy emptying.WrongSize image = record { code = 1; image = image }
 
 -- the refusal of a message that fails 3 to 6 (of one that passes it is asked nowhere)
 abbrev pub refusalOf : Parsed → Delivery

@@ -1,13 +1,7 @@
 pub mod Answer
-pub mod EmptyCases
 pub mod DeliverCases
-pub mod AcceptLaws
-pub mod Ordering
 pub mod RefuseLaws
 pub mod RefuseCases
-pub mod DeliveryPool
-pub mod Accepting
-pub mod AcceptedLaws
 pub mod Delivering
 pub mod PlaceCases
 pub mod CountLaws

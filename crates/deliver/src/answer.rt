@@ -1,5 +1,3 @@
-// What the calls answer.
-
 // What deliver answers: the counts of its steps, or why it refused.
 pub enum Delivery {
     Accepted { undos: usize, executions: usize },
@@ -11,10 +9,4 @@ pub enum Delivery {
     WrongContent,
     Conflict,
     Full,
-}
-
-// What empty answers.
-pub enum Emptying {
-    Done,
-    WrongSize,
 }

@@ -1,10 +1,8 @@
 // Deliver: a message arrives at a station.
-use crate::accepting::accept;
 use crate::answer::Delivery;
-use crate::refusing::check_image_size;
-use crate::refusing::check_step_room;
 use crate::refusing::judge_repeat;
 use crate::refusing::refuse;
+use accepting::accept;
 use judged::judging::Station;
 use judged::judging::read_station;
 use layout::CAPACITY;
@@ -12,6 +10,8 @@ use message::checks::Check;
 use parse::Parsed;
 use parse::parse;
 use sequence::Sequence;
+use sizes::check_image_size;
+use sizes::check_step_room;
 use table::places::Place;
 use table::places::find;
 ghost use mathlib.Core.Path.{_≡_};
@@ -35,7 +35,11 @@ fn accept_new(
     if CAPACITY <= table.count {
         return Delivery::Full;
     }
-    accept(image, message, steps, station, p)
+    let change = accept(image, message, steps, station, p);
+    Delivery::Accepted {
+        undos: change.undos,
+        executions: change.executions,
+    }
 }
 
 // A message that passes 3 to 6, by whether its sequence is there.

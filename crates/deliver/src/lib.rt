@@ -1,7 +1,4 @@
-// The calls of a station: empty and deliver.
-pub mod accepting;
+// The call deliver.
 pub mod answer;
 pub mod delivery;
-pub mod emptying;
-pub mod ordering;
 pub mod refusing;

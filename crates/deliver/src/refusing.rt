@@ -1,42 +1,14 @@
-// The checks of deliver that need neither table nor log: sizes, the message's refusal, and a sequence that is there already.
+// What deliver answers to a message that fails 3 to 6, and to one whose sequence is there already.
 use crate::answer::Delivery;
 use buffer::get_u16;
 use buffer::same;
-use layout::IMAGE_SIZE;
 use layout::LENGTH_AT;
-use layout::STEP_ROOM;
-use message::checks::Check;
 use parse::Parsed;
 ghost use mathlib.Core.Path.{_≡_};
-ghost use mathlib.Core.Bool.{not};
-ghost use lib.Dec.{eqb};
-ghost use Rattle.model.specs.Layout.{imageSize};
 ghost use Rattle.model.specs.Lists.{same as sameList};
-ghost use Rattle.model.specs.Codes.{smallSteps};
-ghost use Rattle.message.specs.Check.{right};
 ghost use Rattle.table.specs.Table.{messageFrom};
 ghost use Rattle.table.specs.TableLaws.{Lies};
 ghost use Rattle.deliver.specs.Answer.{refusalOf, repeatOf};
-
-// Code 1 of an image: its size.
-pub fn check_image_size(size: usize) -> Check
-    ensures { λ r. ⌜ right r ≡ eqb size imageSize ⌝ }
-{
-    if size != IMAGE_SIZE {
-        return Check::Wrong;
-    }
-    Check::Right
-}
-
-// Code 1 of a step buffer: its room.
-pub fn check_step_room(size: usize) -> Check
-    ensures { λ r. ⌜ right r ≡ not (smallSteps size) ⌝ }
-{
-    if size < STEP_ROOM {
-        return Check::Wrong;
-    }
-    Check::Right
-}
 
 // What deliver answers to a message that fails 3 to 6.
 pub fn refuse(parsed: Parsed) -> Delivery

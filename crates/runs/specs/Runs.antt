@@ -17,10 +17,11 @@ use Rattle.laws.specs.LogLaws.{log-is, log-executable, log-grounded}
 use Rattle.laws.specs.ImageLaws.{log-back}
 use Rattle.run_laws.specs.RunLaws.{agreement-of, state-valid}
 use Rattle.deliver.specs.declared.answer.Delivery.{Delivery}
-use Rattle.deliver.specs.declared.answer.Emptying.{Emptying}
-use Rattle.deliver.specs.declared.answer.Emptying.the-variants as emptying
-use Rattle.deliver.specs.Answer.{deliveredBy, emptiedBy}
-use Rattle.deliver.proofs.emptying.empty.Reads as empty-reads
+use Rattle.emptying.specs.declared.Emptying.{Emptying}
+use Rattle.emptying.specs.declared.Emptying.the-variants as emptying
+use Rattle.deliver.specs.Answer.{deliveredBy}
+use Rattle.emptying.specs.EmptyAnswer.{emptiedBy}
+use Rattle.emptying.proofs.empty.Reads as empty-reads
 use Rattle.deliver.proofs.delivery.deliver.Reads as deliver-reads
 
 -- A call of `empty` that was given this, answered 0 and left the image b.

@@ -1,0 +1,98 @@
+-- A new message in the table: its set is the old one with the message, and the old log stands at the shifted places.
+use mathlib.Core.Path.{_≡_, sym, _∙_, ap, ap₂, subst}
+use mathlib.Core.List.{List, [], map}
+use Prim.Native.Nat.{ℕ, _+_, _≤_, _<_}
+use native.Mathlib.Omega.{arith}
+use lib.ListN.{length, take, getD, length-map}
+use lib.Seq.{length-take-le}
+use Rattle.model.specs.Layout.{imageSize, messageRoom, capacity}
+use Rattle.model.specs.Message.{Message}
+use Rattle.model.specs.Order.{State, add}
+use Rattle.model.specs.Image.{stateIn}
+use Rattle.model.specs.Calls.{Delivered, acceptedAnswer}
+use Rattle.laws.specs.LogLaws.{log-length}
+use Rattle.wire_laws.specs.MessageLaws.{passes-sized, sized-range}
+use Rattle.table.specs.declared.Table.{Table}
+use Rattle.table.specs.Table.{startsOf, messageFrom, deltasOf, setIn, Holds, insertAt}
+use Rattle.table.specs.Places.{AllBelow}
+use Rattle.table.specs.Shifting.{shifted}
+use Rattle.steps.specs.PlacedLogs.{IsLogOf, log-shifted}
+use Rattle.judged.specs.declared.judging.Station.{Station}
+use Rattle.judged.specs.Judging.{placesIn}
+use Rattle.accepting.specs.DeliveryPool.{poolOf, old-deltas, new-holds, new-set}
+use Rattle.accepting.specs.Accepting.{Updatable, Updates, Acceptable}
+
+module _ (b : List ℕ) (m : Message) (room : ℕ) (station : Station) (p : ℕ) (h : Acceptable b m room station p)
+    (starts-size : length (station .table .starts) ≡ capacity) (places-size : length (station .places) ≡ capacity) where
+  abbrev starts : List ℕ
+  starts = startsOf (station .table)
+
+  used : length starts ≡ station .table .count
+  used = let few : station .table .count < capacity = h .few in length-take-le (station .table .count) (station .table .starts) (omega arith)
+
+  pub place-fits : p ≤ station .table .count
+  place-fits = omega (arith, h .absent .inside, used)
+
+  pub message-fits : length b + length m ≤ imageSize + messageRoom
+  message-fits = omega (arith, h .size, sized-range m (passes-sized m (h .right)) .1)
+
+  -- the log has at most as many deltas as the table
+  pub log-few : station .logged < capacity
+  log-few =
+      let few : station .table .count < capacity = h .few in
+      let most : station .logged ≤ capacity = h .judged .fits in
+      omega (
+        arith,
+        length-take-le (station .logged) (station .places) (omega arith),
+        length-map (placesIn station) (λ i. getD (deltasOf b starts) i []),
+        ap length (h .judged .log),
+        log-length (setIn b starts) (h .judged .table .holds .ascends),
+        length-map starts (messageFrom b),
+        used,
+      )
+
+  pub places-within : AllBelow capacity (placesIn station)
+  places-within i k = omega (arith, h .judged .inside i k, used, h .few)
+
+  module _ (buffer pool : List ℕ) (filled : pool ≡ poolOf buffer b m) (long : length buffer ≡ imageSize + messageRoom)
+      (next : Table) (inserted : startsOf next ≡ insertAt p imageSize starts) (grown : next .count ≡ station .table .count + 1)
+      (old : List ℕ) (moved : take (station .logged) old ≡ map (shifted p) (placesIn station)) where
+    room-for-both : length b + length m ≤ length buffer
+    room-for-both = omega (arith, message-fits)
+
+    starts-few : length starts < capacity
+    starts-few = omega (arith, h .few, used)
+
+    next-starts : startsOf next ≡ insertAt p (length b) starts
+    next-starts = inserted ∙ ap (λ (n : ℕ). insertAt p n starts) (sym (h .size))
+
+    holds-next : Holds pool (startsOf next)
+    holds-next = subst (λ (s : List ℕ). Holds pool s) (sym next-starts) (subst (λ (x : List ℕ). Holds x (insertAt p (length b) starts)) (sym filled)
+        (new-holds buffer b m room-for-both starts (h .judged .table .holds) (h .right) p (h .absent) starts-few))
+
+    set-next : setIn pool (startsOf next) ≡ add m (setIn b starts)
+    set-next = ap₂ setIn filled next-starts ∙ new-set buffer b m room-for-both starts (h .judged .table .holds) (h .right) p (h .absent) starts-few
+
+    deltas-same : deltasOf pool starts ≡ deltasOf b starts
+    deltas-same = ap (λ (x : List ℕ). deltasOf x starts) filled ∙ old-deltas buffer b m room-for-both starts (h .judged .table .holds) (h .right) p (h .absent) starts-few
+
+    log-moved : IsLogOf pool (startsOf next) (take (station .logged) old) (setIn b starts)
+    log-moved = subst (λ (s : List ℕ). IsLogOf pool s (take (station .logged) old) (setIn b starts)) (sym inserted)
+        (subst (λ (l : List ℕ). IsLogOf pool (insertAt p imageSize starts) l (setIn b starts)) (sym moved)
+        (log-shifted b pool starts p imageSize (placesIn station) (setIn b starts) deltas-same (h .absent .inside) (record { log = h .judged .log; within = h .judged .inside })))
+
+    pub updatable : Updatable b room pool next old (station .logged)
+    updatable = record {
+      size = h .size;
+      steps-room = h .steps-room;
+      holds = holds-next;
+      fits = let few : station .table .count < capacity = h .few in omega arith;
+      few = log-few;
+      old-state = setIn b starts;
+      before = log-moved;
+    }
+
+    pub accepted-answer : (steps : List ℕ) (d : Delivered) → Updates steps pool next old (station .logged) d → d ≡ acceptedAnswer (stateIn b) (add m (stateIn b)) steps
+    accepted-answer steps d u =
+        u .answer (setIn b starts) log-moved
+        ∙ ap₂ (λ (S R : State). acceptedAnswer S R steps) (h .judged .table .set) (set-next ∙ ap (add m) (h .judged .table .set))

@@ -1,0 +1,5 @@
+pub mod Ordering
+pub mod DeliveryPool
+pub mod Accepting
+pub mod AcceptLaws
+pub mod AcceptedLaws

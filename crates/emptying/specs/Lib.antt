@@ -1,0 +1,2 @@
+pub mod EmptyAnswer
+pub mod EmptyCases
