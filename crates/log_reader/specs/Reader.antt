@@ -13,5 +13,8 @@ abbrev pub Starts : List ℕ → LogReader → Type 0
 Starts b r = readerOf r ≡ model.start b
 
 -- the part, and the reader moved on
+abbrev pub readOf : List ℕ → model.Reader → model.Read
+readOf part r = record { part = part; reader = r }
+
 abbrev pub Reads : LogReader → List ℕ → LogReader → Type 0
-Reads entry part exit = record { part = part; reader = readerOf exit } ≡ model.next (readerOf entry)
+Reads entry part exit = readOf part (readerOf exit) ≡ model.next (readerOf entry)

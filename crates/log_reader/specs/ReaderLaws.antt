@@ -18,7 +18,7 @@ use Rattle.model.specs.Calls.{messageAt, nextMessage}
 use Rattle.laws.specs.ImageLaws.{start-inside}
 use Rattle.reading.specs.PartLaws.{log-body}
 use Rattle.log_reader.specs.declared.reader.LogReader.{LogReader}
-use Rattle.log_reader.specs.Reader.{Starts, Reads}
+use Rattle.log_reader.specs.Reader.{Starts, readOf, Reads}
 
 -- what comes next for a reader, by the definition
 abbrev pub nextOf : List ℕ → ℕ → Message
@@ -30,7 +30,7 @@ starts-at r e = ap (λ (n : ℕ). record { image = now (r .image); offset = n })
 
 pub reads-on : (r : LogReader) (part : List ℕ) → part ≡ nextOf (now (r .image)) (r .offset) → Reads r part (record { image = r .image; offset = r .offset + length part })
 unfolding model.next
-reads-on r part e = ap (λ (m : Message). record { part = m; reader = record { image = now (r .image); offset = r .offset + length m } }) e
+reads-on r part e = ap (λ (m : Message). readOf m (record { image = now (r .image); offset = r .offset + length m })) e
 
 -- ---- a message that starts at an offset ends where those from the first one on end, or before
 message-ends : (at : ℕ) (l : List Message) (offset : ℕ) → (messageAt at l offset ≡ []) ⊎ (offset + length (messageAt at l offset) ≤ at + length (join l))
@@ -44,7 +44,7 @@ message-ends at (m ∷ l) offset = go (eqb at offset) (eqb→eq at offset) (mess
     go false f (inr h) = inr (omega (arith, h, length-append m (join l)))
 
 -- 0 is answered for an image only
-code-image : (b : List ℕ) → lowestCode (readConditions b) ≡ 0 → (length b ≡ imageSize) × T (isImage b)
+pub code-image : (b : List ℕ) → lowestCode (readConditions b) ≡ 0 → (length b ≡ imageSize) × T (isImage b)
 code-image b e = let r = go (eqb (length b) imageSize) (isImage b) e in (eqb→eq (length b) imageSize (r .0), r .1)
   where
     go : (x y : Bool) → _≡_ {A = ℕ} (cond (not x) 1 (cond (not y) 2 0)) 0 → T x × T y
