@@ -16,6 +16,7 @@ use Rattle.model.specs.Codes.{lowestCode, readConditions}
 use Rattle.model.specs.Calls as model
 use Rattle.model.specs.Calls.{messageAt, nextMessage}
 use Rattle.laws.specs.ImageLaws.{start-inside}
+use Rattle.reading.specs.ReadCodes.{all-right}
 use Rattle.reading.specs.PartLaws.{log-body}
 use Rattle.log_reader.specs.declared.reader.LogReader.{LogReader}
 use Rattle.log_reader.specs.Reader.{Starts, readOf, Reads}
@@ -45,12 +46,7 @@ message-ends at (m ∷ l) offset = go (eqb at offset) (eqb→eq at offset) (mess
 
 -- 0 is answered for an image only
 pub code-image : (b : List ℕ) → lowestCode (readConditions b) ≡ 0 → (length b ≡ imageSize) × T (isImage b)
-code-image b e = let r = go (eqb (length b) imageSize) (isImage b) e in (eqb→eq (length b) imageSize (r .0), r .1)
-  where
-    go : (x y : Bool) → _≡_ {A = ℕ} (cond (not x) 1 (cond (not y) 2 0)) 0 → T x × T y
-    go true true e = (tt, tt)
-    go true false e = let z : ⊥ = omega (arith, e) in absurd z
-    go false y e = let z : ⊥ = omega (arith, e) in absurd z
+code-image b e = let right = all-right (eqb (length b) imageSize) (isImage b) true e in (eqb→eq (length b) imageSize (right .0), right .1)
 
 pub next-fits : (b : List ℕ) (offset : ℕ) → offset < 2 ^ 64 → offset + length (nextOf b offset) < 2 ^ 64
 next-fits b offset h = go (lowestCode (readConditions b)) refl

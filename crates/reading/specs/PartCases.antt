@@ -14,7 +14,7 @@ use Rattle.model.specs.Calls.{logMessageCode, logMessage}
 use Rattle.order.specs.TestLaws.{true-T}
 use Rattle.reading.specs.Parts.{logOffset, Part, partAnswer, logPart, Walkable}
 use Rattle.reading.specs.PartLaws.{log-count, message-range, part-is, length-is, part-inside}
-use Rattle.reading.specs.ReadCodes.{place-told}
+use Rattle.reading.specs.ReadCodes.{all-right, place-told}
 
 module _ (b : List ℕ) (place : ℕ) where
   part-told : (n : ℕ) → n ≡ logMessageCode b place → partAnswer n b place ≡ logPart b place
@@ -61,16 +61,9 @@ pub record IsPart (b : List ℕ) (place : ℕ) (p : Part) : Type 0 where
 
 -- 0 is answered for a place of an image's log only
 accepted : (b : List ℕ) (place : ℕ) → logMessageCode b place ≡ 0 → (length b ≡ imageSize) × T (isImage b) × (place < length (logIn b))
-unfolding logMessageCode
 accepted b place e =
-    let r = go (eqb (length b) imageSize) (isImage b) (leb (logCount b) place) e in
+    let r = all-right (eqb (length b) imageSize) (isImage b) (not (leb (logCount b) place)) (place-told b refl refl place refl ∙ e) in
     (eqb→eq (length b) imageSize (r .0), r .1, omega (arith, log-count b, nleb→lt (logCount b) place (r .2)))
-  where
-    go : (x y z : Bool) → _≡_ {A = ℕ} (cond (not x) 1 (cond (not y) 2 (cond z 12 0))) 0 → T x × T y × T (not z)
-    go true true true e = let z : ⊥ = omega (arith, e) in absurd z
-    go true true false e = (tt, tt, tt)
-    go true false z e = let z : ⊥ = omega (arith, e) in absurd z
-    go false y z e = let z : ⊥ = omega (arith, e) in absurd z
 
 pub is-part : (b : List ℕ) (place : ℕ) → IsPart b place (logPart b place)
 unfolding logPart logMessage

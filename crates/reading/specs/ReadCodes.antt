@@ -3,8 +3,9 @@ use mathlib.Core.Path.{_≡_, refl, _∙_, ap, ap₂}
 use mathlib.Core.Bool.{Bool, true, false, cond, not}
 use mathlib.Core.List.{List}
 use Prim.Native.Nat.{ℕ}
+use native.Mathlib.Omega.{arith}
 use lib.ListN.{length}
-use lib.Dec.{eqb, leb}
+use lib.Dec.{T, eqb, leb}
 use Rattle.model.specs.Layout.{imageSize, tagCount}
 use Rattle.model.specs.Image.{isImage, logCount}
 use Rattle.model.specs.Codes.{lowestCode, setpointConditions}
@@ -13,6 +14,13 @@ use Rattle.model.specs.Calls.{logMessageCode}
 -- the number that three checks lead to
 abbrev pub told : Bool → Bool → Bool → ℕ
 told sized image there = cond (not sized) 1 (cond (not image) 2 (cond (not there) 12 0))
+
+-- 0 is answered where all three are right, and only there
+pub all-right : (sized image there : Bool) → told sized image there ≡ 0 → T sized × T image × T there
+all-right true true true e = (tt, tt, tt)
+all-right true true false e = let z : ⊥ = omega (arith, e) in absurd z
+all-right true false there e = let z : ⊥ = omega (arith, e) in absurd z
+all-right false image there e = let z : ⊥ = omega (arith, e) in absurd z
 
 module _ (b : List ℕ) {sized image : Bool} (s : sized ≡ eqb (length b) imageSize) (i : image ≡ isImage b) where
   -- with a condition of code 12 behind the first two

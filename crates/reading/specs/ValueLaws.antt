@@ -29,7 +29,7 @@ InRange z = T (leZ lowestValue z) × T (leZ z highestValue)
 abbrev AllInRange : List ℤ → Type 0
 AllInRange t = (i : ℕ) → InRange (getD t i (pos 0))
 
-in-range-mag : (z : ℤ) → InRange z → mag z ≤ 1000000
+pub in-range-mag : (z : ℤ) → InRange z → mag z ≤ 1000000
 in-range-mag (pos n) r = leb→le n 1000000 (r .1)
 in-range-mag (negsuc n) r = let h : n ≤ 999999 = leb→le n 999999 (r .0) in omega arith
 
