@@ -7,18 +7,18 @@ use native.Mathlib.Omega.{arith}
 use lib.ListN.{length, getD}
 use lib.Dec.{eqb, leb}
 use lib.IntN.{ℤ, pos}
+use lib.Signed.{mag}
 use borrow.Author.Tests.{leb-false, not-true}
-use Rattle.model.specs.Bytes.{field, integer, word}
+use Rattle.model.specs.Bytes.{field, integer}
 use Rattle.model.specs.Layout.{imageSize, valueSize, tagCount, setpointsStart}
 use Rattle.model.specs.Setpoints.{setpointsOf}
 use Rattle.model.specs.Image.{stateIn, isImage}
 use Rattle.model.specs.Codes.{lowestCode, setpointConditions}
 use Rattle.model.specs.Calls.{setpoint, setpointAnswer}
 use Rattle.order.specs.TestLaws.{true-T}
-use Rattle.wire_laws.specs.BytesLaws.{integer-word}
 use Rattle.laws.specs.ImageLaws.{own-valid}
 use Rattle.reading.specs.ReadCodes.{all-right, tag-told}
-use Rattle.reading.specs.ValueLaws.{InRange, in-range-mag, setpoints-range, value-at}
+use Rattle.reading.specs.ValueLaws.{in-range-mag, setpoints-range, value-at}
 
 module _ (b : List ℕ) (tag : ℕ) where
   value-told : (n : ℕ) → n ≡ lowestCode (setpointConditions b tag) → setpointAnswer n b tag ≡ setpoint b tag
@@ -43,17 +43,14 @@ module _ (b : List ℕ) (tag : ℕ) where
   value-there s i t v e =
       ap (λ (x : ℤ). record { code = 0; value = x }) (e ∙ value-at b (true-T (isImage b) (sym i)) tag (tag-below t)) ∙ value-told 0 (tag-told b s i tag t)
 
--- ---- a value that is answered fits 32 bits, and so does its word
-pub value-fits : (b : List ℕ) (tag : ℕ) → (word (setpoint b tag .value) < 4294967296) × (integer (word (setpoint b tag .value)) ≡ setpoint b tag .value)
+-- ---- a value that is answered fits 32 bits
+pub value-fits : (b : List ℕ) (tag : ℕ) → mag (setpoint b tag .value) < 2147483648
 unfolding setpoint
 value-fits b tag = go (lowestCode (setpointConditions b tag)) refl
   where
-    fits : (z : ℤ) → InRange z → (word z < 4294967296) × (integer (word z) ≡ z)
-    fits z r = integer-word z (omega (arith, in-range-mag z r))
-
-    go : (n : ℕ) → lowestCode (setpointConditions b tag) ≡ n
-        → (word (setpointAnswer n b tag .value) < 4294967296) × (integer (word (setpointAnswer n b tag .value)) ≡ setpointAnswer n b tag .value)
+    go : (n : ℕ) → lowestCode (setpointConditions b tag) ≡ n → mag (setpointAnswer n b tag .value) < 2147483648
     go zero e =
         let right = all-right (eqb (length b) imageSize) (isImage b) (not (leb tagCount tag)) (tag-told b refl refl tag refl ∙ e) in
-        fits (getD (setpointsOf (stateIn b)) tag (pos 0)) (setpoints-range (stateIn b) (own-valid b (right .1)) tag)
-    go (suc n) e = fits (pos 0) (tt, tt)
+        let v = getD (setpointsOf (stateIn b)) tag (pos 0) in
+        omega (arith, in-range-mag v (setpoints-range (stateIn b) (own-valid b (right .1)) tag))
+    go (suc n) e = omega arith
