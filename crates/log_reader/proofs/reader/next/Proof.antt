@@ -1,5 +1,4 @@
--- A walk of the MIR by hand: the borrow is opened, `next_part` is called on the slice and the offset that the reader holds, the offset moves on by
--- the part's length, and the borrow is closed. The reader is Copy: of what it owns one copy stays, and of the other the image's goes to the callee.
+-- A walk of the MIR by hand: `next_part` is called on the slice and the offset that the reader holds, and the offset moves on by the part's length.
 use mathlib.Core.Path.{_≡_, refl, sym, ap, subst}
 use Prim.Native.Nat.{ℕ, _<_, _^_, _+_}
 use mathlib.Core.List.{List, [], _∷_}
@@ -101,6 +100,7 @@ module _ {M : Type 1} (𝓤 : URA M) (H : Heap 𝓤) (A : Atoms 𝓤) (W : Given
   abbrev Post : Val → SProp 𝓤
   Post = walkOf 𝓤 H A next.ended stayed (next.clauses 𝓤 H A at-mem run) .post (((κ, (κ′, tt)), (q, (q′, tt)), bounds, x, at), tt)
 
+  -- the reader is Copy: of what it owns one copy stays, and of the other the image's goes to the callee
   abbrev Own : Fml
   Own = B κ′ .own h (mach ∷ [])
 

@@ -1,5 +1,4 @@
--- A walk of the MIR by hand: the place of the first message is asked for, and the reader is made of the slice passed and that place.
--- A `&[u8]` is Copy, so what it owns is had twice: once for the image at exit, and once inside the result.
+-- A walk of the MIR by hand: the reader is made of the slice passed and of the place of the first message, which is asked for.
 use mathlib.Core.Path.{_≡_, refl, ap}
 use Prim.Native.Nat.{ℕ, _<_, _^_}
 use mathlib.Core.List.{List, [], _∷_}
@@ -81,6 +80,7 @@ module _ {M : Type 1} (𝓤 : URA M) (H : Heap 𝓤) (A : Atoms 𝓤) (W : Given
   abbrev Post : Val → SProp 𝓤
   Post = walkOf 𝓤 H A start.ended stayed (start.clauses 𝓤 H A mem run) .post (((κ, tt), (q, tt), tt, (s, tt), at), tt)
 
+  -- a `&[u8]` is Copy: what it owns is had twice, once for the image at exit and once inside the result
   abbrev Own : Fml
   Own = ShrSlice (named 0) κ u8 .own s (v ∷ [])
 
