@@ -1,28 +1,32 @@
 -- A new message in the table: its set is the old one with the message, and the old log stands at the shifted places.
 use mathlib.Core.Path.{_≡_, sym, _∙_, ap, ap₂, subst}
-use mathlib.Core.List.{List, [], map}
+use mathlib.Core.List.{List, [], _++_, map}
 use Prim.Native.Nat.{ℕ, _+_, _≤_, _<_}
 use native.Mathlib.Omega.{arith}
 use lib.ListN.{length, take, getD, length-map}
-use lib.Seq.{length-take-le}
-use Rattle.model.specs.Layout.{imageSize, messageRoom, capacity}
-use Rattle.model.specs.Message.{Message}
+use lib.Seq.{paste, take-paste, take-length, length-take-le}
+use Rattle.model.specs.Layout.{imageSize, capacity}
+use Rattle.model.specs.Lists.{_∈_}
+use Rattle.model.specs.Message.{Message, sequenceOf}
 use Rattle.model.specs.Order.{State, add}
-use Rattle.model.specs.Image.{stateIn}
+use Rattle.model.specs.Image.{usedOf, stateIn}
 use Rattle.model.specs.Calls.{Delivered, acceptedAnswer}
 use Rattle.laws.specs.LogLaws.{log-length}
+use Rattle.laws.specs.ImageLaws.{image-own, own-valid}
+use Rattle.laws.specs.UsedLaws.{used-grows}
 use Rattle.wire_laws.specs.MessageLaws.{passes-sized, sized-range}
 use Rattle.table.specs.declared.Table.{Table}
 use Rattle.table.specs.Table.{startsOf, messageFrom, deltasOf, setIn, Holds, insertAt}
 use Rattle.table.specs.Places.{AllBelow}
+use Rattle.table.specs.FindLaws.{absent-member}
 use Rattle.table.specs.Shifting.{shifted}
 use Rattle.steps.specs.PlacedLogs.{IsLogOf, log-shifted}
 use Rattle.judged.specs.declared.judging.Station.{Station}
 use Rattle.judged.specs.Judging.{placesIn}
-use Rattle.accepting.specs.DeliveryPool.{poolOf, old-deltas, new-holds, new-set}
+use Rattle.accepting.specs.DeliveryPool.{old-deltas, new-holds, new-set}
 use Rattle.accepting.specs.Accepting.{Updatable, Updates, Acceptable}
 
-module _ (b : List ℕ) (m : Message) (room : ℕ) (station : Station) (p : ℕ) (h : Acceptable b m room station p)
+module _ (b : List ℕ) (m : Message) (room : ℕ) (before : List ℕ) (station : Station) (p : ℕ) (h : Acceptable b m room before station p)
     (starts-size : length (station .table .starts) ≡ capacity) (places-size : length (station .places) ≡ capacity) where
   abbrev starts : List ℕ
   starts = startsOf (station .table)
@@ -33,8 +37,8 @@ module _ (b : List ℕ) (m : Message) (room : ℕ) (station : Station) (p : ℕ)
   pub place-fits : p ≤ station .table .count
   place-fits = omega (arith, h .absent .inside, used)
 
-  pub message-fits : length b + length m ≤ imageSize + messageRoom
-  message-fits = omega (arith, h .size, sized-range m (passes-sized m (h .right)) .1)
+  pub message-fits : imageSize + length m ≤ length before
+  message-fits = omega (arith, h .pool-size, sized-range m (passes-sized m (h .right)) .1)
 
   -- the log has at most as many deltas as the table
   pub log-few : station .logged < capacity
@@ -54,11 +58,13 @@ module _ (b : List ℕ) (m : Message) (room : ℕ) (station : Station) (p : ℕ)
   pub places-within : AllBelow capacity (placesIn station)
   places-within i k = omega (arith, h .judged .inside i k, used, h .few)
 
-  module _ (buffer pool : List ℕ) (filled : pool ≡ poolOf buffer b m) (long : length buffer ≡ imageSize + messageRoom)
+  module _ (pool : List ℕ) (filled : pool ≡ paste before imageSize m (length m))
       (next : Table) (inserted : startsOf next ≡ insertAt p imageSize starts) (grown : next .count ≡ station .table .count + 1)
       (old : List ℕ) (moved : take (station .logged) old ≡ map (shifted p) (placesIn station)) where
-    room-for-both : length b + length m ≤ length buffer
-    room-for-both = omega (arith, message-fits)
+    both : take (length b + length m) pool ≡ b ++ m
+    both =
+        ap₂ (λ (n : ℕ) (l : List ℕ). take (n + length m) l) (h .size) filled ∙ take-paste before imageSize m (length m) (omega (arith, message-fits)) (omega arith)
+        ∙ ap₂ _++_ (h .pooled) (take-length m)
 
     starts-few : length starts < capacity
     starts-few = omega (arith, h .few, used)
@@ -67,19 +73,21 @@ module _ (b : List ℕ) (m : Message) (room : ℕ) (station : Station) (p : ℕ)
     next-starts = inserted ∙ ap (λ (n : ℕ). insertAt p n starts) (sym (h .size))
 
     holds-next : Holds pool (startsOf next)
-    holds-next = subst (λ (s : List ℕ). Holds pool s) (sym next-starts) (subst (λ (x : List ℕ). Holds x (insertAt p (length b) starts)) (sym filled)
-        (new-holds buffer b m room-for-both starts (h .judged .table .holds) (h .right) p (h .absent) starts-few))
+    holds-next = subst (λ (s : List ℕ). Holds pool s) (sym next-starts) (new-holds pool b m both starts (h .judged .table .holds) (h .right) p (h .absent) starts-few)
 
     set-next : setIn pool (startsOf next) ≡ add m (setIn b starts)
-    set-next = ap₂ setIn filled next-starts ∙ new-set buffer b m room-for-both starts (h .judged .table .holds) (h .right) p (h .absent) starts-few
+    set-next = ap (setIn pool) next-starts ∙ new-set pool b m both starts (h .judged .table .holds) (h .right) p (h .absent) starts-few
 
     deltas-same : deltasOf pool starts ≡ deltasOf b starts
-    deltas-same = ap (λ (x : List ℕ). deltasOf x starts) filled ∙ old-deltas buffer b m room-for-both starts (h .judged .table .holds) (h .right) p (h .absent) starts-few
+    deltas-same = old-deltas pool b m both starts (h .judged .table .holds) (h .right) p (h .absent) starts-few
 
     log-moved : IsLogOf pool (startsOf next) (take (station .logged) old) (setIn b starts)
     log-moved = subst (λ (s : List ℕ). IsLogOf pool s (take (station .logged) old) (setIn b starts)) (sym inserted)
         (subst (λ (l : List ℕ). IsLogOf pool (insertAt p imageSize starts) l (setIn b starts)) (sym moved)
         (log-shifted b pool starts p imageSize (placesIn station) (setIn b starts) deltas-same (h .absent .inside) (record { log = h .judged .log; within = h .judged .inside })))
+
+    set-is : setIn b starts ≡ stateIn b
+    set-is = h .judged .table .set
 
     pub updatable : Updatable b room pool next old (station .logged)
     updatable = record {
@@ -90,6 +98,10 @@ module _ (b : List ℕ) (m : Message) (room : ℕ) (station : Station) (p : ℕ)
       few = log-few;
       old-state = setIn b starts;
       before = log-moved;
+      smaller = stateIn b;
+      image-is = image-own b (h .judged .image);
+      grows = subst (λ (R : State). length (usedOf (stateIn b)) ≤ length (usedOf R)) (sym (set-next ∙ ap (add m) set-is))
+          (used-grows (stateIn b) (own-valid b (h .judged .image) .ascends) m (λ x k e. absent-member b starts (sequenceOf m) p (h .absent) x (subst (λ (R : State). x ∈ R .deltas) (sym set-is) k) (sym e)));
     }
 
     pub accepted-answer : (steps : List ℕ) (d : Delivered) → Updates steps pool next old (station .logged) d → d ≡ acceptedAnswer (stateIn b) (add m (stateIn b)) steps

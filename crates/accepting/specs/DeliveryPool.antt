@@ -1,11 +1,10 @@
--- The pool of a delivery: the image, and the delivered message behind it.
+-- The pool of a delivery begins with the image and the delivered message behind it.
 use mathlib.Core.Path.{_≡_, refl, sym, _∙_, ap, ap₂, subst}
 use mathlib.Core.List.{List, [], _++_, append-cancel-left}
-use Prim.Native.Nat.{ℕ, _+_, _≤_, _<_}
+use Prim.Native.Nat.{ℕ, _+_, _<_}
 use native.Mathlib.Omega.{arith}
-use native.Mathlib.Nat.{zero-add}
 use lib.ListN.{length, take, drop, getD}
-use lib.Seq.{paste, take-paste, length-paste, take-all, take-take, take-add, take-at}
+use lib.Seq.{take-take, take-add, take-at}
 use lib.Dec.{T}
 use Rattle.model.specs.Layout.{capacity}
 use Rattle.model.specs.Message.{Message, sequenceOf, passes}
@@ -15,38 +14,17 @@ use Rattle.table.specs.Places.{IsAbsent}
 use Rattle.table.specs.PoolLaws.{deltas-front, holds-front, message-placed}
 use Rattle.table.specs.InsertLaws.{insert-deltas, insert-holds}
 
--- the image and then the message, copied into a longer buffer
-abbrev pub poolOf : List ℕ → List ℕ → Message → List ℕ
-poolOf buffer b m = paste (paste buffer 0 b (length b)) (length b) m (length m)
+module _ (pool b : List ℕ) (m : Message) (both : take (length b + length m) pool ≡ b ++ m) where
+  pool-front : take (length b) pool ≡ b
+  pool-front = sym (take-take (length b) (length b + length m) pool (omega arith)) ∙ ap (take (length b)) both ∙ take-at b m (length b) refl
 
-module _ (buffer b : List ℕ) (m : Message) (room : length b + length m ≤ length buffer) where
-  first : List ℕ
-  first = paste buffer 0 b (length b)
-
-  both : take (length b + length m) (poolOf buffer b m) ≡ b ++ m
-  both =
-      take-paste (paste buffer 0 b (length b)) (length b) m (length m) (omega (arith, length-paste buffer 0 b (length b) (omega arith) (omega arith))) (omega arith)
-      ∙ ap₂ _++_ front (take-all (length m) m (omega arith))
-    where
-      front : take (length b) (paste buffer 0 b (length b)) ≡ b
-      front =
-          ap (λ (n : ℕ). take n (paste buffer 0 b (length b))) (sym (zero-add (length b)))
-          ∙ take-paste buffer 0 b (length b) (omega arith) (omega arith) ∙ take-all (length b) b (omega arith)
-
-  pub pool-front : take (length b) (poolOf buffer b m) ≡ b
-  pool-front =
-      sym (take-take (length b) (length b + length m) (poolOf buffer b m) (omega arith)) ∙ ap (take (length b)) both ∙ take-at b m (length b) refl
-
-  pool-message : take (length m) (drop (length b) (poolOf buffer b m)) ≡ m
+  pool-message : take (length m) (drop (length b) pool) ≡ m
   pool-message =
-      append-cancel-left b (take (length m) (drop (length b) (poolOf buffer b m))) m
-      (ap (λ (l : List ℕ). l ++ take (length m) (drop (length b) (poolOf buffer b m))) (sym pool-front) ∙ sym (take-add (length b) (length m) (poolOf buffer b m)) ∙ both)
+      append-cancel-left b (take (length m) (drop (length b) pool)) m
+      (ap (λ (l : List ℕ). l ++ take (length m) (drop (length b) pool)) (sym pool-front) ∙ sym (take-add (length b) (length m) pool) ∙ both)
 
   -- ---- the set with the message in it
   module _ (starts : List ℕ) (holds : Holds b starts) (right : T (passes m)) (p : ℕ) (absent : IsAbsent b starts (sequenceOf m) p) (few : length starts < capacity) where
-    abbrev pool : List ℕ
-    pool = poolOf buffer b m
-
     pub old-deltas : deltasOf pool starts ≡ deltasOf b starts
     old-deltas = deltas-front b pool pool-front starts holds
 

@@ -8,16 +8,13 @@ use buffer::copy_at;
 use judged::judging::Station;
 use layout::CAPACITY;
 use layout::IMAGE_SIZE;
-use layout::POOL_SIZE;
 use table::Table;
 use table::shifting::shift_places;
 ghost use mathlib.Core.Path.{_≡_};
-ghost use Prim.Native.Nat.{_+_, _≤_};
 ghost use lib.ListN.{length};
 ghost use Rattle.model.specs.Order.{add};
 ghost use Rattle.model.specs.Image.{stateIn};
 ghost use Rattle.model.specs.Calls.{acceptedAnswer};
-ghost use Rattle.accepting.specs.DeliveryPool.{poolOf};
 ghost use Rattle.accepting.specs.Accepting.{acceptedBy, Updatable, Updates, Acceptable};
 
 // How many deltas of the old log are undone, and how many of the new one executed.
@@ -26,16 +23,8 @@ pub struct Change {
     pub executions: usize,
 }
 
-// Copies an image, and a message behind it.
-fn fill_pool(pool: &mut [u8], image: &[u8], message: &[u8])
-    requires { ⌜ length (now image) + length (now message) ≤ length (now pool) ⌝ }
-    ensures { λ _. ⌜ now (pool .exit) ≡ poolOf (now (pool .entry)) (now (image .entry)) (now (message .entry)) ⌝ }
-{
-    copy_at(pool, 0, image, image.len());
-    copy_at(pool, image.len(), message, message.len());
-}
-
-// Writes the image of a table's set, and the steps to its log from the old one, whose places in the table are given.
+// Writes the image of a table's set over that of a smaller one, and the steps to its log from the old one, whose places in the table
+// are given.
 fn update(
     image: &mut [u8],
     steps: &mut [u8],
@@ -58,23 +47,24 @@ fn update(
     }
 }
 
-// Takes a message in whose sequence is new, at its place among the station's sequences.
+// Takes a message in whose sequence is new, at its place among the station's sequences. The pool begins with the image; the message
+// is put behind it.
 pub fn accept(
     image: &mut [u8],
     message: &[u8],
     steps: &mut [u8],
+    pool: &mut [u8],
     station: Station,
     p: usize,
 ) -> Change
-    requires { ⌜ Acceptable (now image) (now message) (length (now steps)) station p ⌝ }
+    requires { ⌜ Acceptable (now image) (now message) (length (now steps)) (now pool) station p ⌝ }
     ensures { λ r. ⌜ acceptedBy r (now (image .exit)) (now (steps .exit)) ≡ acceptedAnswer (stateIn (now (image .entry))) (add (now (message .entry)) (stateIn (now (image .entry)))) (now (steps .entry)) ⌝ }
 {
-    let mut pool = [0u8; POOL_SIZE];
-    fill_pool(&mut pool, image, message);
+    copy_at(pool, IMAGE_SIZE, message, message.len());
     let table = station.table;
     let next = table.insert(p, IMAGE_SIZE as u16);
     let places = station.places;
     let logged = station.logged;
     let old = shift_places(places, logged, p);
-    update(image, steps, &pool, next, old, logged)
+    update(image, steps, pool, next, old, logged)
 }

@@ -1,5 +1,5 @@
 // A table with its log: ordered, and written as an image and as steps.
-use image::write_image;
+use image::write_used;
 use layout::CAPACITY;
 use log::listing::order;
 use log_order::LogOrder;
@@ -8,7 +8,7 @@ use steps::write_steps;
 use table::Table;
 ghost use mathlib.Core.Path.{_≡_};
 ghost use lib.ListN.{length};
-ghost use Rattle.model.specs.Image.{imageOf};
+ghost use Rattle.model.specs.Image.{usedOf};
 ghost use Rattle.model.specs.Steps.{stepsOf, stepsBytes};
 ghost use Rattle.model.specs.Calls.{written};
 ghost use Rattle.table.specs.Table.{startsOf, setIn};
@@ -28,14 +28,14 @@ pub fn order_table(pool: &[u8], table: Table, old: [u8; CAPACITY], old_count: us
     order(pool, &starts[..count], prepared, begun)
 }
 
-// Writes the image of a table's set, whose log is at the given places.
+// Writes the used bytes of the image of a table's set, whose log is at the given places.
 pub fn write_table(out: &mut [u8], pool: &[u8], table: Table, places: [u8; CAPACITY], logged: usize)
     requires { ⌜ ImageWritable (now out) (now pool) table places logged ⌝ }
-    ensures { λ _. ⌜ now (out .exit) ≡ imageOf (setIn (now (pool .entry)) (startsOf table)) ⌝ }
+    ensures { λ _. ⌜ now (out .exit) ≡ written (usedOf (setIn (now (pool .entry)) (startsOf table))) (now (out .entry)) ⌝ }
 {
     let starts = table.starts;
     let count = table.count;
-    write_image(out, pool, &starts[..count], &places[..logged]);
+    write_used(out, pool, &starts[..count], &places[..logged]);
 }
 
 // Writes the steps from the old log of an order to its new one.

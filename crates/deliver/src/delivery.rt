@@ -4,8 +4,9 @@ use crate::refusing::judge_repeat;
 use crate::refusing::refuse;
 use accepting::accept;
 use judged::judging::Station;
-use judged::judging::read_station;
+use judged::judging::read_and_copy;
 use layout::CAPACITY;
+use layout::POOL_SIZE;
 use message::checks::Check;
 use parse::Parsed;
 use parse::parse;
@@ -25,17 +26,18 @@ fn accept_new(
     image: &mut [u8],
     message: &[u8],
     steps: &mut [u8],
+    pool: &mut [u8],
     station: Station,
     p: usize,
 ) -> Delivery
-    requires { ⌜ Placeable (now image) (now message) (length (now steps)) station p ⌝ }
+    requires { ⌜ Placeable (now image) (now message) (length (now steps)) (now pool) station p ⌝ }
     ensures { λ r. ⌜ deliveredBy r (now (image .exit)) (now (steps .exit)) ≡ model.deliver (now (image .entry)) (now (message .entry)) (now (steps .entry)) ⌝ }
 {
     let table = station.table;
     if CAPACITY <= table.count {
         return Delivery::Full;
     }
-    let change = accept(image, message, steps, station, p);
+    let change = accept(image, message, steps, pool, station, p);
     Delivery::Accepted {
         undos: change.undos,
         executions: change.executions,
@@ -47,10 +49,11 @@ fn take_in(
     image: &mut [u8],
     message: &[u8],
     steps: &mut [u8],
+    pool: &mut [u8],
     station: Station,
     s: Sequence,
 ) -> Delivery
-    requires { ⌜ Takeable (now image) (now message) (length (now steps)) station s ⌝ }
+    requires { ⌜ Takeable (now image) (now message) (length (now steps)) (now pool) station s ⌝ }
     ensures { λ r. ⌜ deliveredBy r (now (image .exit)) (now (steps .exit)) ≡ model.deliver (now (image .entry)) (now (message .entry)) (now (steps .entry)) ⌝ }
 {
     let table = station.table;
@@ -59,7 +62,7 @@ fn take_in(
     let place = find(image, &starts[..count], s);
     match place {
         Place::Present(i) => judge_repeat(image, starts[i] as usize, message),
-        Place::Absent(p) => accept_new(image, message, steps, station, p),
+        Place::Absent(p) => accept_new(image, message, steps, pool, station, p),
     }
 }
 
@@ -76,7 +79,8 @@ pub fn deliver(image: &mut [u8], message: &[u8], steps: &mut [u8]) -> Delivery
     let Check::Right = room else {
         return Delivery::WrongSize;
     };
-    let station = read_station(image);
+    let mut pool = [0u8; POOL_SIZE];
+    let station = read_and_copy(image, &mut pool);
     let check = station.check;
     let Check::Right = check else {
         return Delivery::NoImage;
@@ -86,5 +90,5 @@ pub fn deliver(image: &mut [u8], message: &[u8], steps: &mut [u8]) -> Delivery
         return refuse(parsed);
     };
     let s = header.sequence;
-    take_in(image, message, steps, station, s)
+    take_in(image, message, steps, &mut pool, station, s)
 }

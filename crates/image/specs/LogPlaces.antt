@@ -2,7 +2,7 @@
 use mathlib.Core.Path.{_≡_}
 use mathlib.Core.Bool.{not}
 use mathlib.Core.List.{List, [], _∷_, _++_}
-use Prim.Native.Nat.{ℕ, zero, suc, _<_}
+use Prim.Native.Nat.{ℕ, zero, suc, _≤_, _<_}
 use lib.ListN.{length, take}
 use Rattle.model.specs.Lists.{_∈_, has, keep}
 use Rattle.model.specs.Layout.{imageSize}
@@ -34,9 +34,9 @@ pub record AllPlaces (pool starts places others : List ℕ) : Type 0 where
   pub logged : LogPlaces pool starts places
   pub held : others ≡ othersBelow (length starts) places
 
--- A buffer of an image's size, and the places of the log.
+-- A buffer with room for an image, and the places of the log.
 pub record ImageInput (out pool starts places : List ℕ) : Type 0 where
-  pub size : length out ≡ imageSize
+  pub room : imageSize ≤ length out
   pub logged : LogPlaces pool starts places
 
 -- The places that a `Held` has.

@@ -4,7 +4,7 @@ use mathlib.Core.List.{List, [], _∷_, _++_, append-assoc}
 use Prim.Native.Nat.{ℕ, _+_, _≤_}
 use native.Mathlib.Omega.{arith}
 use lib.ListN.{length, take, drop, length-append}
-use lib.Seq.{paste, paste-zero, length-paste, length-take-le, take-length, take-at, drop-at}
+use lib.Seq.{paste, paste-zero, length-paste, length-take-le, take-length, drop-at}
 use Rattle.model.specs.Bytes.{bytes, join}
 use Rattle.model.specs.Layout.{logCountAt, heldCountAt, setpointsOffsetAt, messagesOffsetAt, usedAt, zerosAt, setpointsStart}
 use Rattle.buffer.specs.PasteLaws.{paste-paste}
@@ -46,10 +46,9 @@ pub offsets-pasted : (d : List ℕ) (start used : ℕ) → setpointsStart ≤ le
 offsets-pasted d start used h = order-pasted d setpointsOffsetAt (bytes 2 setpointsStart ∷ bytes 2 start ∷ bytes 2 used ∷ bytes 2 0 ∷ bytes 4 0 ∷ []) h
 
 -- ---- a front, pasted last, and what was pasted behind it
-pub front-pasted : (d x y : List ℕ) (at : ℕ) → length x ≡ at → at + length y ≤ length d → take (at + length y) (pasted (pasted d at y) 0 x) ≡ x ++ y
+pub front-pasted : (d x y : List ℕ) (at : ℕ) → length x ≡ at → at + length y ≤ length d → pasted (pasted d at y) 0 x ≡ x ++ y ++ drop (at + length y) d
 front-pasted d x y at e h =
-    ap (take (at + length y)) (ap₂ (λ (u : List ℕ) (n : ℕ). u ++ drop n (pasted d at y)) (take-length x) here ∙ ap (λ (u : List ℕ). x ++ u) back ∙ sym (append-assoc x y rest))
-    ∙ take-at (x ++ y) rest (at + length y) (length-append x y ∙ ap (λ (n : ℕ). n + length y) e)
+    ap₂ (λ (u : List ℕ) (n : ℕ). u ++ drop n (pasted d at y)) (take-length x) here ∙ ap (λ (u : List ℕ). x ++ u) back ∙ sym (append-assoc x y rest)
   where
     here : 0 + length x ≡ at
     here = omega (arith, e)

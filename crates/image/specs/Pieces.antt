@@ -2,10 +2,12 @@
 use mathlib.Core.Path.{_≡_}
 use mathlib.Core.List.{List, _++_}
 use Prim.Native.Nat.{ℕ, _+_, _-_}
-use lib.ListN.{length}
+use lib.ListN.{length, drop}
 use lib.Seq.{paste}
 use Rattle.model.specs.Bytes.{bytes}
 use Rattle.model.specs.Layout.{zerosAt, setpointsStart}
+use Rattle.model.specs.Order.{State}
+use Rattle.model.specs.Image.{usedOf}
 
 -- A list with a piece, the whole of it, in place of what stood from a place on.
 abbrev pub pasted : List ℕ → ℕ → List ℕ → List ℕ
@@ -26,3 +28,8 @@ headerBytes log held start used = countsBytes log held ++ offsetsBytes start use
 pub record Copied (before : List ℕ) (at : ℕ) (piece after : List ℕ) (behind : ℕ) : Type 0 where
   pub bytes : after ≡ pasted before at piece
   pub end : behind ≡ at + length piece
+
+-- The used bytes of a state's image, written at the front of a buffer; the rest stays.
+pub record UsedWritten (S : State) (before after : List ℕ) (used : ℕ) : Type 0 where
+  pub bytes : after ≡ usedOf S ++ drop (length (usedOf S)) before
+  pub end : used ≡ length (usedOf S)

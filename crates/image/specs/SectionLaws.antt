@@ -1,11 +1,11 @@
--- The sections of an image, pasted one by one, and zeros to the end: the image.
-use mathlib.Core.Path.{_≡_, sym, _∙_, ap, ap₂}
+-- The sections of an image, pasted one by one: its used bytes. With zeros to the end: the image.
+use mathlib.Core.Path.{_≡_, refl, sym, _∙_, ap, ap₂}
 use mathlib.Core.List.{List, [], _∷_, _++_}
-use Prim.Native.Nat.{ℕ, _+_, _-_}
+use Prim.Native.Nat.{ℕ, _+_, _-_, _≤_}
 use native.Mathlib.Omega.{arith}
 use lib.IntN.{ℤ}
-use lib.ListN.{length, take, replicate}
-use lib.Seq.{paste}
+use lib.ListN.{length, take, drop, replicate, length-append, length-drop}
+use lib.Seq.{paste, take-at}
 use Rattle.model.specs.Bytes.{join}
 use Rattle.model.specs.Layout.{valuesSize, imageSize, setpointsStart}
 use Rattle.model.specs.Message.{Message}
@@ -17,7 +17,7 @@ use Rattle.setpoints.specs.Words.{wordsOf}
 use Rattle.table.specs.Table.{deltasOf, deltasAt, setIn}
 use Rattle.image.specs.LogPlaces.{AllPlaces}
 use Rattle.image.specs.HeldLaws.{others-held}
-use Rattle.image.specs.Pieces.{pasted, headerBytes, Copied}
+use Rattle.image.specs.Pieces.{pasted, headerBytes, Copied, UsedWritten}
 use Rattle.image.specs.PieceLaws.{length-pasted, order-pasted, front-pasted}
 
 -- ---- the header's numbers are those of the state
@@ -40,12 +40,12 @@ pub values-are : (S : State) (d : List ℕ) (at : ℕ) {values : List ℤ} → v
 unfolding valuesOf
 values-are S d at e = ap (λ (v : List ℤ). paste d at (wordsOf v) valuesSize) e ∙ ap (paste d at (wordsOf (setpointsOf S))) (sym (length-values S))
 
--- ---- the messages, then the sections before them, and zeros to the end
-module _ (S : State) (valid : Valid S) {d behind headed valued out : List ℕ} {used : ℕ} (size : length d ≡ imageSize)
+-- ---- the messages, then the sections before them: the used bytes
+module _ (S : State) (valid : Valid S) {d behind headed valued : List ℕ} {used : ℕ} (room : imageSize ≤ length d)
     (messages : Copied d (messagesStart S) (messagesOf S) behind used) (header : headed ≡ pasted behind 0 (headerOf S))
-    (values : valued ≡ pasted headed setpointsStart (valuesOf S)) (zeros : out ≡ take used valued ++ replicate (length valued - used) 0) where
-  length-behind : length behind ≡ imageSize
-  length-behind = ap length (messages .bytes) ∙ length-pasted d (messagesStart S) (messagesOf S) (omega (arith, messages-room S valid)) ∙ size
+    (values : valued ≡ pasted headed setpointsStart (valuesOf S)) where
+  length-behind : length behind ≡ length d
+  length-behind = ap length (messages .bytes) ∙ length-pasted d (messagesStart S) (messagesOf S) (omega (arith, messages-room S valid))
 
   past-header : setpointsStart ≡ 0 + length (headerOf S)
   past-header = omega (arith, length-header S)
@@ -56,16 +56,19 @@ module _ (S : State) (valid : Valid S) {d behind headed valued out : List ℕ} {
       ∙ order-pasted behind 0 (headerOf S ∷ valuesOf S ∷ []) (omega (arith, ap (λ (l : List (List ℕ)). length (join l)) (front-is S), messages-start S, messages-room S valid, length-behind))
       ∙ ap (λ (l : List (List ℕ)). pasted behind 0 (join l)) (sym (front-is S))
 
-  length-valued : length valued ≡ imageSize
-  length-valued = ap length front ∙ length-pasted behind 0 (join (frontOf S)) (omega (arith, messages-start S, messages-room S valid, length-behind)) ∙ length-behind
+  pub used-written : UsedWritten S d valued used
+  used-written = record {
+    bytes = front ∙ ap (λ (b : List ℕ). pasted b 0 (join (frontOf S))) (messages .bytes)
+        ∙ front-pasted d (join (frontOf S)) (messagesOf S) (messagesStart S) (messages-start S) (omega (arith, messages-room S valid))
+        ∙ ap₂ (λ (u : List ℕ) (n : ℕ). u ++ drop n d) (sym (used-front S)) (sym (used-length S));
+    end = messages .end ∙ sym (used-length S);
+  }
 
-  body : take used valued ≡ usedOf S
-  body =
-      ap₂ take (messages .end) (front ∙ ap (λ (b : List ℕ). pasted b 0 (join (frontOf S))) (messages .bytes))
-      ∙ front-pasted d (join (frontOf S)) (messagesOf S) (messagesStart S) (messages-start S) (omega (arith, messages-room S valid))
-      ∙ sym (used-front S)
-
-  pub image-sections : out ≡ imageOf S
-  unfolding imageOf
-  image-sections = zeros ∙ ap₂ (λ (b : List ℕ) (n : ℕ). b ++ replicate n 0) body
-      (ap₂ (λ (m n : ℕ). m - n) length-valued (messages .end ∙ sym (used-length S)))
+-- ---- the used bytes, and zeros to the end: the image
+pub used-cleared : (S : State) {d written out : List ℕ} {used : ℕ} → length d ≡ imageSize → UsedWritten S d written used
+    → out ≡ take used written ++ replicate (length written - used) 0 → length (usedOf S) ≤ imageSize → out ≡ imageOf S
+unfolding imageOf
+used-cleared S {d} {written} {out} {used} size w zeros fits =
+    zeros ∙ ap₂ (λ (b : List ℕ) (n : ℕ). b ++ replicate n 0)
+    (ap₂ take (w .end) (w .bytes) ∙ take-at (usedOf S) (drop (length (usedOf S)) d) (length (usedOf S)) refl)
+    (ap₂ (λ (m n : ℕ). m - n) (ap length (w .bytes) ∙ length-append (usedOf S) (drop (length (usedOf S)) d) ∙ ap (λ (n : ℕ). length (usedOf S) + n) (length-drop (length (usedOf S)) d) ∙ omega arith) (w .end))

@@ -19,11 +19,13 @@ ghost use Rattle.model.specs.Image.{imageOf};
 ghost use Rattle.model.specs.Calls.{emptyState};
 ghost use Rattle.table.specs.Table.{setIn};
 ghost use Rattle.image.specs.LogPlaces.{ImageInput};
+ghost use Rattle.image.specs.Pieces.{UsedWritten};
 
-// Writes the image of the set whose messages start at `starts` in the pool. `places` are the log's, in its order.
-pub fn write_image(out: &mut [u8], pool: &[u8], starts: &[u16], places: &[u8])
+// Writes the used bytes of the image of the set whose messages start at `starts` in the pool; `places` are the log's, in its order.
+// Returns how many these are. What stands behind them stays.
+pub fn write_used(out: &mut [u8], pool: &[u8], starts: &[u16], places: &[u8]) -> usize
     requires { ⌜ ImageInput (now out) (now pool) (now starts) (now places) ⌝ }
-    ensures { λ _. ⌜ now (out .exit) ≡ imageOf (setIn (now (pool .entry)) (now (starts .entry))) ⌝ }
+    ensures { λ r. ⌜ UsedWritten (setIn (now (pool .entry)) (now (starts .entry))) (now (out .entry)) (now (out .exit)) r ⌝ }
 {
     let values = run_log(pool, starts, places);
     let held = held_places(starts.len(), places);
@@ -39,7 +41,7 @@ pub fn write_image(out: &mut [u8], pool: &[u8], starts: &[u16], places: &[u8])
         used as u32,
     );
     put_values(out, values, SETPOINTS_START);
-    clear_from(out, used);
+    used
 }
 
 // Writes the image of the empty set.
@@ -50,5 +52,6 @@ pub fn put_empty(out: &mut [u8])
     let pool = [0u8; 1];
     let starts = [0u16; 1];
     let places = [0u8; 1];
-    write_image(out, &pool[0..0], &starts[0..0], &places[0..0]);
+    let used = write_used(out, &pool[0..0], &starts[0..0], &places[0..0]);
+    clear_from(out, used);
 }

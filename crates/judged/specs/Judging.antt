@@ -3,7 +3,7 @@ use mathlib.Core.Path.{_≡_}
 use mathlib.Core.Bool.{false}
 use mathlib.Core.List.{List}
 use Prim.Native.Nat.{ℕ, _≤_, _<_}
-use lib.ListN.{length, take}
+use lib.ListN.{length, take, replicate}
 use lib.Dec.{T}
 use Rattle.model.specs.Lists.{_∈_}
 use Rattle.model.specs.Layout.{imageSize, capacity}
@@ -30,11 +30,17 @@ pub record ListsLog (b : List ℕ) (t : Table) (r : Station) : Type 0 where
 
 -- The listed log is that of the set, and there is a buffer for its image.
 pub record Rewritable (out b : List ℕ) (r : Station) : Type 0 where
-  pub size : length out ≡ imageSize
+  pub room : imageSize ≤ length out
   pub holds : Holds b (startsOf (r .table))
   pub counted : r .table .count ≤ capacity
   pub fits : r .logged ≤ capacity
   pub log : deltasAt (deltasOf b (startsOf (r .table))) (placesIn r) ≡ logOf (setIn b (startsOf (r .table)))
+
+-- Zeros, with room for an image.
+pub record Blank (out : List ℕ) : Type 0 where
+  pub count : ℕ
+  pub zeros : out ≡ replicate count 0
+  pub room : imageSize ≤ count
 
 pub record IsStation (b : List ℕ) (r : Station) : Type 0 where
   pub image : T (isImage b)
@@ -49,3 +55,8 @@ judgedBy b r Wrong = isImage b ≡ false
 
 abbrev pub Judges : List ℕ → Station → Type 0
 Judges b r = judgedBy b r (r .check)
+
+-- What was found to be an image stands at the front of the copy.
+abbrev pub Copies : List ℕ → List ℕ → Check → Type 0
+Copies b copy Right = take imageSize copy ≡ b
+Copies b copy Wrong = Unit {0}

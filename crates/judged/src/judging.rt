@@ -2,7 +2,7 @@
 use crate::places::read_places;
 use buffer::get_u16;
 use buffer::same;
-use image::write_image;
+use image::write_used;
 use layout::CAPACITY;
 use layout::IMAGE_SIZE;
 use layout::LOG_COUNT_AT;
@@ -14,11 +14,12 @@ use table::reading::read_table;
 ghost use mathlib.Core.Path.{_≡_};
 ghost use lib.ListN.{length};
 ghost use Rattle.model.specs.Layout.{imageSize};
-ghost use Rattle.model.specs.Image.{imageOf};
+ghost use Rattle.model.specs.Image.{usedOf};
+ghost use Rattle.model.specs.Calls.{written};
 ghost use Rattle.table.specs.Table.{startsOf, setIn};
 ghost use Rattle.table.specs.Reading.{IsTable};
 ghost use Rattle.log_check.specs.Checking.{ChecksLog};
-ghost use Rattle.judged.specs.Judging.{ListsLog, Rewritable, placesIn, Judges};
+ghost use Rattle.judged.specs.Judging.{ListsLog, Rewritable, placesIn, Blank, Judges, Copies};
 
 // A judged buffer: whether it is an image, where its messages lie, and the places of its log.
 pub struct Station {
@@ -59,32 +60,32 @@ fn check_listed(b: &[u8], listed: Station) -> Check
     check_log(b, &starts[..count], prepared, &places[..logged])
 }
 
-// Writes the image of a set whose log is listed.
+// Writes the used bytes of the image of a set whose log is listed.
 fn rewrite(out: &mut [u8], b: &[u8], listed: Station)
     requires { ⌜ Rewritable (now out) (now b) listed ⌝ }
-    ensures { λ _. ⌜ now (out .exit) ≡ imageOf (setIn (now (b .entry)) (startsOf (listed .table))) ⌝ }
+    ensures { λ _. ⌜ now (out .exit) ≡ written (usedOf (setIn (now (b .entry)) (startsOf (listed .table)))) (now (out .entry)) ⌝ }
 {
     let table = listed.table;
     let starts = table.starts;
     let count = table.count;
     let places = listed.places;
     let logged = listed.logged;
-    write_image(out, b, &starts[..count], &places[..logged]);
+    write_used(out, b, &starts[..count], &places[..logged]);
 }
 
-// Judges a buffer whose messages were read: its log has to be that of their set, and it has to be their image, byte for byte.
-fn judge(b: &[u8], table: Table) -> Station
-    requires { ⌜ (length (now b) ≡ imageSize) × IsTable (now b) table ⌝ }
-    ensures { λ r. ⌜ Judges (now (b .entry)) r ⌝ }
+// Judges a buffer whose messages were read: its log has to be that of their set, and it has to be their image, byte for byte. That
+// image is written into `copy`, which is all zeros.
+fn judge(b: &[u8], table: Table, copy: &mut [u8]) -> Station
+    requires { ⌜ (length (now b) ≡ imageSize) × IsTable (now b) table × Blank (now copy) ⌝ }
+    ensures { λ r. ⌜ Judges (now (b .entry)) r × Copies (now (b .entry)) (now (copy .exit)) (r .check) ⌝ }
 {
     let listed = list(b, table);
     let checked = check_listed(b, listed);
     let Check::Right = checked else {
         return listed;
     };
-    let mut written = [0u8; IMAGE_SIZE];
-    rewrite(&mut written, b, listed);
-    if !same(&written, b) {
+    rewrite(copy, b, listed);
+    if !same(&copy[..IMAGE_SIZE], b) {
         return listed;
     }
     let places = listed.places;
@@ -97,10 +98,10 @@ fn judge(b: &[u8], table: Table) -> Station
     }
 }
 
-// Reads a buffer of an image's size and judges it.
-pub fn read_station(b: &[u8]) -> Station
-    requires { ⌜ length (now b) ≡ imageSize ⌝ }
-    ensures { λ r. ⌜ Judges (now (b .entry)) r ⌝ }
+// Reads a buffer of an image's size and judges it. Where it is an image, `copy` begins with it afterwards.
+pub fn read_and_copy(b: &[u8], copy: &mut [u8]) -> Station
+    requires { ⌜ (length (now b) ≡ imageSize) × Blank (now copy) ⌝ }
+    ensures { λ r. ⌜ Judges (now (b .entry)) r × Copies (now (b .entry)) (now (copy .exit)) (r .check) ⌝ }
 {
     let reading = read_table(b);
     let check = reading.check;
@@ -113,5 +114,14 @@ pub fn read_station(b: &[u8]) -> Station
             logged: 0,
         };
     };
-    judge(b, table)
+    judge(b, table, copy)
+}
+
+// Reads a buffer of an image's size and judges it.
+pub fn read_station(b: &[u8]) -> Station
+    requires { ⌜ length (now b) ≡ imageSize ⌝ }
+    ensures { λ r. ⌜ Judges (now (b .entry)) r ⌝ }
+{
+    let mut copy = [0u8; IMAGE_SIZE];
+    read_and_copy(b, &mut copy)
 }

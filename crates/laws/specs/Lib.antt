@@ -4,3 +4,4 @@ pub mod EffectiveLaws
 pub mod ImageLaws
 pub mod CodeLaws
 pub mod DeliverLaws
+pub mod UsedLaws

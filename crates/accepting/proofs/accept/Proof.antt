@@ -1,5 +1,5 @@
 -- The message stands in the pool behind the image, its start in the table, and the old log at the shifted places: `update` does the rest.
-use mathlib.Core.Path.{_≡_, refl}
+use mathlib.Core.Path.{_≡_}
 use native.Mathlib.Omega.{arith}
 use lib.ListN.{length}
 use Rattle.accepting.specs.AcceptedLaws.{message-fits, place-fits, places-within, updatable, accepted-answer}
@@ -15,39 +15,33 @@ starts-size s = search needs
 places-size : (s : tie.Start) → length (s .args .station .places) ≡ capacity
 places-size s = search needs
 
--- the call as it began, the pool filled, the start inserted, from where the places are shifted
-abbrev start : tie.After-fill-pool → tie.Start
+-- the call as it began, the message copied, from where the places are shifted
+abbrev start : tie.After-copy-at → tie.Start
 start f = f .before .before .before .before .before .before
 
-abbrev filled : tie.After-shift-places → tie.After-fill-pool
-filled c = c .before .before .before .before .before
+abbrev filled : tie.After-shift-places → tie.After-copy-at
+filled c = c .before .before .before .before .before .before
 
-slice-aggregate-fill-pool : tie.Need-slice-aggregate-fill-pool
-slice-aggregate-fill-pool c = search needs
-
-fill-pool-requires : tie.Need-fill-pool-requires
-fill-pool-requires c κs =
+copy-at-requires : tie.Need-copy-at-requires
+copy-at-requires c κs =
     let s = c .before .before .before .before .before in
     let a = s .args in
-    omega (arith, message-fits (a .image .now) (a .message .now) (length (a .steps .now)) (a .station) (a .p) (s .pre) (starts-size s) (places-size s))
+    (omega arith, message-fits (a .image .now) (a .message .now) (length (a .steps .now)) (a .pool .now) (a .station) (a .p) (s .pre) (starts-size s) (places-size s))
 
 cast-insert : tie.Need-cast-insert
 cast-insert c = omega arith
 
 insert-requires : tie.Need-insert-requires
 insert-requires c κs =
-    let s = start (c .before .before) in
+    let s = start (c .before .before .before) in
     let a = s .args in
-    (s .pre .few, place-fits (a .image .now) (a .message .now) (length (a .steps .now)) (a .station) (a .p) (s .pre) (starts-size s) (places-size s))
+    (s .pre .few, place-fits (a .image .now) (a .message .now) (length (a .steps .now)) (a .pool .now) (a .station) (a .p) (s .pre) (starts-size s) (places-size s))
 
 shift-places-requires : tie.Need-shift-places-requires
 shift-places-requires c κs =
-    let s = start (c .before .before .before .before) in
+    let s = start (c .before .before .before .before .before) in
     let a = s .args in
-    (s .pre .judged .fits, places-within (a .image .now) (a .message .now) (length (a .steps .now)) (a .station) (a .p) (s .pre) (starts-size s) (places-size s))
-
-slice-aggregate-update : tie.Need-slice-aggregate-update
-slice-aggregate-update c = search needs
+    (s .pre .judged .fits, places-within (a .image .now) (a .message .now) (length (a .steps .now)) (a .pool .now) (a .station) (a .p) (s .pre) (starts-size s) (places-size s))
 
 update-requires : tie.Need-update-requires
 update-requires c κs =
@@ -55,13 +49,16 @@ update-requires c κs =
     let inserted = shifted .before .before in
     let s = start (filled shifted) in
     let a = s .args in
-    updatable (a .image .now) (a .message .now) (length (a .steps .now)) (a .station) (a .p) (s .pre) (starts-size s) (places-size s) _ _ (filled shifted .fill-pool .ensures) refl _ (inserted .insert .ensures .starts) (inserted .insert .ensures .count) _ (shifted .shift-places .ensures)
+    updatable (a .image .now) (a .message .now) (length (a .steps .now)) (a .pool .now) (a .station) (a .p) (s .pre) (starts-size s) (places-size s) _ (filled shifted .copy-at .ensures) _ (inserted .insert .ensures .starts) (inserted .insert .ensures .count) _ (shifted .shift-places .ensures)
 
 same-length : tie.Need-same-length
 same-length c = search needs
 
 same-length-2 : tie.Need-same-length-2
 same-length-2 c = search needs
+
+same-length-3 : tie.Need-same-length-3
+same-length-3 c = search needs
 
 returns : tie.Need-returns
 returns c =
@@ -70,19 +67,18 @@ returns c =
     let inserted = shifted .before .before in
     let s = start (filled shifted) in
     let a = s .args in
-    accepted-answer (a .image .now) (a .message .now) (length (a .steps .now)) (a .station) (a .p) (s .pre) (starts-size s) (places-size s) _ _ (filled shifted .fill-pool .ensures) refl _ (inserted .insert .ensures .starts) (inserted .insert .ensures .count) _ (shifted .shift-places .ensures) _ _ (updated .update .ensures)
+    accepted-answer (a .image .now) (a .message .now) (length (a .steps .now)) (a .pool .now) (a .station) (a .p) (s .pre) (starts-size s) (places-size s) _ (filled shifted .copy-at .ensures) _ (inserted .insert .ensures .starts) (inserted .insert .ensures .count) _ (shifted .shift-places .ensures) _ _ (updated .update .ensures)
 
 pub accept-spec : {M : Type 1} → statement M
 accept-spec =
     tie.close
     (tie.spec
-    slice-aggregate-fill-pool
-    fill-pool-requires
+    copy-at-requires
     cast-insert
     insert-requires
     shift-places-requires
-    slice-aggregate-update
     update-requires
     same-length
     same-length-2
+    same-length-3
     returns)

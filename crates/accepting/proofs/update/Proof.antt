@@ -1,9 +1,11 @@
 -- The two logs of one table give image, steps and counts: what was ordered is the set's log, and the old one stands beside it.
-use mathlib.Core.Path.{sym, subst}
-use mathlib.Core.List.{List}
+use mathlib.Core.Path.{sym, _∙_, ap, subst}
+use mathlib.Core.List.{List, _++_}
 use Prim.Native.Nat.{ℕ}
-use lib.ListN.{take}
+use lib.ListN.{length, take, drop}
 use Rattle.model.specs.Order.{State}
+use Rattle.model.specs.Image.{usedOf}
+use Rattle.laws.specs.UsedLaws.{over-smaller}
 use Rattle.table.specs.Table.{startsOf, setIn}
 use Rattle.log_order.specs.LogOrder.{oldOf, placesOf}
 use Rattle.steps.specs.PlacedLogs.{IsLogOf}
@@ -76,7 +78,8 @@ returns c =
     let o = at .order-table .result in
     record {
       answer = λ S h. accepted-by pool starts (oldOf o) (placesOf o) S (setIn pool starts) (s .pre .holds) (old-log at S h) (at .order-table .ensures .log)
-          (counted .undos .result) (c .executions .result) _ _ _ (counted .undos .ensures) (c .executions .ensures) (drawn .write-table .ensures) (written .write-change .ensures);
+          (counted .undos .result) (c .executions .result) _ _ _ (counted .undos .ensures) (c .executions .ensures)
+          (drawn .write-table .ensures ∙ ap (λ (x : List ℕ). usedOf (setIn pool starts) ++ drop (length (usedOf (setIn pool starts))) x) (s .pre .image-is) ∙ over-smaller (s .pre .smaller) (setIn pool starts) (s .pre .grows)) (written .write-change .ensures);
     }
 
 pub update-spec : {M : Type 1} → statement M

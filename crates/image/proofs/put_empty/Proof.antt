@@ -1,58 +1,83 @@
 -- An empty table, in an empty pool, has an empty log.
+use Prim.Native.Nat.{_≤_}
+use lib.ListN.{length}
+use native.Mathlib.Omega.{arith}
 use borrow.Author.Needs.{needs}
+use Rattle.model.specs.Layout.{imageSize}
+use Rattle.model.specs.Image.{usedOf}
+use Rattle.model.specs.Calls.{emptyState}
+use Rattle.laws.specs.ImageLaws.{used-fits}
 use Rattle.image.specs.LogPlaceLaws.{empty-log}
+use Rattle.image.specs.SectionLaws.{used-cleared}
 use Rattle.image.proofs.put_empty.Statement.{statement}
 use Rattle.image.proofs.put_empty.Tie as tie
 
-sub-write-image : tie.Need-sub-write-image
-sub-write-image c = search needs
+-- the image of the empty set fits
+fits : length (usedOf emptyState) ≤ imageSize
+fits = used-fits emptyState (empty-log .holds)
 
-part-write-image-start : tie.Need-part-write-image-start
-part-write-image-start c = search needs
+-- where the call began, from where the used bytes are written
+abbrev begun : tie.After-write-used → tie.Start
+begun w = w .before .before .before .before .before .before .before .before .before
 
-part-write-image-end : tie.Need-part-write-image-end
-part-write-image-end c = search needs
+sub-write-used : tie.Need-sub-write-used
+sub-write-used c = search needs
 
-sub-write-image-2 : tie.Need-sub-write-image-2
-sub-write-image-2 c = search needs
+part-write-used-start : tie.Need-part-write-used-start
+part-write-used-start c = search needs
 
-part-write-image-start-2 : tie.Need-part-write-image-start-2
-part-write-image-start-2 c = search needs
+part-write-used-end : tie.Need-part-write-used-end
+part-write-used-end c = search needs
 
-part-write-image-end-2 : tie.Need-part-write-image-end-2
-part-write-image-end-2 c = search needs
+sub-write-used-2 : tie.Need-sub-write-used-2
+sub-write-used-2 c = search needs
 
-sub-write-image-3 : tie.Need-sub-write-image-3
-sub-write-image-3 c = search needs
+part-write-used-start-2 : tie.Need-part-write-used-start-2
+part-write-used-start-2 c = search needs
 
-part-write-image-start-3 : tie.Need-part-write-image-start-3
-part-write-image-start-3 c = search needs
+part-write-used-end-2 : tie.Need-part-write-used-end-2
+part-write-used-end-2 c = search needs
 
-part-write-image-end-3 : tie.Need-part-write-image-end-3
-part-write-image-end-3 c = search needs
+sub-write-used-3 : tie.Need-sub-write-used-3
+sub-write-used-3 c = search needs
 
-write-image-requires : tie.Need-write-image-requires
-write-image-requires c κs = record { size = search needs; logged = empty-log }
+part-write-used-start-3 : tie.Need-part-write-used-start-3
+part-write-used-start-3 c = search needs
+
+part-write-used-end-3 : tie.Need-part-write-used-end-3
+part-write-used-end-3 c = search needs
+
+write-used-requires : tie.Need-write-used-requires
+write-used-requires c κs = record { room = search needs; logged = empty-log }
+
+clear-from-requires : tie.Need-clear-from-requires
+clear-from-requires c κs =
+    let w = c .before .before .before in
+    omega (arith, w .write-used .ensures .end, fits, w .write-used .kept .0, begun w .pre)
 
 same-length : tie.Need-same-length
 same-length c = search needs
 
 returns : tie.Need-returns
-returns c = search needs
+returns c =
+    let cleared = c .before .before in
+    let w = cleared .before .before .before .before in
+    used-cleared emptyState (begun w .pre) (w .write-used .ensures) (cleared .clear-from .ensures) fits
 
 pub put-empty-spec : {M : Type 1} → statement M
 put-empty-spec =
     tie.close
     (tie.spec
-    sub-write-image
-    part-write-image-start
-    part-write-image-end
-    sub-write-image-2
-    part-write-image-start-2
-    part-write-image-end-2
-    sub-write-image-3
-    part-write-image-start-3
-    part-write-image-end-3
-    write-image-requires
+    sub-write-used
+    part-write-used-start
+    part-write-used-end
+    sub-write-used-2
+    part-write-used-start-2
+    part-write-used-end-2
+    sub-write-used-3
+    part-write-used-start-3
+    part-write-used-end-3
+    write-used-requires
+    clear-from-requires
     same-length
     returns)

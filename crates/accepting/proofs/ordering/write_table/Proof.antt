@@ -15,14 +15,14 @@ places-size : (s : tie.Start) → length (s .args .t4) ≡ capacity
 places-size s = search needs
 
 -- where the call began, from where the buffer is lent
-abbrev began : tie.After-write-image-arg → tie.Start
+abbrev began : tie.After-write-used-arg → tie.Start
 began c = c .before .before .before .before
 
 array-share-prefix-starts : tie.Need-array-share-prefix-starts
 array-share-prefix-starts c = let s = began c in omega (arith, starts-size s, s .pre .fits)
 
-slice-aggregate-write-image : tie.Need-slice-aggregate-write-image
-slice-aggregate-write-image c =
+slice-aggregate-write-used : tie.Need-slice-aggregate-write-used
+slice-aggregate-write-used c =
     let s = began (c .before) in
     let t = s .args .table in
     sym (length-take-le (t .count) (t .starts) (omega (arith, starts-size s, s .pre .fits)))
@@ -30,29 +30,29 @@ slice-aggregate-write-image c =
 array-share-prefix-places : tie.Need-array-share-prefix-places
 array-share-prefix-places c = let s = began (c .before) in omega (arith, places-size s, s .pre .places-fit)
 
-slice-aggregate-write-image-2 : tie.Need-slice-aggregate-write-image-2
-slice-aggregate-write-image-2 c =
+slice-aggregate-write-used-2 : tie.Need-slice-aggregate-write-used-2
+slice-aggregate-write-used-2 c =
     let s = began (c .before .before) in
     let a = s .args in
     sym (length-take-le (a .logged) (a .t4) (omega (arith, places-size s, s .pre .places-fit)))
 
-write-image-requires : tie.Need-write-image-requires
-write-image-requires c κs = let h = began (c .before .before) .pre in record { size = h .size; logged = record { holds = h .holds; log = h .log .log } }
+write-used-requires : tie.Need-write-used-requires
+write-used-requires c κs = let h = began (c .before .before) .pre in record { room = omega (arith, h .size); logged = record { holds = h .holds; log = h .log .log } }
 
 same-length : tie.Need-same-length
 same-length c = search needs
 
 returns : tie.Need-returns
-returns c = search needs
+returns c = c .before .before .write-used .ensures .bytes
 
 pub write-table-spec : {M : Type 1} → statement M
 write-table-spec =
     tie.close
     (tie.spec
     array-share-prefix-starts
-    slice-aggregate-write-image
+    slice-aggregate-write-used
     array-share-prefix-places
-    slice-aggregate-write-image-2
-    write-image-requires
+    slice-aggregate-write-used-2
+    write-used-requires
     same-length
     returns)

@@ -13,7 +13,7 @@ starts-size c = search needs
 
 -- where the call began, from where the table is taken
 abbrev began : tie.After-struct-known → tie.Start
-began c = c .before .before .before .before .before
+began c = c .before .before .before .before .before .before
 
 returns : tie.Need-returns
 returns c =
@@ -31,14 +31,17 @@ same-length c = search needs
 same-length-2 : tie.Need-same-length-2
 same-length-2 c = search needs
 
+same-length-3 : tie.Need-same-length-3
+same-length-3 c = search needs
+
 returns-2 : tie.Need-returns-2
 returns-2 c =
-    let accepted = c .before .before .before .before in
-    let few = accepted .before .before .before in
+    let accepted = c .before .before .before .before .before .before in
+    let few = accepted .before .before .before .before in
     let s = began (few .before) in
     let a = s .args in
     let pre = s .pre in
     accepted .accept .ensures ∙ sym (new-case (a .image .now) (a .message .now) (a .steps .now) (a .station) (pre .size) (pre .steps-room) (pre .judged) (pre .right) (a .p) (pre .absent) (starts-size s) (few .if1 .left))
 
 pub accept-new-spec : {M : Type 1} → statement M
-accept-new-spec = tie.close (tie.spec returns accept-requires same-length same-length-2 returns-2)
+accept-new-spec = tie.close (tie.spec returns accept-requires same-length same-length-2 same-length-3 returns-2)

@@ -1,10 +1,12 @@
 -- The checks run in the order of their codes, and each tells what the definitions' case asks for; what is left is taken in.
-use mathlib.Core.Path.{_≡_, sym, _∙_, ap, subst}
+use mathlib.Core.Path.{_≡_, refl, sym, _∙_, ap, subst}
 use mathlib.Core.Bool.{true, not, _||_}
 use lib.ListN.{length}
 use lib.Dec.{T, eqb}
 use borrow.Author.Tests.{eqb-true}
-use Rattle.model.specs.Layout.{imageSize}
+use Prim.Native.Nat.{_+_}
+use native.Mathlib.Omega.{arith}
+use Rattle.model.specs.Layout.{imageSize, messageRoom}
 use Rattle.model.specs.Codes.{wrongSize, smallSteps}
 use Rattle.parse.specs.declared.Parsed.{Parsed}
 use Rattle.parse.specs.declared.Parsed.the-variants as parsed
@@ -12,7 +14,7 @@ use Rattle.message.specs.Check.{right}
 use Rattle.parse.specs.Parsed.{Parses}
 use Rattle.parse.specs.ParsedLaws.{parsed-accepted}
 use Rattle.parse.proofs.ParsedTags.{no-message}
-use Rattle.judged.specs.Judging.{IsStation}
+use Rattle.judged.specs.Judging.{IsStation, Copies}
 use Rattle.judged.specs.JudgingLaws.{judges-wrong, judges-right}
 use Rattle.deliver.specs.declared.answer.Delivery.{Delivery}
 use Rattle.deliver.specs.Answer.{deliveredBy}
@@ -28,11 +30,11 @@ began c = c .before .before .before .before
 abbrev measured : tie.After-check-step-room → tie.After-check-image-size
 measured c = c .before .before .before
 
-abbrev roomed : tie.After-read-station → tie.After-check-step-room
-roomed c = c .before .before .before .before
+abbrev roomed : tie.After-read-and-copy → tie.After-check-step-room
+roomed c = c .before .before .before .before .before
 
-abbrev judged : tie.After-parse → tie.After-read-station
-judged c = c .before .before .before
+abbrev judged : tie.After-parse → tie.After-read-and-copy
+judged c = c .before .before .before .before
 
 -- what the checks of the sizes told
 sized : (c : tie.After-enum-told) → true ≡ eqb (length (began (c .before .before) .args .image .now)) imageSize
@@ -52,14 +54,17 @@ sizes : (c : tie.After-enum-told3) → T (not (wrongSize (told c .args .image .n
 sizes c = let a = told c .args in sizes-case (a .image .now) (a .message .now) (a .steps .now) (first c) (roomy c)
 
 -- where the sizes are right, from where the image is judged
-abbrev sizes-told : tie.After-read-station → tie.After-enum-told3
-sizes-told c = c .before .before
+abbrev sizes-told : tie.After-read-and-copy → tie.After-enum-told3
+sizes-told c = c .before .before .before
 
--- what the judgement told
-station-is : (c : tie.After-enum-told5) → IsStation (told (sizes-told (c .before .before)) .args .image .now) (c .before .before .read-station .result)
+-- where the image is judged, from where it is known to be one; and what the judgement told
+abbrev read : tie.After-enum-told5 → tie.After-read-and-copy
+read c = c .before .before .before
+
+station-is : (c : tie.After-enum-told5) → IsStation (told (sizes-told (read c)) .args .image .now) (read c .read-and-copy .result)
 station-is c =
-    let r = c .before .before in
-    judges-right (told (sizes-told r) .args .image .now) (r .read-station .result) (r .read-station .ensures) (c .enum-told5 .given .1)
+    let r = read c in
+    judges-right (told (sizes-told r) .args .image .now) (r .read-and-copy .result) (r .read-and-copy .ensures .0) (c .enum-told5 .given .1)
 
 check-image-size-requires : tie.Need-check-image-size-requires
 check-image-size-requires c κs = search needs
@@ -91,8 +96,13 @@ returns-2 c =
     let a = began (measured r) .args in
     room-case (a .image .now) (a .message .now) (a .steps .now) (sized (r .before)) (sym (ap right (c .enum-told4 .given .1)) ∙ r .check-step-room .ensures)
 
-read-station-requires : tie.Need-read-station-requires
-read-station-requires c κs = eqb-true (length (told (c .before) .args .image .now)) imageSize (sym (first (c .before)))
+slice-aggregate-read-and-copy : tie.Need-slice-aggregate-read-and-copy
+slice-aggregate-read-and-copy c = search needs
+
+read-and-copy-requires : tie.Need-read-and-copy-requires
+read-and-copy-requires c κs =
+    let t = c .before .before in
+    (eqb-true (length (told t .args .image .now)) imageSize (sym (first t)), record { count = imageSize + messageRoom; zeros = refl; room = omega arith })
 
 enum-told-5 : tie.Need-enum-told-5
 enum-told-5 c = search needs
@@ -105,10 +115,10 @@ same-length c = search needs
 
 returns-3 : tie.Need-returns-3
 returns-3 c =
-    let r = c .before .before in
+    let r = c .before .before .before in
     let t = sizes-told r in
     let a = told t .args in
-    image-case (a .image .now) (a .message .now) (a .steps .now) (sizes t) (judges-wrong (a .image .now) (r .read-station .result) (r .read-station .ensures) (c .enum-told6 .given .1))
+    image-case (a .image .now) (a .message .now) (a .steps .now) (sizes t) (judges-wrong (a .image .now) (r .read-and-copy .result) (r .read-and-copy .ensures .0) (c .enum-told6 .given .1))
 
 parse-requires : tie.Need-parse-requires
 parse-requires c κs = search needs
@@ -134,10 +144,14 @@ returns-4 c =
 abbrev known : tie.After-take-in-arg2 → tie.After-parsed
 known c = c .before .before .before .before
 
+slice-aggregate-take-in : tie.Need-slice-aggregate-take-in
+slice-aggregate-take-in c = omega (arith, read (known (c .before) .before .before .before) .read-and-copy .kept .1 .0)
+
 take-in-requires : tie.Need-take-in-requires
 take-in-requires c κs =
-    let k = known c in
+    let k = known (c .before) in
     let p = k .before .before in
+    let r = read (p .before) in
     let t = sizes-told (judged p) in
     let a = told t .args in
     let h = k .parsed .given .0 .0 in
@@ -149,6 +163,8 @@ take-in-requires c κs =
       judged = station-is (p .before);
       right = m .pass;
       sequence = m .sequence;
+      pool-size = r .read-and-copy .kept .1 .0;
+      pooled = subst (Copies (a .image .now) (r .read-and-copy .last .1 .0)) (p .before .enum-told5 .given .1) (r .read-and-copy .ensures .1);
     }
 
 same-length-3 : tie.Need-same-length-3
@@ -172,7 +188,8 @@ deliver-spec =
     enum-told-3
     enum-told-4
     returns-2
-    read-station-requires
+    slice-aggregate-read-and-copy
+    read-and-copy-requires
     enum-told-5
     enum-told-6
     same-length
@@ -182,6 +199,7 @@ deliver-spec =
     refuse-requires
     same-length-2
     returns-4
+    slice-aggregate-take-in
     take-in-requires
     same-length-3
     same-length-4

@@ -33,7 +33,7 @@ used c =
 
 -- the call as it began, from where the place is found; and what was found, from where its place is known
 abbrev start : tie.After-find → tie.Start
-start f = f .before .before .before .before .before .before .before .before
+start f = f .before .before .before .before .before .before .before .before .before
 
 abbrev sought : tie.After-known-told → tie.After-find
 sought k = k .before .before .before
@@ -76,11 +76,11 @@ lies k =
 
 -- the call as it began, from where its starts are lent
 abbrev lent : tie.After-starts2 → tie.Start
-lent c = c .before .before .before .before .before .before .before
+lent c = c .before .before .before .before .before .before .before .before
 
 array-share-prefix-starts : tie.Need-array-share-prefix-starts
 array-share-prefix-starts c =
-    let s = c .before .before .before .before .before .before in
+    let s = c .before .before .before .before .before .before .before in
     let e : length (s .args .station .table .starts) ≡ capacity = starts-size s in
     let f : s .args .station .table .count ≤ capacity = s .pre .judged .table .fits in
     omega arith
@@ -121,9 +121,9 @@ absent k =
 
 accept-new-requires : tie.Need-accept-new-requires
 accept-new-requires c κs =
-    let k = c .before .before in
+    let k = c .before .before .before in
     let pre = start (k .before .before .before) .pre in
-    record { size = pre .size; steps-room = pre .steps-room; judged = pre .judged; right = pre .right; absent = absent k }
+    record { size = pre .size; steps-room = pre .steps-room; judged = pre .judged; right = pre .right; absent = absent k; pool-size = pre .pool-size; pooled = pre .pooled }
 
 same-length : tie.Need-same-length
 same-length c = search needs
@@ -143,6 +143,9 @@ same-length-2 c = search needs
 
 same-length-3 : tie.Need-same-length-3
 same-length-3 c = search needs
+
+same-length-4 : tie.Need-same-length-4
+same-length-4 c = search needs
 
 returns-2 : tie.Need-returns-2
 returns-2 c = search needs
@@ -165,4 +168,5 @@ take-in-spec =
     returns
     same-length-2
     same-length-3
+    same-length-4
     returns-2)

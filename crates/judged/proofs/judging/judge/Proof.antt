@@ -1,27 +1,35 @@
 -- A buffer whose log is not that of its set, or which is not the image of its set, is no image; any other is.
 use mathlib.Core.Path.{_≡_, refl, sym, _∙_, ap, subst}
-use mathlib.Core.Bool.{Bool}
-use mathlib.Core.List.{List}
+use mathlib.Core.Bool.{Bool, false}
+use mathlib.Core.List.{List, _++_}
+use Prim.Native.Nat.{ℕ, _≤_}
+use native.Mathlib.Omega.{arith}
+use lib.ListN.{length, take, drop, length-replicate}
+use lib.Seq.{length-take-le}
 use lib.Dec.{T}
 use borrow.Author.Needs.{needs}
 use borrow.Author.Tests.{not-true, not-false}
 use Rattle.model.specs.Lists.{same}
 use Rattle.model.specs.Order.{logOf}
-use Rattle.model.specs.Image.{isImage}
+use Rattle.model.specs.Layout.{imageSize}
+use Rattle.model.specs.Image.{usedOf, imageOf, isImage}
+use Rattle.order.specs.TestLaws.{same→eq}
+use Rattle.laws.specs.ImageLaws.{used-fits}
+use Rattle.laws.specs.UsedLaws.{over-zeros}
 use Rattle.message.specs.declared.checks.Check.the-variants.{Right}
 use Rattle.table.specs.declared.Table.{Table}
 use Rattle.table.specs.Table.{startsOf, deltasOf, deltasAt, setIn}
 use Rattle.table.specs.Reading.{IsTable}
 use Rattle.log_check.specs.Checking.{ChecksLog}
 use Rattle.judged.specs.LogRead.{ReadsLog}
-use Rattle.judged.specs.Judging.{placesIn}
+use Rattle.judged.specs.Judging.{placesIn, Judges, Copies}
 use Rattle.judged.specs.JudgingLaws.{judged, other-log, unjudged}
 use Rattle.judged.proofs.judging.judge.Statement.{statement}
 use Rattle.judged.proofs.judging.judge.Tie as tie
 
 -- what was listed: the table is the one that was read, and so is the log
 abbrev start : tie.After-list → tie.Start
-start c = c .before .before
+start c = c .before .before .before
 
 is-table : (c : tie.After-list) → IsTable (start c .args .b .now) (c .list .result .table)
 is-table c = subst (IsTable (start c .args .b .now)) (sym (c .list .ensures .table)) (start c .pre .1)
@@ -44,14 +52,20 @@ enum-told c = search needs
 enum-told-2 : tie.Need-enum-told-2
 enum-told-2 c = search needs
 
+-- what is handed back where the buffer is no image
+refused : (l : tie.After-list) → isImage (start l .args .b .now) ≡ false → (copy : List ℕ) → Judges (start l .args .b .now) (l .list .result) × Copies (start l .args .b .now) copy (l .list .result .check)
+refused l h copy =
+    let b = start l .args .b .now in
+    let r = l .list .result in
+    (unjudged b r (l .list .ensures .unjudged) h, subst (Copies b copy) (sym (l .list .ensures .unjudged)) tt)
+
 returns : tie.Need-returns
 returns c =
     let k = c .before .before in
     let l = k .before in
     let r = l .list .result in
     let b = start l .args .b .now in
-    unjudged b r (l .list .ensures .unjudged)
-    (other-log b (r .table) (is-table l) (r .logged) (r .places) (is-read l) (subst (ChecksLog (setIn b (startsOf (r .table))) (placesIn r)) (c .enum-told2 .given .1) (k .check-listed .ensures)))
+    refused l (other-log b (r .table) (is-table l) (r .logged) (r .places) (is-read l) (subst (ChecksLog (setIn b (startsOf (r .table))) (placesIn r)) (c .enum-told2 .given .1) (k .check-listed .ensures))) _
 
 -- the listed log is that of the set
 abbrev listed : tie.After-enum-told → tie.After-list
@@ -63,50 +77,77 @@ log-is c =
     let r = l .list .result in
     subst (ChecksLog (setIn (start l .args .b .now) (startsOf (r .table))) (placesIn r)) (c .enum-told .given .1) (c .before .before .check-listed .ensures)
 
-slice-aggregate-rewrite : tie.Need-slice-aggregate-rewrite
-slice-aggregate-rewrite c = search needs
+-- the copy has room for an image
+large : (l : tie.After-list) → imageSize ≤ length (start l .args .copy .now)
+large l = let blank = start l .pre .2 in omega (arith, blank .room, ap length (blank .zeros), length-replicate {A = ℕ} (blank .count) 0)
 
 rewrite-requires : tie.Need-rewrite-requires
 rewrite-requires c κs =
-    let l = listed (c .before) in
-    record { size = refl; holds = is-table l .holds; counted = is-table l .fits; fits = l .list .ensures .fits; log = log-is (c .before) }
+    let e = c .before in
+    let l = listed e in
+    record { room = large l; holds = is-table l .holds; counted = is-table l .fits; fits = l .list .ensures .fits; log = log-is e }
+
+-- where the list is, from where the used bytes are written; these, in zeros, are the image of the set
+abbrev known : tie.After-rewrite → tie.After-enum-told
+known w = w .before .before
+
+still-large : (w : tie.After-rewrite) → imageSize ≤ length (w .rewrite .last .0)
+still-large w = let l = listed (known w) in omega (arith, w .rewrite .kept .0, large l)
+
+image-is : (w : tie.After-rewrite) → let l = listed (known w) in take imageSize (w .rewrite .last .0) ≡ imageOf (setIn (start l .args .b .now) (startsOf (l .list .result .table)))
+image-is w =
+    let l = listed (known w) in
+    let blank = start l .pre .2 in
+    let S = setIn (start l .args .b .now) (startsOf (l .list .result .table)) in
+    ap (take imageSize) (w .rewrite .ensures ∙ ap (λ (x : List ℕ). usedOf S ++ drop (length (usedOf S)) x) (blank .zeros))
+    ∙ over-zeros S (blank .count) (blank .room) (used-fits S (is-table l .holds))
+
+slice-reshare-prefix-same : tie.Need-slice-reshare-prefix-same
+slice-reshare-prefix-same c = still-large (c .before .before)
 
 slice-aggregate-same : tie.Need-slice-aggregate-same
-slice-aggregate-same c = search needs
+slice-aggregate-same c = let w = c .before .before .before in sym (length-take-le imageSize (w .rewrite .last .0) (still-large w))
 
 same-requires : tie.Need-same-requires
 same-requires c κs = search needs
 
 -- where the image of the set was compared, and where it was written
 abbrev written : tie.After-same → tie.After-rewrite
-written c = c .before .before .before
+written c = c .before .before .before .before
 
 -- whether the buffer is an image is what the comparison says
-compared : (c : tie.After-same) (t : Bool) → c .same .result ≡ t → isImage (start (listed (written c .before .before)) .args .b .now) ≡ t
+compared : (c : tie.After-same) (t : Bool) → c .same .result ≡ t → isImage (start (listed (known (written c))) .args .b .now) ≡ t
 compared c t e =
-    let l = listed (written c .before .before) in
+    let l = listed (known (written c)) in
     let b = start l .args .b .now in
-    judged b (l .list .result .table) (is-table l) ∙ ap (λ (i : List _). same i b) (sym (written c .rewrite .ensures)) ∙ sym (c .same .ensures) ∙ e
+    judged b (l .list .result .table) (is-table l) ∙ ap (λ (i : List ℕ). same i b) (sym (image-is (written c))) ∙ sym (c .same .ensures) ∙ e
+
+same-length : tie.Need-same-length
+same-length c = written (c .before) .rewrite .kept .0
 
 returns-2 : tie.Need-returns-2
-returns-2 c =
-    let a = c .before in
-    let l = listed (written a .before .before) in
-    unjudged (start l .args .b .now) (l .list .result) (l .list .ensures .unjudged) (compared a _ (not-true (a .same .result) (c .if1 .taken)))
+returns-2 c = let a = c .before in refused (listed (known (written a))) (compared a _ (not-true (a .same .result) (c .if1 .taken))) _
+
+same-length-2 : tie.Need-same-length-2
+same-length-2 c = written (c .before .before) .rewrite .kept .0
 
 returns-3 : tie.Need-returns-3
 returns-3 c =
     let a = c .before .before in
-    let e = written a .before .before in
+    let w = written a in
+    let e = known w in
     let l = listed e in
     let b = start l .args .b .now in
-    record {
-      image = subst T (sym (compared a _ (not-false (a .same .result) (c .before .if1 .left)))) tt;
-      table = start l .pre .1;
-      log = subst (λ (t : Table). deltasAt (deltasOf b (startsOf t)) (placesIn (l .list .result)) ≡ logOf (setIn b (startsOf t))) (l .list .ensures .table) (log-is e);
-      inside = l .list .ensures .log .inside;
-      fits = l .list .ensures .fits;
-    }
+    let equal = not-false (a .same .result) (c .before .if1 .left) in (
+      record {
+        image = subst T (sym (compared a _ equal)) tt;
+        table = start l .pre .1;
+        log = subst (λ (t : Table). deltasAt (deltasOf b (startsOf t)) (placesIn (l .list .result)) ≡ logOf (setIn b (startsOf t))) (l .list .ensures .table) (log-is e);
+        inside = l .list .ensures .log .inside;
+        fits = l .list .ensures .fits;
+      },
+      same→eq (take imageSize (w .rewrite .last .0)) b (subst T (sym equal ∙ a .same .ensures) tt),
+    )
 
 pub judge-spec : {M : Type 1} → statement M
 judge-spec =
@@ -117,9 +158,11 @@ judge-spec =
     enum-told
     enum-told-2
     returns
-    slice-aggregate-rewrite
     rewrite-requires
+    slice-reshare-prefix-same
     slice-aggregate-same
     same-requires
+    same-length
     returns-2
+    same-length-2
     returns-3)

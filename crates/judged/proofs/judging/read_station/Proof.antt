@@ -1,37 +1,20 @@
--- A buffer whose messages can't be read is no image; any other is judged.
+-- A buffer of zeros of an image's size is lent for the copy.
+use mathlib.Core.Path.{refl}
+use native.Mathlib.Omega.{arith}
 use borrow.Author.Needs.{needs}
-use Rattle.judged.specs.JudgingLaws.{read-wrong, read-right}
+use Rattle.model.specs.Layout.{imageSize}
 use Rattle.judged.proofs.judging.read_station.Statement.{statement}
 use Rattle.judged.proofs.judging.read_station.Tie as tie
 
--- where the messages were read
-abbrev read : tie.After-table → tie.After-read-table
-read c = c .before
+slice-aggregate-read-and-copy : tie.Need-slice-aggregate-read-and-copy
+slice-aggregate-read-and-copy c = search needs
 
-read-table-requires : tie.Need-read-table-requires
-read-table-requires c κs = search needs
-
-enum-told : tie.Need-enum-told
-enum-told c = search needs
-
-enum-told-2 : tie.Need-enum-told-2
-enum-told-2 c = search needs
+read-and-copy-requires : tie.Need-read-and-copy-requires
+read-and-copy-requires c κs = (c .before .before .pre, record { count = imageSize; zeros = refl; room = omega arith })
 
 returns : tie.Need-returns
-returns c =
-    let a = read (c .before .before) in
-    let r = a .read-table .result in
-    read-wrong (a .before .before .args .b .now) (r .check) (r .table) (a .read-table .ensures) (c .enum-told2 .given .1)
-
-judge-requires : tie.Need-judge-requires
-judge-requires c κs =
-    let a = read (c .before .before) in
-    let r = a .read-table .result in
-    (a .before .before .pre, read-right (a .before .before .args .b .now) (r .check) (r .table) (a .read-table .ensures) (c .enum-told .given .1))
-
-returns-2 : tie.Need-returns-2
-returns-2 c = search needs
+returns c = c .before .read-and-copy .ensures .0
 
 pub read-station-spec : {M : Type 1} → statement M
 read-station-spec =
-    tie.close (tie.spec read-table-requires enum-told enum-told-2 returns judge-requires returns-2)
+    tie.close (tie.spec slice-aggregate-read-and-copy read-and-copy-requires returns)

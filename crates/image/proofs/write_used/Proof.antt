@@ -1,4 +1,4 @@
--- The messages stand where they start; the header and the values are written before them, zeros behind.
+-- The messages stand where they start, and the header and the values before them.
 use mathlib.Core.Path.{_≡_, _∙_, ap, subst}
 use Prim.Native.Nat.{ℕ, _+_, _-_, _≤_}
 use native.Mathlib.Omega.{arith}
@@ -14,9 +14,9 @@ use Rattle.image.specs.LogPlaces.{othersBelow, LogPlaces}
 use Rattle.image.specs.LogPlaceLaws.{log-count, table-count, log-fits}
 use Rattle.image.specs.HeldLaws.{others-length, others-count}
 use Rattle.image.specs.Pieces.{pasted, Copied}
-use Rattle.image.specs.SectionLaws.{header-is, values-are, image-sections}
-use Rattle.image.proofs.write_image.Statement.{statement}
-use Rattle.image.proofs.write_image.Tie as tie
+use Rattle.image.specs.SectionLaws.{header-is, values-are, used-written}
+use Rattle.image.proofs.write_used.Statement.{statement}
+use Rattle.image.proofs.write_used.Tie as tie
 
 -- earlier states: the call as it began, the held places found, the start of the messages known, the messages copied
 abbrev begun : tie.After-held-places → tie.Start
@@ -89,7 +89,7 @@ put-messages-requires : tie.Need-put-messages-requires
 put-messages-requires c κs =
     let m = c .before .before .before in
     let h = found m in
-    let size = begun h .pre .size in
+    let size = begun h .pre .room in
     (record { logged = logged h; held = others-are h }, omega (arith, room m))
 
 cast-put-header : tie.Need-cast-put-header
@@ -112,36 +112,28 @@ put-header-requires c κs = search needs
 put-values-requires : tie.Need-put-values-requires
 put-values-requires c κs = search needs
 
-clear-from-requires : tie.Need-clear-from-requires
-clear-from-requires c κs =
-    let u = c .before .before .before .before .before .before .before .before .before .before .before in
-    let size = begun (found (started u)) .pre .size in
-    omega (arith, used-fits u)
-
 same-length : tie.Need-same-length
 same-length c = search needs
 
 returns : tie.Need-returns
 returns c =
-    let cleared = c .before .before in
-    let valued = cleared .before .before .before .before in
+    let valued = c .before .before in
     let headed = valued .before .before .before .before in
     let u = headed .before .before .before .before in
     let m = started u in
     let h = found m in
     let a = begun h .args in
     let S = set h in
-    image-sections S (logged h .holds) (begun h .pre .size)
+    used-written S (logged h .holds) (begun h .pre .room)
     (subst (λ (n : ℕ). Copied (a .out .now) n (messagesOf S) (u .put-messages .last .0) (u .put-messages .result)) (start-is m) (u .put-messages .ensures))
     (headed .put-header .ensures
     ∙ ap (pasted (u .put-messages .last .0) 0)
     (header-is S (log-count (a .pool .now) (a .starts .now) (a .places .now) (logged h))
     (h .held-places .ensures .size ∙ others-count (a .pool .now) (a .starts .now) (a .places .now) (logged h)) (start-is m) (u .put-messages .ensures .end)))
     (valued .put-values .ensures ∙ values-are S (headed .put-header .last .0) setpointsStart (h .before .run-log .ensures))
-    (cleared .clear-from .ensures)
 
-pub write-image-spec : {M : Type 1} → statement M
-write-image-spec =
+pub write-used-spec : {M : Type 1} → statement M
+write-used-spec =
     tie.close
     (tie.spec
     run-log-requires
@@ -157,6 +149,5 @@ write-image-spec =
     cast-put-header-4
     put-header-requires
     put-values-requires
-    clear-from-requires
     same-length
     returns)
