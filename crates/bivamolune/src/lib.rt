@@ -1,5 +1,6 @@
 // The calls that a station's host makes, for C: numbers and byte slices, a slice as a pointer and a length.
 mod packing;
+pub mod reads;
 
 use crate::packing::pack_answer;
 use deliver::answer::Delivery;

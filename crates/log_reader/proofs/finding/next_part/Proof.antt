@@ -1,0 +1,177 @@
+-- The checks run in the order of their codes; of an image the part is the message that was found, and without one it is empty.
+use mathlib.Core.Path.{_≡_, refl, sym, _∙_, ap, subst}
+use mathlib.Core.Bool.{true}
+use Prim.Native.Nat.{ℕ}
+use native.Mathlib.Omega.{arith}
+use native.Mathlib.Nat.{add-sub-cancel-left}
+use lib.ListN.{length, take, drop}
+use lib.Dec.{eqb}
+use borrow.Author.Needs.{needs}
+use borrow.Author.Tests.{eqb-true}
+use Rattle.model.specs.Layout.{imageSize}
+use Rattle.model.specs.Image.{isImage}
+use Rattle.model.specs.Codes.{lowestCode, readConditions}
+use Rattle.model.specs.Calls.{nextMessage}
+use Rattle.order.specs.TestLaws.{true-T}
+use Rattle.message.specs.Check.{right}
+use Rattle.log_reader.specs.declared.finding.Found.the-variants as found
+use Rattle.log_reader.specs.Finding.{startingAt, IsMessage, Finds}
+use Rattle.log_reader.specs.FindingLaws.{next-told}
+use Rattle.log_reader.proofs.finding.next_part.Statement.{statement}
+use Rattle.log_reader.proofs.finding.next_part.Tie as tie
+
+-- where the call began, from where the size is checked; and where both checks are right
+abbrev began : tie.After-check-image-size → tie.Start
+began c = c .before .before
+
+abbrev measured : tie.After-check-image → tie.After-check-image-size
+measured c = c .before .before .before
+
+abbrev told : tie.After-enum-told3 → tie.Start
+told c = began (measured (c .before .before))
+
+-- what the checks told
+sized : (c : tie.After-enum-told) → true ≡ eqb (length (began (c .before .before) .args .image .now)) imageSize
+sized c = sym (ap right (c .enum-told .given .1)) ∙ c .before .before .check-image-size .ensures
+
+image : (c : tie.After-enum-told3) → true ≡ isImage (told c .args .image .now)
+image c = sym (ap right (c .enum-told3 .given .1)) ∙ c .before .before .check-image .ensures
+
+-- what is next of an image is what was looked for
+next-is : (c : tie.After-enum-told3) → let a = told c .args in startingAt (a .image .now) (a .offset) ≡ nextMessage (lowestCode (readConditions (a .image .now))) (a .image .now) (a .offset)
+next-is c = let a = told c .args in next-told (a .image .now) (a .offset) (sized (c .before .before .before)) (image c)
+
+check-image-size-requires : tie.Need-check-image-size-requires
+check-image-size-requires c κs = search needs
+
+enum-told : tie.Need-enum-told
+enum-told c = search needs
+
+enum-told-2 : tie.Need-enum-told-2
+enum-told-2 c = search needs
+
+sub-result : tie.Need-sub-result
+sub-result c = search needs
+
+part-result-start : tie.Need-part-result-start
+part-result-start c = search needs
+
+part-result-end : tie.Need-part-result-end
+part-result-end c = search needs
+
+returns : tie.Need-returns
+returns c =
+    let m = c .before .before .before in
+    let a = began m .args in
+    next-told (a .image .now) (a .offset) (sym (ap right (c .before .enum-told2 .given .1)) ∙ m .check-image-size .ensures) refl
+
+check-image-requires : tie.Need-check-image-requires
+check-image-requires c κs = eqb-true (length (began (c .before .before) .args .image .now)) imageSize (sym (sized c))
+
+enum-told-3 : tie.Need-enum-told-3
+enum-told-3 c = search needs
+
+enum-told-4 : tie.Need-enum-told-4
+enum-told-4 c = search needs
+
+sub-result-2 : tie.Need-sub-result-2
+sub-result-2 c = search needs
+
+part-result-start-2 : tie.Need-part-result-start-2
+part-result-start-2 c = search needs
+
+part-result-end-2 : tie.Need-part-result-end-2
+part-result-end-2 c = search needs
+
+returns-2 : tie.Need-returns-2
+returns-2 c =
+    let j = c .before .before .before in
+    let a = began (measured j) .args in
+    next-told (a .image .now) (a .offset) (sized (j .before)) (sym (ap right (c .before .enum-told4 .given .1)) ∙ j .check-image .ensures)
+
+find-message-requires : tie.Need-find-message-requires
+find-message-requires c κs =
+    let b = told c .args .image .now in
+    record { sized = eqb-true (length b) imageSize (sym (sized (c .before .before .before))); image = true-T (isImage b) (sym (image c)) }
+
+enum-known-found : tie.Need-enum-known-found
+enum-known-found c = search needs
+
+enum-told-5 : tie.Need-enum-told-5
+enum-told-5 c = search needs
+
+sub-result-3 : tie.Need-sub-result-3
+sub-result-3 c = search needs
+
+part-result-start-3 : tie.Need-part-result-start-3
+part-result-start-3 c = search needs
+
+part-result-end-3 : tie.Need-part-result-end-3
+part-result-end-3 c = search needs
+
+returns-3 : tie.Need-returns-3
+returns-3 c =
+    let f = c .before .before .before in
+    let t = f .before in
+    let a = told t .args in
+    sym (subst (Finds (a .image .now) (a .offset)) (c .before .enum-told5 .given .1) (f .find-message .ensures)) ∙ next-is t
+
+-- the message that was found
+known : (c : tie.After-found) → let a = told (c .before .before .before) .args in IsMessage (a .image .now) (a .offset) (c .found .given .0 .0)
+known c =
+    let f = c .before .before in
+    let a = told (f .before) .args in
+    subst (Finds (a .image .now) (a .offset)) (c .found .given .1) (f .find-message .ensures)
+
+add-end : tie.Need-add-end
+add-end c = omega (arith, known (c .before) .inside)
+
+sub-result-4 : tie.Need-sub-result-4
+sub-result-4 c = search needs
+
+part-result-start-4 : tie.Need-part-result-start-4
+part-result-start-4 c = search needs
+
+part-result-end-4 : tie.Need-part-result-end-4
+part-result-end-4 c =
+    let t = c .before .before .before .before in
+    omega (arith, known (c .before) .inside, eqb-true (length (told t .args .image .now)) imageSize (sym (sized (t .before .before .before))))
+
+returns-4 : tie.Need-returns-4
+returns-4 c =
+    let k = c .before .before in
+    let t = k .before .before .before in
+    let a = told t .args in
+    let size = k .found .given .0 .0 in
+    ap (λ (n : ℕ). take n (drop (a .offset) (a .image .now))) (add-sub-cancel-left (a .offset) size) ∙ known k .bytes ∙ next-is t
+
+pub next-part-spec : {M : Type 1} → statement M
+next-part-spec =
+    tie.close
+    (tie.spec
+    check-image-size-requires
+    enum-told
+    enum-told-2
+    sub-result
+    part-result-start
+    part-result-end
+    returns
+    check-image-requires
+    enum-told-3
+    enum-told-4
+    sub-result-2
+    part-result-start-2
+    part-result-end-2
+    returns-2
+    find-message-requires
+    enum-known-found
+    enum-told-5
+    sub-result-3
+    part-result-start-3
+    part-result-end-3
+    returns-3
+    add-end
+    sub-result-4
+    part-result-start-4
+    part-result-end-4
+    returns-4)

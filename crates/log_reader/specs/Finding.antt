@@ -1,0 +1,35 @@
+-- The log's message that starts at an offset: what is needed to look for it, what is found, and what holds on the way.
+use mathlib.Core.Path.{_≡_}
+use mathlib.Core.List.{List, []}
+use Prim.Native.Nat.{ℕ, _+_, _≤_}
+use lib.ListN.{length, take, drop}
+use lib.Dec.{T}
+use Rattle.model.specs.Layout.{imageSize}
+use Rattle.model.specs.Message.{Message}
+use Rattle.model.specs.Image.{messagesStartIn, logCount, logIn, isImage}
+use Rattle.model.specs.Calls.{messageAt}
+use Rattle.reading.specs.Parts.{logOffset}
+use Rattle.log_reader.specs.declared.finding.Found.{Found}
+use Rattle.log_reader.specs.declared.finding.Found.the-variants as found
+
+pub record Searchable (b : List ℕ) : Type 0 where
+  pub sized : length b ≡ imageSize
+  pub image : T (isImage b)
+
+-- the message of the log that starts at an offset, by the definition
+abbrev pub startingAt : List ℕ → ℕ → Message
+startingAt b offset = messageAt (messagesStartIn b) (logIn b) offset
+
+pub record IsMessage (b : List ℕ) (offset size : ℕ) : Type 0 where
+  pub inside : offset + size ≤ imageSize
+  pub bytes : take size (drop offset b) ≡ startingAt b offset
+
+abbrev pub Finds : List ℕ → ℕ → Found → Type 0
+Finds b offset (found.Message size) = IsMessage b offset size
+Finds b offset found.Nothing = startingAt b offset ≡ []
+
+-- What holds where the loop of `find_message` tests: none of the first k messages starts there.
+pub record Looking (b : List ℕ) (offset at k : ℕ) : Type 0 where
+  pub upto : k ≤ logCount b
+  pub here : at ≡ logOffset b k
+  pub left : startingAt b offset ≡ messageAt at (drop k (logIn b)) offset

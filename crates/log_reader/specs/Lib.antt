@@ -1,0 +1,5 @@
+pub mod Finding
+pub mod FindingLaws
+pub mod Reader
+pub mod ReaderLaws
+pub mod Readings

@@ -1,0 +1,135 @@
+-- The checks run in the order of their codes, and each tells what the definition's case asks for; what is left is the value's bytes.
+use mathlib.Core.Path.{_≡_, sym, _∙_, ap}
+use mathlib.Core.Bool.{true, not}
+use Prim.Native.Nat.{_<_}
+use native.Mathlib.Omega.{arith}
+use lib.ListN.{length}
+use lib.Dec.{eqb, leb}
+use borrow.Author.Needs.{needs}
+use borrow.Author.Tests.{eqb-true}
+use mir.Facts.{toZ-ofZ}
+use Rattle.model.specs.Bytes.{integer}
+use Rattle.model.specs.Layout.{imageSize, tagCount}
+use Rattle.model.specs.Image.{isImage}
+use Rattle.message.specs.Check.{right}
+use Rattle.reading.specs.ValueCases.{value-wrong-size, value-no-image, value-no-tag, tag-below, value-there}
+use Rattle.reading.proofs.setpoint.setpoint.Statement.{statement}
+use Rattle.reading.proofs.setpoint.setpoint.Tie as tie
+
+-- where the call began, from where the size is checked; and each check's state from the next one's
+abbrev began : tie.After-check-image-size → tie.Start
+began c = c .before .before
+
+abbrev measured : tie.After-check-image → tie.After-check-image-size
+measured c = c .before .before .before
+
+abbrev judged : tie.After-check-tag → tie.After-check-image
+judged c = c .before .before .before
+
+-- what the checks told
+sized : (c : tie.After-enum-told) → true ≡ eqb (length (began (c .before .before) .args .image .now)) imageSize
+sized c = sym (ap right (c .enum-told .given .1)) ∙ c .before .before .check-image-size .ensures
+
+image : (c : tie.After-enum-told3) → true ≡ isImage (began (measured (c .before .before)) .args .image .now)
+image c = sym (ap right (c .enum-told3 .given .1)) ∙ c .before .before .check-image .ensures
+
+named : (c : tie.After-enum-told5) → true ≡ not (leb tagCount (began (measured (judged (c .before .before))) .args .tag))
+named c = sym (ap right (c .enum-told5 .given .1)) ∙ c .before .before .check-tag .ensures
+
+check-image-size-requires : tie.Need-check-image-size-requires
+check-image-size-requires c κs = search needs
+
+enum-told : tie.Need-enum-told
+enum-told c = search needs
+
+enum-told-2 : tie.Need-enum-told-2
+enum-told-2 c = search needs
+
+returns : tie.Need-returns
+returns c =
+    let m = c .before .before in
+    let a = began m .args in
+    value-wrong-size (a .image .now) (a .tag) (sym (ap right (c .enum-told2 .given .1)) ∙ m .check-image-size .ensures)
+
+check-image-requires : tie.Need-check-image-requires
+check-image-requires c κs = eqb-true (length (began (c .before .before) .args .image .now)) imageSize (sym (sized c))
+
+enum-told-3 : tie.Need-enum-told-3
+enum-told-3 c = search needs
+
+enum-told-4 : tie.Need-enum-told-4
+enum-told-4 c = search needs
+
+returns-2 : tie.Need-returns-2
+returns-2 c =
+    let j = c .before .before in
+    let a = began (measured j) .args in
+    value-no-image (a .image .now) (a .tag) (sized (j .before)) (sym (ap right (c .enum-told4 .given .1)) ∙ j .check-image .ensures)
+
+check-tag-requires : tie.Need-check-tag-requires
+check-tag-requires c κs = search needs
+
+enum-told-5 : tie.Need-enum-told-5
+enum-told-5 c = search needs
+
+enum-told-6 : tie.Need-enum-told-6
+enum-told-6 c = search needs
+
+returns-3 : tie.Need-returns-3
+returns-3 c =
+    let t = c .before .before in
+    let j = judged t in
+    let a = began (measured j) .args in
+    value-no-tag (a .image .now) (a .tag) (sized (j .before)) (image (t .before)) (sym (ap right (c .enum-told6 .given .1)) ∙ t .check-tag .ensures)
+
+-- where all three are right
+abbrev told : tie.After-enum-told5 → tie.Start
+told c = began (measured (judged (c .before .before)))
+
+below : (c : tie.After-enum-told5) → told c .args .tag < tagCount
+below c = tag-below (told c .args .image .now) (told c .args .tag) (named c)
+
+size : (c : tie.After-enum-told5) → length (told c .args .image .now) ≡ imageSize
+size c = eqb-true (length (told c .args .image .now)) imageSize (sym (sized (judged (c .before .before) .before)))
+
+mul-get-u32 : tie.Need-mul-get-u32
+mul-get-u32 c = omega (arith, below c)
+
+add-get-u32 : tie.Need-add-get-u32
+add-get-u32 c = omega (arith, below c)
+
+get-u32-requires : tie.Need-get-u32-requires
+get-u32-requires c κs = omega (arith, below c, size c)
+
+of-word-requires : tie.Need-of-word-requires
+of-word-requires c κs = search needs
+
+returns-4 : tie.Need-returns-4
+returns-4 c =
+    let g = c .before in
+    let n = g .before in
+    let j = judged (n .before .before) in
+    let a = told n .args in
+    value-there (a .image .now) (a .tag) (sized (j .before)) (image (n .before .before .before)) (named n) _ (toZ-ofZ {z = c .of-word .result} (record { sfits = c .of-word .ok }) ∙ c .of-word .ensures ∙ ap integer (g .get-u32 .ensures))
+
+pub setpoint-spec : {M : Type 1} → statement M
+setpoint-spec =
+    tie.close
+    (tie.spec
+    check-image-size-requires
+    enum-told
+    enum-told-2
+    returns
+    check-image-requires
+    enum-told-3
+    enum-told-4
+    returns-2
+    check-tag-requires
+    enum-told-5
+    enum-told-6
+    returns-3
+    mul-get-u32
+    add-get-u32
+    get-u32-requires
+    of-word-requires
+    returns-4)

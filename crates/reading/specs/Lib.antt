@@ -1,0 +1,7 @@
+pub mod Parts
+pub mod Answers
+pub mod PartLaws
+pub mod ReadCodes
+pub mod PartCases
+pub mod ValueLaws
+pub mod ValueCases

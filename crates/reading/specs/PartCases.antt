@@ -1,0 +1,95 @@
+-- The cases of log message.
+use mathlib.Core.Path.{_≡_, refl, sym, _∙_, ap, ap₂, subst}
+use mathlib.Core.Bool.{Bool, true, false, not, cond}
+use mathlib.Core.List.{List, []}
+use Prim.Native.Nat.{ℕ, zero, suc, _+_, _≤_, _<_}
+use native.Mathlib.Omega.{arith}
+use lib.ListN.{length, take, drop, getD}
+use lib.Dec.{T, eqb, leb, eqb→eq, nleb→lt}
+use borrow.Author.Tests.{leb-false, eqb-true, ne-eqb, not-true}
+use Rattle.model.specs.Bytes.{field}
+use Rattle.model.specs.Layout.{lengthAt, headerSize, imageSize}
+use Rattle.model.specs.Image.{isImage, logCount, logIn}
+use Rattle.model.specs.Calls.{logMessageCode, logMessage}
+use Rattle.order.specs.TestLaws.{true-T}
+use Rattle.reading.specs.Parts.{logOffset, Part, partAnswer, logPart, Walkable}
+use Rattle.reading.specs.PartLaws.{log-count, message-range, part-is, length-is, part-inside}
+use Rattle.reading.specs.ReadCodes.{all-right, place-told}
+
+module _ (b : List ℕ) (place : ℕ) where
+  part-told : (n : ℕ) → n ≡ logMessageCode b place → partAnswer n b place ≡ logPart b place
+  unfolding logPart
+  part-told n e = ap (λ (k : ℕ). partAnswer k b place) e
+
+  pub part-wrong-size : false ≡ eqb (length b) imageSize → record { code = 1; offset = 0; size = 0 } ≡ logPart b place
+  part-wrong-size s = part-told 1 (place-told b s refl place refl)
+
+  pub part-no-image : true ≡ eqb (length b) imageSize → false ≡ isImage b → record { code = 2; offset = 0; size = 0 } ≡ logPart b place
+  part-no-image s i = part-told 2 (place-told b s i place refl)
+
+  pub part-no-place : true ≡ eqb (length b) imageSize → true ≡ isImage b → false ≡ not (leb (logCount b) place) → record { code = 12; offset = 0; size = 0 } ≡ logPart b place
+  part-no-place s i t = part-told 12 (place-told b s i place t)
+
+  -- a place of the log
+  module _ (s : true ≡ eqb (length b) imageSize) (i : true ≡ isImage b) (t : true ≡ not (leb (logCount b) place)) where
+    image : T (isImage b)
+    image = true-T (isImage b) (sym i)
+
+    below : place < logCount b
+    below = leb-false (logCount b) place (not-true (leb (logCount b) place) (sym t))
+
+    pub place-walkable : Walkable b place
+    place-walkable = record { sized = eqb-true (length b) imageSize (sym s); image = image; upto = omega (arith, below) }
+
+    here : place < length (logIn b)
+    here = omega (arith, below, log-count b)
+
+    -- the message lies inside, and so does its length field
+    pub place-inside : logOffset b place + headerSize ≤ length b
+    place-inside = omega (arith, part-inside b image place here, message-range b image place here)
+
+    pub part-at : {offset size : ℕ} → offset ≡ logOffset b place → size ≡ field b (offset + lengthAt) 2 → record { code = 0; offset = offset; size = size } ≡ logPart b place
+    part-at e f =
+        ap₂ (λ (o n : ℕ). record { code = 0; offset = o; size = n }) e (f ∙ ap (λ (o : ℕ). field b (o + lengthAt) 2) e ∙ length-is b image place here)
+        ∙ part-told 0 (place-told b s i place t)
+
+-- ---- the part is the message
+pub record IsPart (b : List ℕ) (place : ℕ) (p : Part) : Type 0 where
+  pub inside : p .offset + p .size ≤ length b
+  pub small : p .offset + p .size ≤ imageSize
+  pub bytes : take (p .size) (drop (p .offset) b) ≡ logMessage b place
+
+-- 0 is answered for a place of an image's log only
+accepted : (b : List ℕ) (place : ℕ) → logMessageCode b place ≡ 0 → (length b ≡ imageSize) × T (isImage b) × (place < length (logIn b))
+accepted b place e =
+    let r = all-right (eqb (length b) imageSize) (isImage b) (not (leb (logCount b) place)) (place-told b refl refl place refl ∙ e) in
+    (eqb→eq (length b) imageSize (r .0), r .1, omega (arith, log-count b, nleb→lt (logCount b) place (r .2)))
+
+pub is-part : (b : List ℕ) (place : ℕ) → IsPart b place (logPart b place)
+unfolding logPart logMessage
+is-part b place = go (logMessageCode b place) refl
+  where
+    go : (n : ℕ) → logMessageCode b place ≡ n → IsPart b place (partAnswer n b place)
+    go zero e =
+        let a = accepted b place e in
+        let inside = part-inside b (a .1) place (a .2) in
+        record {
+          inside = inside;
+          small = omega (arith, inside, a .0);
+          bytes = part-is b (a .1) place (a .2) ∙ ap (λ (n : ℕ). cond (eqb n 0) (getD (logIn b) place []) []) (sym e);
+        }
+    go (suc n) e =
+        let other : eqb (logMessageCode b place) 0 ≡ false = ne-eqb (logMessageCode b place) 0 (λ z. omega (arith, e)) in
+        record { inside = omega arith; small = omega arith; bytes = ap (λ (t : Bool). cond t (getD (logIn b) place []) []) (sym other) }
+
+-- a part without bytes: there is no message
+pub no-part : (b : List ℕ) (place : ℕ) {p : Part} → p ≡ logPart b place → p .size ≡ 0 → [] ≡ logMessage b place
+no-part b place {p} e z = ap (λ (n : ℕ). take n (drop (p .offset) b)) (sym z) ∙ subst (IsPart b place) (sym e) (is-part b place) .bytes
+
+pub part-code : (b : List ℕ) (place : ℕ) → logPart b place .code ≡ logMessageCode b place
+unfolding logPart
+part-code b place = go (logMessageCode b place)
+  where
+    go : (n : ℕ) → partAnswer n b place .code ≡ n
+    go zero = refl
+    go (suc n) = refl
