@@ -1,3 +1,4 @@
+pub mod Reading
 pub mod EmptyLaws
 pub mod Lines
 pub mod LinesLaws

@@ -2,19 +2,17 @@
 use mathlib.Core.Path.{_≡_, refl, sym, _∙_, ap, subst}
 use mathlib.Core.Bool.{Bool, true, false, cond}
 use mathlib.Core.List.{List, [], _∷_, _++_}
-use Prim.Native.Nat.{ℕ, zero, suc, _+_, _/_, _≤_, _<_}
+use Prim.Native.Nat.{ℕ, zero, suc, _+_, _≤_, _<_}
 use native.Mathlib.Omega.{arith}
-use lib.ListN.{length, take, drop, length-append, length-drop, length-take}
-use Rattle.model.specs.Layout.{lengthAt, inputLimit}
-use Rattle.model.specs.Image.{imageOf}
-use Rattle.model.specs.Calls.{emptyState, Delivered}
-use Rattle.model.specs.Program.{printedLine, lastLine, badCut, linesFrom, listing}
+use lib.ListN.{length, take, drop, length-append, length-drop}
+use Rattle.model.specs.Calls.{Delivered}
+use Rattle.model.specs.Program.{printedLine, lastLine, badCut, linesFrom}
 use Rattle.listing_lines.specs.Puts.{lineRoom}
 use Rattle.listing_lines.specs.LineSizes.{line-few, last-few}
 use Rattle.listing_message.specs.Cut.{sizeOf}
 use Rattle.listing_message.specs.CutLaws.{cut-size}
 use Rattle.listing_message.specs.Outcome.{answered, lineOf}
-use Rattle.listing.specs.Lines.{lines, roomFor, listingRoom}
+use Rattle.listing.specs.Lines.{lines, roomFor}
 
 -- ---- the next line, by whether the cut is wrong
 -- a message's delivery, and what is left behind it
@@ -110,10 +108,3 @@ from-few (suc most) n image (x ∷ rest) =
 pub lines-few : (n : ℕ) (image rest : List ℕ) → length (lines n image rest) ≤ roomFor (length rest)
 unfolding lines
 lines-few n image rest = from-few (length rest) n image rest
-
--- the program's buffer is enough
-pub listing-few : (input : List ℕ) → length (listing input) ≤ listingRoom
-unfolding listing
-listing-few input =
-    let read : List ℕ = take inputLimit input in
-    omega (arith, from-few (length read) 1 (imageOf emptyState) read, length-take inputLimit input)

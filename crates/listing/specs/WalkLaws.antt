@@ -4,14 +4,14 @@ use mathlib.Core.Bool.{true}
 use mathlib.Core.List.{List, _++_}
 use Prim.Native.Nat.{ℕ, suc, _+_, _-_, _≤_, _<_}
 use native.Mathlib.Omega.{arith}
-use lib.ListN.{length, take, drop, length-drop, drop-of-length-le}
-use lib.Seq.{paste, drop-drop, take-length, take-all}
+use lib.ListN.{length, take, drop, length-take, length-drop, drop-of-length-le}
+use lib.Seq.{drop-drop, take-length, take-all, take-append-seam}
 use Rattle.model.specs.Layout.{imageSize, inputLimit}
 use Rattle.model.specs.Image.{imageOf}
-use Rattle.model.specs.Calls.{Delivered, emptyState, empty, written}
+use Rattle.model.specs.Calls.{emptyState, written}
 use Rattle.model.specs.Program.{printedLine, lastLine, badCut, listing}
 use Rattle.listing_lines.specs.Puts.{Puts, lineRoom, lastRoom}
-use Rattle.listing_message.specs.Cut.{sizeOf, RightCut}
+use Rattle.listing_message.specs.Cut.{RightCut}
 use Rattle.listing_message.specs.Outcome.{answered, lineOf, Listed}
 use Rattle.listing.specs.Lines.{lines, roomFor, Lists}
 use Rattle.listing.specs.LinesLaws.{lines-end, lines-wrong, lines-next, lines-few}
@@ -94,3 +94,13 @@ lists {input} {read} {image} {entry} {exit} {k} {r} e f p = record {
 
     is : lines 1 image read ≡ listing input
     is = ap₂ (λ (b l : List ℕ). lines 1 b l) f e
+
+-- so the listing is what stands at the front of the buffer, and lies within it
+lists-front : {input entry exit : List ℕ} {r : ℕ} → Lists input entry r exit → take r exit ≡ listing input
+lists-front {input} {entry} {exit} {r} l =
+    ap₂ (λ (n : ℕ) (b : List ℕ). take n b) (l .size) (l .printed) ∙ take-append-seam (listing input) (drop (length (listing input)) entry)
+
+pub lists-counts : {input entry exit : List ℕ} {r : ℕ} → Lists input entry r exit → (r ≤ length exit) × (r ≡ length (take r exit))
+lists-counts {exit = exit} {r = r} l =
+    let counts : r ≡ length (take r exit) = l .size ∙ ap length (sym (lists-front l)) in
+    (omega (arith, length-take r exit), counts)

@@ -1,5 +1,31 @@
-// The listing program: reads messages end to end on standard input and prints a line for each, and a last line.
+// The listing program: reads messages end to end on standard input, and prints a line for each and a last line.
 mod limits;
+mod reading;
 mod walking;
 
-fn main() {}
+use crate::limits::INPUT_LIMIT;
+use crate::limits::LISTING_ROOM;
+use crate::reading::Input;
+use crate::reading::read_input;
+use crate::walking::list;
+use libc::STDOUT_FILENO;
+
+// Writes the listing of an input to standard output.
+fn print_listing(input: &[u8]) {
+    let mut out = [0u8; LISTING_ROOM];
+    let n = list(input, &mut out);
+    let is_written = io::write_all(STDOUT_FILENO, &out[..n]);
+    if !is_written {
+        os::fail(b"standard output");
+    }
+}
+
+fn main() {
+    let mut buf = [0u8; INPUT_LIMIT];
+    let input = read_input(&mut buf);
+    let Input::Bytes(n) = input else {
+        os::fail(b"standard input");
+        return;
+    };
+    print_listing(&buf[..n]);
+}

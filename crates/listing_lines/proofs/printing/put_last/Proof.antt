@@ -1,5 +1,4 @@
 -- The words with the counts behind them are the last line.
-use native.Mathlib.Omega.{arith}
 use Rattle.listing_lines.specs.PutsLaws.{last-puts}
 use borrow.Author.Needs.{needs}
 use Rattle.listing_lines.proofs.printing.put_last.Statement.{statement}

@@ -1,6 +1,5 @@
 -- Each test of the code is one of the definition's four.
 use native.Mathlib.Omega.{arith}
-use mathlib.Core.Path.{_∙_}
 use Rattle.listing_message.specs.CutLaws.{cut-no-length, cut-small, cut-large, cut-past, cut-right}
 use borrow.Author.Needs.{needs}
 use Rattle.listing_message.proofs.cutting.read_cut.Statement.{statement}
