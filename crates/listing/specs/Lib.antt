@@ -1,7 +1,1 @@
 pub mod Reading
-pub mod EmptyLaws
-pub mod Lines
-pub mod LinesLaws
-pub mod Ahead
-pub mod Walked
-pub mod WalkLaws

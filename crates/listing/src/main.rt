@@ -1,14 +1,12 @@
 // The listing program: reads messages end to end on standard input, and prints a line for each and a last line.
-mod limits;
 mod reading;
-mod walking;
 
-use crate::limits::INPUT_LIMIT;
-use crate::limits::LISTING_ROOM;
 use crate::reading::Input;
 use crate::reading::read_input;
-use crate::walking::list;
 use libc::STDOUT_FILENO;
+use listing_whole::limits::INPUT_LIMIT;
+use listing_whole::limits::LISTING_ROOM;
+use listing_whole::walking::list;
 
 // Writes the listing of an input to standard output.
 fn print_listing(input: &[u8]) {

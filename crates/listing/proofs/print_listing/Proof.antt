@@ -1,5 +1,5 @@
 -- The listing lies within the buffer.
-use Rattle.listing.specs.WalkLaws.{lists-counts}
+use Rattle.listing_whole.specs.WalkLaws.{lists-counts}
 use borrow.Author.Needs.{needs}
 use Rattle.listing.proofs.print_listing.Statement.{statement}
 use Rattle.listing.proofs.print_listing.Tie as tie

@@ -4,8 +4,8 @@ use native.Mathlib.Omega.{arith}
 use lib.Seq.{take-all, length-take-le}
 use Rattle.model.specs.Layout.{inputLimit}
 use borrow.Author.Needs.{needs}
-use Rattle.listing.proofs.walking.read_part.Statement.{statement}
-use Rattle.listing.proofs.walking.read_part.Tie as tie
+use Rattle.listing_whole.proofs.walking.read_part.Statement.{statement}
+use Rattle.listing_whole.proofs.walking.read_part.Tie as tie
 
 slice-aggregate-result : tie.Need-slice-aggregate-result
 slice-aggregate-result c = sym (length-take-le inputLimit (c .before .before .args .input .now) (omega arith))

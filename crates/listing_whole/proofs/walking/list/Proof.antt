@@ -3,10 +3,10 @@ use mathlib.Core.Path.{ap}
 use native.Mathlib.Omega.{arith}
 use lib.ListN.{length, length-take}
 use Rattle.model.specs.Layout.{inputLimit}
-use Rattle.listing.specs.WalkLaws.{lists}
+use Rattle.listing_whole.specs.WalkLaws.{lists}
 use borrow.Author.Needs.{needs}
-use Rattle.listing.proofs.walking.list.Statement.{statement}
-use Rattle.listing.proofs.walking.list.Tie as tie
+use Rattle.listing_whole.proofs.walking.list.Statement.{statement}
+use Rattle.listing_whole.proofs.walking.list.Tie as tie
 
 slice-aggregate-begin : tie.Need-slice-aggregate-begin
 slice-aggregate-begin c = search needs

@@ -17,7 +17,7 @@ ghost use Rattle.model.specs.Image.{imageOf};
 ghost use Rattle.model.specs.Calls.{emptyState};
 ghost use Rattle.model.specs.Program.{printedLine, lastLine};
 ghost use Rattle.listing_lines.specs.Puts.{Puts, lineRoom, lastRoom};
-ghost use Rattle.listing.specs.Lines.{lines, roomFor, Lists};
+ghost use Rattle.listing_whole.specs.Lines.{lines, roomFor, Lists};
 
 // Writes the line of a wrong cut and the last line.
 fn put_wrong_cut(out: &mut [u8], at: usize, number: usize, image: &[u8]) -> usize

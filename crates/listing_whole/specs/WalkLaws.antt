@@ -13,10 +13,10 @@ use Rattle.model.specs.Program.{printedLine, lastLine, badCut, listing}
 use Rattle.listing_lines.specs.Puts.{Puts, lineRoom, lastRoom}
 use Rattle.listing_message.specs.Cut.{RightCut}
 use Rattle.listing_message.specs.Outcome.{answered, lineOf, Listed}
-use Rattle.listing.specs.Lines.{lines, roomFor, Lists}
-use Rattle.listing.specs.LinesLaws.{lines-end, lines-wrong, lines-next, lines-few}
-use Rattle.listing.specs.Ahead.{Ahead, ahead-next, ahead-done}
-use Rattle.listing.specs.Walked.{Walked}
+use Rattle.listing_whole.specs.Lines.{lines, roomFor, Lists}
+use Rattle.listing_whole.specs.LinesLaws.{lines-end, lines-wrong, lines-next, lines-few}
+use Rattle.listing_whole.specs.Ahead.{Ahead, ahead-next, ahead-done}
+use Rattle.listing_whole.specs.Walked.{Walked}
 
 -- the lines from a message on, in the code's terms
 line-and-rest : (input image : List ℕ) (number from size : ℕ) → from < length input → RightCut (drop from input) size

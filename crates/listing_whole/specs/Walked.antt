@@ -4,8 +4,8 @@ use mathlib.Core.List.{List}
 use Prim.Native.Nat.{ℕ, _+_, _-_, _≤_}
 use lib.ListN.{length, drop}
 use Rattle.model.specs.Layout.{imageSize}
-use Rattle.listing.specs.Lines.{lines, roomFor}
-use Rattle.listing.specs.Ahead.{Ahead}
+use Rattle.listing_whole.specs.Lines.{lines, roomFor}
+use Rattle.listing_whole.specs.Ahead.{Ahead}
 
 -- The messages before `from` are delivered and their lines stand before `at`: with the lines of the rest, that is all.
 pub record Walked (input begun entry : List ℕ) (image out : List ℕ) (number from at : ℕ) : Type 0 where

@@ -12,7 +12,7 @@ use Rattle.listing_lines.specs.LineSizes.{line-few, last-few}
 use Rattle.listing_message.specs.Cut.{sizeOf}
 use Rattle.listing_message.specs.CutLaws.{cut-size}
 use Rattle.listing_message.specs.Outcome.{answered, lineOf}
-use Rattle.listing.specs.Lines.{lines, roomFor}
+use Rattle.listing_whole.specs.Lines.{lines, roomFor}
 
 -- ---- the next line, by whether the cut is wrong
 -- a message's delivery, and what is left behind it

@@ -1,8 +1,8 @@
 -- A buffer of an image's size is emptied.
-use Rattle.listing.specs.EmptyLaws.{emptied}
+use Rattle.listing_whole.specs.EmptyLaws.{emptied}
 use borrow.Author.Needs.{needs}
-use Rattle.listing.proofs.walking.begin.Statement.{statement}
-use Rattle.listing.proofs.walking.begin.Tie as tie
+use Rattle.listing_whole.proofs.walking.begin.Statement.{statement}
+use Rattle.listing_whole.proofs.walking.begin.Tie as tie
 
 empty-requires : tie.Need-empty-requires
 empty-requires c κs = search needs
