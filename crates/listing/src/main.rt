@@ -2,6 +2,7 @@
 mod reading;
 
 use crate::reading::Input;
+use crate::reading::drop_rest;
 use crate::reading::read_input;
 use libc::STDOUT_FILENO;
 use listing_whole::limits::INPUT_LIMIT;
@@ -26,4 +27,7 @@ fn main() {
         return;
     };
     print_listing(&buf[..n]);
+    if n == INPUT_LIMIT {
+        drop_rest();
+    }
 }

@@ -57,3 +57,22 @@ pub fn read_input(buf: &mut [u8]) -> Input
     }
     Input::Bytes(at)
 }
+
+// Reads once, drops what came, and answers whether to go on.
+fn drop_piece() -> bool {
+    let mut buf = io::buffer();
+    let piece = read_piece(&mut buf, 0);
+    match piece {
+        Piece::Bytes(_) => true,
+        Piece::End => false,
+        Piece::Failed => false,
+    }
+}
+
+// Reads what lies beyond the buffer and drops it, so that its writer can end.
+pub fn drop_rest() {
+    let mut tries = u64::MAX;
+    while tries > 0 && drop_piece() {
+        tries -= 1;
+    }
+}

@@ -43,8 +43,14 @@ slice-aggregate-print-listing c = sym (length-take-le _ _ (fits (c .before .befo
 print-listing-requires : tie.Need-print-listing-requires
 print-listing-requires c κs = search needs
 
+drop-rest-requires : tie.Need-drop-rest-requires
+drop-rest-requires c κs = search needs
+
 returns-2 : tie.Need-returns-2
 returns-2 c = search needs
+
+returns-3 : tie.Need-returns-3
+returns-3 c = search needs
 
 pub main-spec : {M : Type 1} → statement M
 main-spec =
@@ -60,4 +66,6 @@ main-spec =
     array-share-prefix-buf
     slice-aggregate-print-listing
     print-listing-requires
-    returns-2)
+    drop-rest-requires
+    returns-2
+    returns-3)
