@@ -1,0 +1,16 @@
+-- What is read fits the buffer.
+use Prim.Native.Nat.{ℕ, _+_, _≤_}
+use Rattle.listing.specs.declared.reading.Piece.{Piece}
+use Rattle.listing.specs.declared.reading.Piece.the-variants as piece
+use Rattle.listing.specs.declared.reading.Input.{Input}
+use Rattle.listing.specs.declared.reading.Input.the-variants as input
+
+-- a piece behind `at` bytes, in a buffer of `size`
+abbrev pub PieceFits : ℕ → ℕ → Piece → Type 0
+PieceFits at size (piece.Bytes n) = at + n ≤ size
+PieceFits at size piece.End = Unit {0}
+PieceFits at size piece.Failed = Unit {0}
+
+abbrev pub InputFits : ℕ → Input → Type 0
+InputFits size (input.Bytes n) = n ≤ size
+InputFits size input.Failed = Unit {0}

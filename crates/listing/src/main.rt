@@ -1,0 +1,33 @@
+// The listing program: reads messages end to end on standard input, and prints a line for each and a last line.
+mod reading;
+
+use crate::reading::Input;
+use crate::reading::drop_rest;
+use crate::reading::read_input;
+use libc::STDOUT_FILENO;
+use listing_whole::limits::INPUT_LIMIT;
+use listing_whole::limits::LISTING_ROOM;
+use listing_whole::walking::list;
+
+// Writes the listing of an input to standard output.
+fn print_listing(input: &[u8]) {
+    let mut out = [0u8; LISTING_ROOM];
+    let n = list(input, &mut out);
+    let is_written = io::write_all(STDOUT_FILENO, &out[..n]);
+    if !is_written {
+        os::fail(b"standard output");
+    }
+}
+
+fn main() {
+    let mut buf = [0u8; INPUT_LIMIT];
+    let input = read_input(&mut buf);
+    let Input::Bytes(n) = input else {
+        os::fail(b"standard input");
+        return;
+    };
+    print_listing(&buf[..n]);
+    if n == INPUT_LIMIT {
+        drop_rest();
+    }
+}

@@ -1,0 +1,115 @@
+-- Each answer has its own number, and a refusal has no counts.
+use mathlib.Core.Path.{refl}
+use Rattle.listing_message.specs.OutcomeLaws.{tells}
+use borrow.Author.Needs.{needs}
+use Rattle.listing_message.proofs.delivering.outcome_of.Statement.{statement}
+use Rattle.listing_message.proofs.delivering.outcome_of.Tie as tie
+
+enum-known-d : tie.Need-enum-known-d
+enum-known-d c = search needs
+
+enum-told : tie.Need-enum-told
+enum-told c = search needs
+
+refused-requires : tie.Need-refused-requires
+refused-requires c κs = search needs
+
+enum-told-2 : tie.Need-enum-told-2
+enum-told-2 c = search needs
+
+refused-requires-2 : tie.Need-refused-requires-2
+refused-requires-2 c κs = search needs
+
+enum-told-3 : tie.Need-enum-told-3
+enum-told-3 c = search needs
+
+refused-requires-3 : tie.Need-refused-requires-3
+refused-requires-3 c κs = search needs
+
+enum-told-4 : tie.Need-enum-told-4
+enum-told-4 c = search needs
+
+refused-requires-4 : tie.Need-refused-requires-4
+refused-requires-4 c κs = search needs
+
+enum-told-5 : tie.Need-enum-told-5
+enum-told-5 c = search needs
+
+refused-requires-5 : tie.Need-refused-requires-5
+refused-requires-5 c κs = search needs
+
+enum-told-6 : tie.Need-enum-told-6
+enum-told-6 c = search needs
+
+refused-requires-6 : tie.Need-refused-requires-6
+refused-requires-6 c κs = search needs
+
+enum-told-7 : tie.Need-enum-told-7
+enum-told-7 c = search needs
+
+refused-requires-7 : tie.Need-refused-requires-7
+refused-requires-7 c κs = search needs
+
+enum-told-8 : tie.Need-enum-told-8
+enum-told-8 c = search needs
+
+refused-requires-8 : tie.Need-refused-requires-8
+refused-requires-8 c κs = search needs
+
+returns : tie.Need-returns
+returns c = tells (c .before .d .given .1) refl (λ image steps. refl)
+
+returns-2 : tie.Need-returns-2
+returns-2 c = tells (c .before .enum-told .given .1) (c .refused .ensures) (λ image steps. refl)
+
+returns-3 : tie.Need-returns-3
+returns-3 c = tells (c .before .enum-told2 .given .1) (c .refused2 .ensures) (λ image steps. refl)
+
+returns-4 : tie.Need-returns-4
+returns-4 c = tells (c .before .enum-told3 .given .1) (c .refused3 .ensures) (λ image steps. refl)
+
+returns-5 : tie.Need-returns-5
+returns-5 c = tells (c .before .enum-told4 .given .1) (c .refused4 .ensures) (λ image steps. refl)
+
+returns-6 : tie.Need-returns-6
+returns-6 c = tells (c .before .enum-told5 .given .1) (c .refused5 .ensures) (λ image steps. refl)
+
+returns-7 : tie.Need-returns-7
+returns-7 c = tells (c .before .enum-told6 .given .1) (c .refused6 .ensures) (λ image steps. refl)
+
+returns-8 : tie.Need-returns-8
+returns-8 c = tells (c .before .enum-told7 .given .1) (c .refused7 .ensures) (λ image steps. refl)
+
+returns-9 : tie.Need-returns-9
+returns-9 c = tells (c .before .enum-told8 .given .1) (c .refused8 .ensures) (λ image steps. refl)
+
+pub outcome-of-spec : {M : Type 1} → statement M
+outcome-of-spec =
+    tie.close
+    (tie.spec
+    enum-known-d
+    enum-told
+    refused-requires
+    enum-told-2
+    refused-requires-2
+    enum-told-3
+    refused-requires-3
+    enum-told-4
+    refused-requires-4
+    enum-told-5
+    refused-requires-5
+    enum-told-6
+    refused-requires-6
+    enum-told-7
+    refused-requires-7
+    enum-told-8
+    refused-requires-8
+    returns
+    returns-2
+    returns-3
+    returns-4
+    returns-5
+    returns-6
+    returns-7
+    returns-8
+    returns-9)

@@ -1,0 +1,36 @@
+-- What a message's delivery answers, and its line.
+use mathlib.Core.Path.{_≡_}
+use mathlib.Core.List.{List}
+use Prim.Native.Nat.{ℕ}
+use Rattle.model.specs.Calls.{Delivered, deliver}
+use Rattle.model.specs.Program.{printedLine, stepBuffer}
+use Rattle.listing_lines.specs.Puts.{lineRoom, Puts}
+use Rattle.deliver.specs.declared.answer.Delivery.{Delivery}
+use Rattle.deliver.specs.Answer.{deliveredBy}
+use Rattle.listing_message.specs.declared.delivering.Outcome.{Outcome}
+
+-- The answer with an outcome's code and counts.
+abbrev pub deliveredAs : Outcome → List ℕ → List ℕ → Delivered
+deliveredAs r image steps = record { code = r .code; undos = r .undos; executions = r .executions; image = image; steps = steps }
+
+-- An outcome tells an answer's code and counts.
+abbrev pub Tells : Delivery → Outcome → Type 0
+Tells d r = (image steps : List ℕ) → deliveredBy d image steps ≡ deliveredAs r image steps
+
+-- A delivery of the listing program, under a name that stays shut.
+unfoldable pub answered : List ℕ → List ℕ → Delivered
+answered image message = deliver image message stepBuffer
+
+pub record Answers (image message : List ℕ) (r : Outcome) (exit : List ℕ) : Type 0 where
+  pub code : r .code ≡ answered image message .code
+  pub undos : r .undos ≡ answered image message .undos
+  pub executions : r .executions ≡ answered image message .executions
+  pub image-after : exit ≡ answered image message .image
+
+-- The line of an answer.
+unfoldable pub lineOf : ℕ → Delivered → List ℕ
+lineOf number a = printedLine number (a .code) (a .undos) (a .executions)
+
+pub record Listed (image message out : List ℕ) (at number r : ℕ) (image-exit out-exit : List ℕ) : Type 0 where
+  pub line : Puts out at lineRoom (lineOf number (answered image message)) r out-exit
+  pub image-after : image-exit ≡ answered image message .image

@@ -1,0 +1,24 @@
+-- The last line stands behind the line of the wrong cut.
+use native.Mathlib.Omega.{arith}
+use Rattle.listing_lines.specs.PutsLaws.{puts-puts}
+use borrow.Author.Needs.{needs}
+use Rattle.listing_whole.proofs.walking.put_wrong_cut.Statement.{statement}
+use Rattle.listing_whole.proofs.walking.put_wrong_cut.Tie as tie
+
+put-line-requires : tie.Need-put-line-requires
+put-line-requires c κs = search needs
+
+put-last-requires : tie.Need-put-last-requires
+put-last-requires c κs = search needs
+
+same-length : tie.Need-same-length
+same-length c = search needs
+
+returns : tie.Need-returns
+returns c =
+    let last = c .before .before in
+    let line = last .before .before .before .before in
+    puts-puts (omega arith) (line .put-line .ensures) (last .put-last .ensures)
+
+pub put-wrong-cut-spec : {M : Type 1} → statement M
+put-wrong-cut-spec = tie.close (tie.spec put-line-requires put-last-requires same-length returns)

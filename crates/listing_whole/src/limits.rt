@@ -1,0 +1,10 @@
+// How much the program reads, and how much it prints at most.
+use listing_lines::limits::LAST_ROOM;
+use listing_lines::limits::LINE_ROOM;
+use listing_message::limits::SHORTEST_CUT;
+
+// any bytes beyond are dropped
+pub const INPUT_LIMIT: usize = 60000;
+
+// a line for each shortest cut, one for a wrong cut, and the last line
+pub const LISTING_ROOM: usize = (INPUT_LIMIT / SHORTEST_CUT + 1) * LINE_ROOM + LAST_ROOM;
