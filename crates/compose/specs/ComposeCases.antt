@@ -13,6 +13,7 @@ use Rattle.model.specs.Codes.{lowestCode, wrongSize, commandsSized, composeCont
 use Rattle.model.specs.Calls.{Composed, composeAnswer, composeCode, compose}
 use Rattle.order.specs.TestLaws.{is-true}
 use Rattle.compose.specs.Answer.{refusal}
+use Rattle.compose.specs.Checks.{sizesRight}
 use Rattle.compose.specs.Stages.{lateConditions, lateAnswer}
 
 module _ (b line commands : List ℕ) (flag priority : ℕ) (buffer : List ℕ) where
@@ -33,40 +34,23 @@ module _ (b line commands : List ℕ) (flag priority : ℕ) (buffer : List ℕ) 
       ∙ ap₂ (λ (x y : Bool). answer (cond w 1 (cond (not i) 2 (cond (not x) 3 (cond (not y) 6 late))))) r t
 
   -- ---- 1
-  size-wrong : wrong ≡ true → refusal 1 buffer ≡ compose b line commands flag priority buffer
-  size-wrong e = sym (by-tests e refl refl refl)
-
-  pub size-case : false ≡ eqb (length b) imageSize → refusal 1 buffer ≡ compose b line commands flag priority buffer
-  size-case e = size-wrong (ap (λ (t : Bool). not t || ltb (length buffer) messageRoom || not (isBytes line && eqb (length line) lineSize)) (sym e))
-
-  pub room-case : true ≡ eqb (length b) imageSize → false ≡ not (ltb (length buffer) messageRoom) → refusal 1 buffer ≡ compose b line commands flag priority buffer
-  room-case e f = size-wrong (ap₂ (λ (t u : Bool). not t || u || not (isBytes line && eqb (length line) lineSize)) (sym e) (small (ltb (length buffer) messageRoom) f))
-    where
-      small : (t : Bool) → false ≡ not t → t ≡ true
-      small true q = refl
-      small false q = q
-
-  module _ (sized : true ≡ eqb (length b) imageSize) (roomy : true ≡ not (ltb (length buffer) messageRoom)) where
-    enough : ltb (length buffer) messageRoom ≡ false
-    enough = go (ltb (length buffer) messageRoom) roomy
+  module _ (bytes : T (isBytes line)) where
+    wrong-is : wrong ≡ not (sizesRight (length b) (length buffer) (length line))
+    wrong-is =
+        ap (λ (t : Bool). wrongSize b || ltb (length buffer) messageRoom || not (t && eqb (length line) lineSize)) (is-true (isBytes line) bytes)
+        ∙ go (eqb (length b) imageSize) (ltb (length buffer) messageRoom) (eqb (length line) lineSize)
       where
-        go : (t : Bool) → true ≡ not t → t ≡ false
-        go true q = q
-        go false q = refl
+        go : (i r l : Bool) → not i || r || not l ≡ not (i && not r && l)
+        go true true l = refl
+        go true false l = refl
+        go false r l = refl
 
-    by-line : {t : Bool} → isBytes line && eqb (length line) lineSize ≡ t → wrong ≡ not t
-    by-line {t} e = ap₂ (λ (x y : Bool). not x || y || not (isBytes line && eqb (length line) lineSize)) (sym sized) enough ∙ ap not e
+    pub sizes-case : false ≡ sizesRight (length b) (length buffer) (length line) → refusal 1 buffer ≡ compose b line commands flag priority buffer
+    sizes-case e = sym (by-tests (wrong-is ∙ ap not (sym e)) refl refl refl)
 
-    pub line-case : false ≡ eqb (length line) lineSize → refusal 1 buffer ≡ compose b line commands flag priority buffer
-    line-case e = size-wrong (by-line (ap (λ (t : Bool). isBytes line && t) (sym e) ∙ none (isBytes line)))
-      where
-        none : (t : Bool) → t && false ≡ false
-        none true = refl
-        none false = refl
-
-    module _ (bytes : T (isBytes line)) (ten : true ≡ eqb (length line) lineSize) where
+    module _ (sizes : true ≡ sizesRight (length b) (length buffer) (length line)) where
       right : wrong ≡ false
-      right = by-line (ap₂ _&&_ (is-true (isBytes line) bytes) (sym ten))
+      right = wrong-is ∙ ap not (sym sizes)
 
       -- ---- 2, 3 and 6
       pub image-case : isImage b ≡ false → refusal 2 buffer ≡ compose b line commands flag priority buffer

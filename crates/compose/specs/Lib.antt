@@ -1,6 +1,6 @@
 pub mod Answer
-pub mod Content
-pub mod ContentLaws
+pub mod Checks
+pub mod CheckLaws
 pub mod Stages
 pub mod StageLaws
 pub mod ComposeCases

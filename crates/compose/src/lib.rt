@@ -1,10 +1,11 @@
 // Compose: a station writes a new message.
 pub mod answer;
-pub mod content;
+pub mod checks;
 pub mod drafted;
 
 use crate::answer::Composition;
-use crate::content::check_content;
+use crate::checks::check_content;
+use crate::checks::check_sizes;
 use crate::drafted::write_draft;
 use commands::commands_sized;
 use composing::drafting::Drafting;
@@ -14,9 +15,6 @@ use composing::line::read_line;
 use judged::judging::Station;
 use judged::judging::read_station;
 use message::checks::Check;
-use sizes::check_image_size;
-use sizes::check_line_size;
-use sizes::check_message_room;
 ghost use mathlib.Core.Path.{_≡_};
 ghost use Rattle.model.specs.Bytes.{number};
 ghost use Rattle.model.specs.Image.{stateIn};
@@ -92,16 +90,8 @@ pub fn compose(
 ) -> Composition
     ensures { λ r. ⌜ composedBy r (now (message .exit)) ≡ model.compose (now (image .entry)) (now (line .entry)) (now (commands .entry)) flag priority (now (message .entry)) ⌝ }
 {
-    let size = check_image_size(image.len());
-    let Check::Right = size else {
-        return Composition::WrongSize;
-    };
-    let room = check_message_room(message.len());
-    let Check::Right = room else {
-        return Composition::WrongSize;
-    };
-    let ten = check_line_size(line.len());
-    let Check::Right = ten else {
+    let sizes = check_sizes(image.len(), message.len(), line.len());
+    let Check::Right = sizes else {
         return Composition::WrongSize;
     };
     let station = read_station(image);

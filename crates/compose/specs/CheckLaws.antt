@@ -1,16 +1,30 @@
--- What decides flag and priority, and the two halves of code 6.
+-- What decides the sizes, flag and priority; the two halves of code 6.
 use mathlib.Core.Path.{_≡_, refl, sym, _∙_, ap₂}
 use mathlib.Core.Bool.{Bool, true, false, _&&_, _||_}
 use mathlib.Core.List.{List}
 use Prim.Native.Nat.{ℕ, _≤_, _<_}
-use lib.Dec.{T, eqb, leb}
+use lib.Dec.{T, eqb, leb, eqb→eq, nltb→le}
 use borrow.Author.Tests.{le-leb, lt-leb, eq-eqb, ne-eqb}
-use Rattle.model.specs.Layout.{fieldLimit}
+use Rattle.model.specs.Layout.{imageSize, messageRoom, lineSize, fieldLimit}
 use Rattle.model.specs.Codes.{composeContent}
 use Rattle.order.specs.TestLaws.{and-l, and-r}
 use Rattle.commands.specs.CommandTests.{commandsRight}
-use Rattle.compose.specs.Content.{givenRight}
+use Rattle.compose.specs.Checks.{sizesRight, givenRight}
 
+-- ---- the sizes, as facts
+pub record Sizes (image room line : ℕ) : Type 0 where
+  pub image-size : image ≡ imageSize
+  pub room-size : messageRoom ≤ room
+  pub line-size : line ≡ lineSize
+
+pub sizes-out : (image room line : ℕ) → T (sizesRight image room line) → Sizes image room line
+sizes-out image room line t = record {
+  image-size = eqb→eq image imageSize (search (and-l, and-r) depth 4);
+  room-size = nltb→le room messageRoom (search (and-l, and-r) depth 4);
+  line-size = eqb→eq line lineSize (search (and-l, and-r) depth 4);
+}
+
+-- ---- flag and priority
 module _ (flag priority : ℕ) where
   by-tests : {a b c d : Bool} → leb flag 1 ≡ a → leb priority fieldLimit ≡ b → eqb flag 1 ≡ c → eqb priority 0 ≡ d → givenRight flag priority ≡ a && b && (c || d)
   unfolding givenRight
