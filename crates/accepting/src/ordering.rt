@@ -2,8 +2,8 @@
 use image::write_image;
 use layout::CAPACITY;
 use log::listing::order;
-use log::preparing::prepare;
 use log_order::LogOrder;
+use prepared::prepare;
 use steps::write_steps;
 use table::Table;
 ghost use mathlib.Core.Path.{_≡_};

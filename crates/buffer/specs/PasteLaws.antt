@@ -1,10 +1,10 @@
--- Copies into a list: two neighbouring ones are one.
+-- Copies into a list: two neighbouring ones are one; and what parts of it are then.
 use mathlib.Core.Path.{_≡_, sym, _∙_, ap, ap₂}
 use mathlib.Core.List.{List, _++_, append-assoc}
 use Prim.Native.Nat.{ℕ, _+_, _/_, _^_, _≤_}
 use native.Mathlib.Omega.{arith}
-use lib.ListN.{length, take, drop}
-use lib.Seq.{paste, take-paste, drop-paste, drop-drop, take-append-add, take-all}
+use lib.ListN.{length, take, drop, length-drop, take-append-drop}
+use lib.Seq.{paste, take-paste, drop-paste, drop-drop, take-append-add, take-all, length-take-le, take-append-le, drop-append-le, take-at, drop-at}
 use Rattle.model.specs.Bytes.{bytes}
 use Rattle.wire_laws.specs.BytesLaws.{length-bytes}
 use Rattle.buffer.specs.FieldLaws.{bytes-split}
@@ -32,3 +32,21 @@ pub paste-halves : (d : List ℕ) (at n k v : ℕ) → at + n ≤ length d
 paste-halves d at n k v h =
     paste-paste d at (bytes n (v / 256 ^ k)) (bytes k v) n k h (length-bytes n (v / 256 ^ k))
     ∙ ap (λ (b : List ℕ). paste d at b (n + k)) (sym (bytes-split n k v))
+
+-- ---- parts of a list into which another is pasted
+part-of-first : (xs ys : List ℕ) (j n : ℕ) → j + n ≤ length xs → take n (drop j (xs ++ ys)) ≡ take n (drop j xs)
+part-of-first xs ys j n h = ap (take n) (drop-append-le j xs ys (omega arith)) ∙ take-append-le n (drop j xs) ys (omega (arith, length-drop j xs))
+
+pub part-before : (d : List ℕ) (at : ℕ) (s : List ℕ) (m j n : ℕ) → at ≤ length d → j + n ≤ at → take n (drop j (paste d at s m)) ≡ take n (drop j d)
+part-before d at s m j n h k =
+    let inside : j + n ≤ length (take at d) = omega (arith, length-take-le at d h) in
+    ap (λ (l : List ℕ). take n (drop j l)) (append-assoc (take at d) (take m s) (drop (at + m) d))
+    ∙ part-of-first (take at d) (take m s ++ drop (at + m) d) j n inside ∙ sym (part-of-first (take at d) (drop at d) j n inside)
+    ∙ ap (λ (l : List ℕ). take n (drop j l)) (take-append-drop at d)
+
+pub part-here : (d : List ℕ) (at : ℕ) (s : List ℕ) (n : ℕ) → at ≤ length d → n ≡ length s → take n (drop at (paste d at s n)) ≡ s
+part-here d at s n h e =
+    let behind : List ℕ = drop (at + n) d in
+    ap (λ (l : List ℕ). take n (drop at l)) (append-assoc (take at d) (take n s) behind)
+    ∙ ap (take n) (drop-at (take at d) (take n s ++ behind) at (length-take-le at d h))
+    ∙ take-at (take n s) behind n (length-take-le n s (omega arith)) ∙ take-all n s (omega arith)

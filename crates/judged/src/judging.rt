@@ -6,9 +6,9 @@ use image::write_image;
 use layout::CAPACITY;
 use layout::IMAGE_SIZE;
 use layout::LOG_COUNT_AT;
-use log::checking::check_log;
-use log::preparing::prepare;
+use log_check::check_log;
 use message::checks::Check;
+use prepared::prepare;
 use table::Table;
 use table::reading::read_table;
 ghost use mathlib.Core.Path.{_≡_};
@@ -17,7 +17,7 @@ ghost use Rattle.model.specs.Layout.{imageSize};
 ghost use Rattle.model.specs.Image.{imageOf};
 ghost use Rattle.table.specs.Table.{startsOf, setIn};
 ghost use Rattle.table.specs.Reading.{IsTable};
-ghost use Rattle.log.specs.Checking.{ChecksLog};
+ghost use Rattle.log_check.specs.Checking.{ChecksLog};
 ghost use Rattle.judged.specs.Judging.{ListsLog, Rewritable, placesIn, Judges};
 
 // A judged buffer: whether it is an image, where its messages lie, and the places of its log.

@@ -1,10 +1,6 @@
-pub mod Keys
-pub mod KeyMaking
+pub mod Sorted
+pub mod SortedLaws
 pub mod Next
 pub mod NextLaws
 pub mod Ordered
 pub mod OrderLaws
-pub mod Above
-pub mod Waiting
-pub mod Checking
-pub mod CheckingLaws

@@ -1,124 +1,123 @@
--- One delta more is looked at: the pick stays right.
+-- The first by key that is ready is the one that comes next.
 use mathlib.Core.Path.{_≡_, refl, sym, _∙_, ap, ap₂, subst}
-use mathlib.Core.Bool.{Bool, true, false, cond}
-use mathlib.Core.Option.{some}
-use mathlib.Core.List.{List, [], _∷_}
-use Prim.Native.Nat.{ℕ, suc, _-_, _≤_, _<_}
+use mathlib.Core.Logic.{⊎-elim}
+use mathlib.Core.Bool.{true, false, not}
+use mathlib.Core.Option.{Option, some, none}
+use mathlib.Core.List.{List, []}
+use Prim.Native.Nat.{ℕ, _+_, _≤_, _<_}
 use native.Mathlib.Omega.{arith}
-use lib.ListN.{length, getD, drop, drop-of-length-le}
-use lib.Seq.{drop-cons}
-use lib.Dec.{T}
-use Rattle.model.specs.Lists.{keep}
+use lib.ListN.{length, getD, set}
+use lib.Seq.{getD-set-same, getD-set-other}
+use lib.Dec.{T, eqb, ltb, eqb→eq, ltb→lt, nltb→le}
+use Rattle.model.specs.Lists.{_∈_, keep}
 use Rattle.model.specs.Message.{Message, sequenceOf}
 use Rattle.model.specs.Listing as L
-use Rattle.model.specs.Order.{State, needs, placedBy, ready, keyOf, less}
-use Rattle.order.specs.ListLaws.{getD-∈}
-use Rattle.order.specs.ListingLaws.{ready-executable}
-use Rattle.key.specs.declared.Key.{Key}
-use Rattle.key.specs.Key.{keyNumbers, noKey}
+use Rattle.model.specs.Order.{State, RightSet, Executable, needs, placedBy, ready, keyOf, less}
+use Rattle.order.specs.ListLaws.{getD-∈, ∈-getD}
+use Rattle.order.specs.TestLaws.{decide, is-true, not-eqb}
+use Rattle.order.specs.KeyOrder.{less-total}
+use Rattle.order.specs.ListingLaws.{ready-executable, Stuck, Next?, next-is, not-self}
+use Rattle.laws.specs.LogLaws.{keys-differ}
+use Rattle.key.specs.Key.{keyIn}
 use Rattle.needs.specs.Rows.{RowsRight}
-use Rattle.closure.specs.Ready.{readyIn, Placing}
-use Rattle.closure.specs.ReadyLaws.{ready-is}
-use Rattle.log.specs.declared.candidate.Next.{Next}
-use Rattle.log.specs.declared.candidate.Next.the-variants.{At, Nothing}
-use Rattle.log.specs.Keys.{KeysRight}
-use Rattle.log.specs.Next.{deltaOf, candidateIn, lowerOf, Settled, Picks, Looked, NextRight}
+use Rattle.closure.specs.Ready.{isPlaced, readyIn, Placing}
+use Rattle.closure.specs.ReadyLaws.{ready-is, ready-marked}
+use Rattle.prepared.specs.Keys.{KeysRight}
+use Rattle.log.specs.declared.next.Next.{Next}
+use Rattle.log.specs.declared.next.Next.the-variants.{At, Nothing}
+use Rattle.log.specs.Sorted.{Sorted}
+use Rattle.log.specs.Next.{Skips, FirstReady, Picks, NextRight}
 
--- ---- the delta at an index, ready or not
-pub candidate-none : (rows counts placed : List ℕ) (i : ℕ) (key : Key) → readyIn rows counts placed i ≡ false → candidateIn rows counts placed i key ≡ Nothing
-unfolding candidateIn
-candidate-none rows counts placed i key e = ap (λ (t : Bool). cond t (At i key) Nothing) e
+-- what holds of all from a place on below k, and of k, holds below k + 1
+pub one-more : (P : ℕ → Type 0) (from k : ℕ) → ((a : ℕ) → from ≤ a → a < k → P a) → P k → (a : ℕ) → from ≤ a → a < k + 1 → P a
+one-more P from k below here a h q = ⊎-elim (λ e. subst P (sym (eqb→eq a k e)) here) (λ e. let d : a ≡ k → ⊥ = not-eqb a k e in below a h (omega arith)) (decide (eqb a k))
 
-pub candidate-at : (rows counts placed : List ℕ) (i : ℕ) (key : Key) → readyIn rows counts placed i ≡ true → candidateIn rows counts placed i key ≡ At i key
-unfolding candidateIn
-candidate-at rows counts placed i key e = ap (λ (t : Bool). cond t (At i key) Nothing) e
+-- what is passed stays so
+pub skips-on : (sorted placed : List ℕ) (a b : ℕ) → Skips sorted placed 0 a → Skips sorted placed a b → Skips sorted placed 0 b
+skips-on sorted placed a b p r q h k = ⊎-elim (λ t. p q h (ltb→lt q a t)) (λ t. r q (nltb→le q a t) k) (decide (ltb q a))
 
--- ---- of none, nothing
-picks-none : (S : State) (done : List ℕ) (k : ℕ) → length (S .deltas) ≤ k → Picks S done (drop k (S .deltas)) Nothing
-picks-none S done k h = record {
-  lowest = ap (λ (l : List Message). L.lowestOf (keyOf S) less (keep (ready S done) l)) (sym (drop-of-length-le (S .deltas) h));
-  settled = tt;
-}
+pub skips-marked : (sorted placed : List ℕ) (first i : ℕ) → i < length placed → Skips sorted placed 0 first → Skips sorted (set placed i 1) 0 first
+skips-marked sorted placed first i inside p q h k = ⊎-elim
+    (λ t. ap (λ (x : ℕ). isPlaced (set placed i 1) x) (eqb→eq (getD sorted q 0) i t) ∙ ap (λ (x : ℕ). not (eqb x 0)) (getD-set-same placed i 1 0 inside))
+    (λ t. ap (λ (x : ℕ). not (eqb x 0)) (getD-set-other placed i (getD sorted q 0) 1 0 (not-eqb (getD sorted q 0) i t)) ∙ p q h k)
+    (decide (eqb (getD sorted q 0) i))
 
--- ---- of one more
-module _ (S : State) where
-  delta-either : (t : Bool) (a b : Next) → deltaOf (S .deltas) (cond t a b) ≡ cond t (deltaOf (S .deltas) a) (deltaOf (S .deltas) b)
-  delta-either true a b = refl
-  delta-either false a b = refl
+module _ (S : State) (right : RightSet (S .deltas)) (rows counts keys sorted placed : List ℕ) (rr : RowsRight S rows counts) (kr : KeysRight S keys)
+    (all : length sorted ≡ length (S .deltas)) (by-key : Sorted keys sorted (length (S .deltas)))
+    (from : ℕ) (passed : Skips sorted placed 0 from) where
+  -- what is ready stands at a place that is not passed
+  module _ (l : List Message) (p : Placing S placed l) where
+    ready-at : (i : ℕ) → i < length (S .deltas) → T (ready S (placedBy l) (getD (S .deltas) i [])) → readyIn rows counts placed i ≡ true
+    ready-at i h t = ready-is S placed l p rows counts rr i h ∙ is-true (ready S (placedBy l) (getD (S .deltas) i [])) t
 
-  settled-either : (t : Bool) (a b : Next) → Settled S a → Settled S b → Settled S (cond t a b)
-  settled-either true a b p q = p
-  settled-either false a b p q = q
+    not-passed : (q i : ℕ) → getD sorted q 0 ≡ i → readyIn rows counts placed i ≡ true → from ≤ q
+    not-passed q i e t = ⊎-elim
+        (λ u. let z : true ≡ false = sym t ∙ ap (readyIn rows counts placed) (sym e) ∙ ready-marked rows counts placed (getD sorted q 0) (passed q (omega arith) (ltb→lt q from u)) in absurd (subst T z tt))
+        (λ u. nltb→le q from u) (decide (ltb q from))
 
-  settled-lower : (a b : Next) → Settled S a → Settled S b → Settled S (lowerOf a b)
-  settled-lower Nothing b p q = q
-  settled-lower (At i e) Nothing p q = p
-  settled-lower (At i e) (At j f) p q = settled-either (less (keyNumbers f) (keyNumbers e)) (At j f) (At i e) q p
+    executable : (i : ℕ) → i < length (S .deltas) → readyIn rows counts placed i ≡ true → Executable S (getD (S .deltas) i [])
+    executable i h t =
+        ready-executable sequenceOf (needs S) (S .deltas) l (p .listing) (p .received) (getD (S .deltas) i []) (getD-∈ (S .deltas) i [] h)
+        (subst T (sym t ∙ ready-is S placed l p rows counts rr i h) tt)
 
-  -- the one that is looked at, ready or not, beside the lowest of the rest
-  settled-one : (t : Bool) (k : ℕ) (e : Key) → (T t → Settled S (At k e)) → Settled S (cond t (At k e) Nothing)
-  settled-one true k e f = f tt
-  settled-one false k e f = tt
+    -- nothing is ready
+    stuck : FirstReady rows counts sorted placed from Nothing → Stuck sequenceOf (needs S) (S .deltas) (placedBy l)
+    stuck f a k t =
+        let r = ∈-getD [] k in
+        let at = by-key .has (r .0) (r .1) in
+        let yes : readyIn rows counts placed (r .0) ≡ true = ready-at (r .0) (r .1) (subst (λ (x : Message). T (ready S (placedBy l) x)) (sym (r .2)) t) in
+        let z : true ≡ false = sym yes ∙ ap (readyIn rows counts placed) (sym (at .2)) ∙ f (at .0) (not-passed (at .0) (r .0) (at .2) yes) (omega (arith, at .1)) in
+        subst T z tt
 
-  lowest-one : (t : Bool) (k : ℕ) (e : Key) → (T t → Settled S (At k e)) → (rest : List Message) (best : Next) → Settled S best
-      → deltaOf (S .deltas) best ≡ L.lowestOf (keyOf S) less rest
-      → deltaOf (S .deltas) (lowerOf (cond t (At k e) Nothing) best) ≡ L.lowestOf (keyOf S) less (cond t (getD (S .deltas) k [] ∷ rest) rest)
-  lowest-one false k e f rest best s h = h
-  lowest-one true k e f rest Nothing s h = ap (L.lower (keyOf S) less (getD (S .deltas) k [])) h
-  lowest-one true k e f rest (At j g) s h =
-      let a = getD (S .deltas) k [] in
-      let b = getD (S .deltas) j [] in
-      delta-either (less (keyNumbers g) (keyNumbers e)) (At j g) (At k e)
-      ∙ ap₂ (λ (x y : List ℕ). cond (less x y) (some b) (some a)) (s .1) (f tt .1)
-      ∙ ap (L.lower (keyOf S) less a) h
+    picks-none : FirstReady rows counts sorted placed from Nothing → Picks S (placedBy l) Nothing
+    picks-none f = record { lowest = go (L.lowestOf (keyOf S) less (keep (ready S (placedBy l)) (S .deltas))) (next-is sequenceOf (needs S) (keyOf S) less less-total (S .deltas) (placedBy l)); within = tt }
+      where
+        go : (o : Option Message) → Next? sequenceOf (needs S) (keyOf S) less less-total (S .deltas) (placedBy l) o → none ≡ o
+        go none h = refl
+        go (some a) h = absurd (stuck f a (h .of) (h .is-ready))
 
-module _ (S : State) (rows counts placed : List ℕ) (keys : List Key) (rr : RowsRight S rows counts) (kr : KeysRight S keys) where
-  picks-more : (l : List Message) → Placing S placed l → (k : ℕ) → k < length (S .deltas) → (best : Next) → Picks S (placedBy l) (drop (suc k) (S .deltas)) best
-      → Picks S (placedBy l) (drop k (S .deltas)) (lowerOf (candidateIn rows counts placed k (getD keys k noKey)) best)
-  unfolding candidateIn
-  picks-more l p k h best x = record {
-    lowest = lowest-one S (readyIn rows counts placed k) k own settled rest best (x .settled) (x .lowest) ∙ ap (L.lowestOf (keyOf S) less) more;
-    settled = settled-lower S (cond (readyIn rows counts placed k) (At k own) Nothing) best (settled-one S (readyIn rows counts placed k) k own settled) (x .settled);
-  }
-    where
-      own : Key
-      own = getD keys k noKey
+    -- one is
+    module _ (i : ℕ) (f : FirstReady rows counts sorted placed from (At i)) where
+      inside : i < length (S .deltas)
+      inside = omega (arith, by-key .inside (f .0) (omega (arith, f .1)), f .2)
 
-      m : Message
-      m = getD (S .deltas) k []
+      abbrev m : Message
+      m = getD (S .deltas) i []
 
-      rest : List Message
-      rest = keep (ready S (placedBy l)) (drop (suc k) (S .deltas))
+      is-ready : T (ready S (placedBy l) (getD (S .deltas) i []))
+      is-ready = subst T (sym (f .3) ∙ ready-is S placed l p rows counts rr i inside) tt
 
-      is : readyIn rows counts placed k ≡ ready S (placedBy l) (getD (S .deltas) k [])
-      is = ready-is S placed l p rows counts rr k h
+      -- none that is ready has a lower key
+      least : (j : ℕ) → j < length (S .deltas) → readyIn rows counts placed j ≡ true → T (not (less (keyOf S (getD (S .deltas) j [])) (keyOf S (getD (S .deltas) i []))))
+      least j h t =
+          let at = by-key .has j h in
+          let behind : f .0 ≤ at .0 = later (at .0) (at .2) t in
+          ⊎-elim
+          (λ e. let same : i ≡ j = sym (f .2) ∙ ap (λ (x : ℕ). getD sorted x 0) (eqb→eq (f .0) (at .0) e) ∙ at .2 in
+          subst (λ (x : ℕ). T (not (less (keyOf S (getD (S .deltas) x [])) (keyOf S (getD (S .deltas) i []))))) same (not-self less less-total (keyOf S (getD (S .deltas) i []))))
+          (λ e. let d : f .0 ≡ at .0 → ⊥ = not-eqb (f .0) (at .0) e in
+          subst T (ap not (ap₂ (λ (x y : ℕ). less (keyIn keys x) (keyIn keys y)) (at .2) (f .2) ∙ kr .compared j i h inside (executable j h t) (executable i inside (f .3))))
+          (by-key .order (f .0) (at .0) (omega arith) (at .1)))
+          (decide (eqb (f .0) (at .0)))
+        where
+          later : (q : ℕ) → getD sorted q 0 ≡ j → readyIn rows counts placed j ≡ true → f .0 ≤ q
+          later q e sure = ⊎-elim
+              (λ u. let z : true ≡ false = sym sure ∙ ap (readyIn rows counts placed) (sym e) ∙ f .4 q (not-passed q j e sure) (ltb→lt q (f .0) u) in absurd (subst T z tt))
+              (λ u. nltb→le q (f .0) u) (decide (ltb q (f .0)))
 
-      settled : T (readyIn rows counts placed k) → Settled S (At k (getD keys k noKey))
-      settled t = (h, kr k h (ready-executable sequenceOf (needs S) (S .deltas) l (p .listing) (p .received) m (getD-∈ (S .deltas) k [] h) (subst T is t)))
+      picks-one : Picks S (placedBy l) (At i)
+      picks-one = record { lowest = go (L.lowestOf (keyOf S) less (keep (ready S (placedBy l)) (S .deltas))) (next-is sequenceOf (needs S) (keyOf S) less less-total (S .deltas) (placedBy l)); within = inside }
+        where
+          of : getD (S .deltas) i [] ∈ S .deltas
+          of = getD-∈ (S .deltas) i [] inside
 
-      more : cond (readyIn rows counts placed k) (getD (S .deltas) k [] ∷ rest) rest ≡ keep (ready S (placedBy l)) (drop k (S .deltas))
-      more =
-          ap (λ (t : Bool). cond t (getD (S .deltas) k [] ∷ rest) rest) is
-          ∙ ap (keep (ready S (placedBy l))) (sym (drop-cons (S .deltas) k [] h))
+          go : (o : Option Message) → Next? sequenceOf (needs S) (keyOf S) less less-total (S .deltas) (placedBy l) o → some (getD (S .deltas) i []) ≡ o
+          go none h = absurd (h (getD (S .deltas) i []) of is-ready)
+          go (some a) h =
+              let r = ∈-getD [] (h .of) in
+              let yes : readyIn rows counts placed (r .0) ≡ true = ready-at (r .0) (r .1) (subst (λ (x : Message). T (ready S (placedBy l) x)) (sym (r .2)) (h .is-ready)) in
+              ap some (keys-differ S (right .ascends) m a of (h .of) (less-total .tri (keyOf S m) (keyOf S a) (h .is-least m of is-ready) (subst (λ (x : Message). T (not (less (keyOf S x) (keyOf S m)))) (r .2) (least (r .0) (r .1) yes))))
 
-  -- ---- where the loop of `next` tests: at first, after a turn, at the end
-  pub looked-none : (i : ℕ) → i ≡ length (S .deltas) → Looked S placed i Nothing
-  looked-none i e = record { inside = omega arith; picks = λ l p. picks-none S (placedBy l) i (omega arith) }
-
-  pub looked-more : (i : ℕ) → 0 < i → (best : Next) → Looked S placed i best → (a r : Next) → a ≡ candidateIn rows counts placed (i - 1) (getD keys (i - 1) noKey)
-      → r ≡ lowerOf a best → Looked S placed (i - 1) r
-  looked-more i up best g a r e q = record {
-    inside = omega (arith, g .inside);
-    picks = λ l p. subst (Picks S (placedBy l) (drop (i - 1) (S .deltas))) (sym found)
-        (picks-more l p (i - 1) (omega (arith, g .inside)) best (subst (λ (n : ℕ). Picks S (placedBy l) (drop n (S .deltas)) best) last (g .picks l p)));
-  }
-    where
-      last : i ≡ suc (i - 1)
-      last = omega arith
-
-      found : r ≡ lowerOf (candidateIn rows counts placed (i - 1) (getD keys (i - 1) noKey)) best
-      found = q ∙ ap (λ (x : Next). lowerOf x best) e
-
-  pub looked-all : (i : ℕ) → i ≤ 0 → (best : Next) → Looked S placed i best → NextRight S placed best
-  looked-all i none best g l p =
-      let all : i ≡ 0 = omega arith in subst (λ (n : ℕ). Picks S (placedBy l) (drop n (S .deltas)) best) all (g .picks l p)
+  pub next-right : (r : Next) → FirstReady rows counts sorted placed from r → NextRight S placed r
+  next-right (At i) f l p = picks-one l p i f
+  next-right Nothing f l p = picks-none l p f

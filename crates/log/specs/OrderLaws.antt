@@ -14,12 +14,11 @@ use Rattle.model.specs.Order.{State, RightSet, needs, placedBy, ready, keyOf, l
 use Rattle.order.specs.KeyOrder.{less-total}
 use Rattle.order.specs.ListingLaws.{after-snoc, Next?, next-is}
 use Rattle.table.specs.Table.{deltasAt}
-use Rattle.key.specs.declared.Key.{Key}
 use Rattle.closure.specs.Ready.{marksSize, Placing}
 use Rattle.closure.specs.ClosingLaws.{placing-none, placing-more}
 use Rattle.log_order.specs.declared.LogOrder.{LogOrder}
 use Rattle.log_order.specs.LogOrder.{placesOf, OrderRight, Placed}
-use Rattle.log.specs.declared.candidate.Next.the-variants.{At, Nothing}
+use Rattle.log.specs.declared.next.Next.the-variants.{At, Nothing}
 use Rattle.log.specs.Next.{Picks, NextRight}
 use Rattle.log.specs.Ordered.{Ordered, Grows, Growing}
 
@@ -39,13 +38,13 @@ module _ (S : State) (right : RightSet (S .deltas)) where
     before = deltasAt (S .deltas) places
 
     -- what follows is what the pick says
-    rest-is : (n : ℕ) (r : _) → Picks S (placedBy before) (S .deltas) r
+    rest-is : (n : ℕ) (r : _) → Picks S (placedBy before) r
         → logFrom S (suc n) (placedBy before) ≡ L.place sequenceOf (logFrom S n) (placedBy before) (Rattle.log.specs.Next.deltaOf (S .deltas) r)
     rest-is n r x = ap (L.place sequenceOf (logFrom S n) (placedBy before)) (sym (x .lowest))
 
     -- the next one is placed
-    grows-more : k < length (S .deltas) → (i : ℕ) (key : Key) → Picks S (placedBy before) (S .deltas) (At i key) → Grows S (set placed i 1) (k + 1) (places ++ i ∷ [])
-    grows-more room i key x = record {
+    grows-more : k < length (S .deltas) → (i : ℕ) → Picks S (placedBy before) (At i) → Grows S (set placed i 1) (k + 1) (places ++ i ∷ [])
+    grows-more room i x = record {
       count = length-append places (i ∷ []) ∙ ap (λ (n : ℕ). n + 1) (g .count);
       within = λ j m. ⊎-elim (λ q. g .within j q) (λ q. subst (λ (n : ℕ). n < length (S .deltas)) (sym (List·Memᴰ·eq-of-singleton q)) inside) (List·Memᴰ·append-cases places m);
       placing = subst (Placing S (set placed i 1)) (sym more) (placing-more S right i inside placed 1 (λ e. let z : ⊥ = omega arith in z) before is-ready (g .placing));
@@ -60,7 +59,7 @@ module _ (S : State) (right : RightSet (S .deltas)) where
         left = length (S .deltas) - (k + 1)
 
         inside : i < length (S .deltas)
-        inside = x .settled .0
+        inside = x .within
 
         more : deltasAt (S .deltas) (places ++ i ∷ []) ≡ deltasAt (S .deltas) places ++ getD (S .deltas) i [] ∷ []
         more = map-append (λ j. getD (S .deltas) j []) places (i ∷ [])
@@ -73,10 +72,10 @@ module _ (S : State) (right : RightSet (S .deltas)) where
         one = omega arith
 
         step : logFrom S (length (S .deltas) - k) (placedBy (deltasAt (S .deltas) places)) ≡ m ∷ logFrom S left (sequenceOf m ∷ placedBy before)
-        step = ap (λ (n : ℕ). logFrom S n (placedBy before)) one ∙ rest-is left (At i key) x
+        step = ap (λ (n : ℕ). logFrom S n (placedBy before)) one ∙ rest-is left (At i) x
 
     -- none comes next
-    grows-stuck : Picks S (placedBy before) (S .deltas) Nothing → before ≡ logOf S
+    grows-stuck : Picks S (placedBy before) Nothing → before ≡ logOf S
     grows-stuck x = sym (g .rest ∙ ap (λ (l : List Message). before ++ l) (ends (length (S .deltas) - k)) ∙ append-nil before)
       where
         ends : (n : ℕ) → logFrom S n (placedBy (deltasAt (S .deltas) places)) ≡ []
@@ -103,21 +102,21 @@ module _ (S : State) (right : RightSet (S .deltas)) where
 
     module _ (placed : List ℕ) (log : LogOrder) (k : ℕ) (g : Growing S begun placed log k) where
       -- a delta is placed
-      pub growing-more : k < length (S .deltas) → (i : ℕ) (key : Key) → NextRight S placed (At i key) → (longer : LogOrder) → Placed log i longer
+      pub growing-more : k < length (S .deltas) → (i : ℕ) → NextRight S placed (At i) → (longer : LogOrder) → Placed log i longer
           → Growing S begun (set placed i 1) longer (k + 1)
-      growing-more room i key x longer p = record {
+      growing-more room i x longer p = record {
         inside = omega arith;
         count = omega (arith, p .count, g .count);
         right = p .right;
         olds = p .olds ∙ g .olds;
         size = p .size ∙ g .size;
         grows = subst (Grows S (set placed i 1) (k + 1)) (sym (p .places))
-            (grows-more placed k (placesOf log) (g .grows) room i key (x (deltasAt (S .deltas) (placesOf log)) (g .grows .placing)));
+            (grows-more placed k (placesOf log) (g .grows) room i (x (deltasAt (S .deltas) (placesOf log)) (g .grows .placing)));
       }
 
       -- a delta that comes next is of the table
-      pub next-inside : (i : ℕ) (key : Key) → NextRight S placed (At i key) → i < length (S .deltas)
-      next-inside i key x = x (deltasAt (S .deltas) (placesOf log)) (g .grows .placing) .settled .0
+      pub next-inside : (i : ℕ) → NextRight S placed (At i) → i < length (S .deltas)
+      next-inside i x = x (deltasAt (S .deltas) (placesOf log)) (g .grows .placing) .within
 
       -- none comes next, or all are placed
       whole : deltasAt (S .deltas) (placesOf log) ≡ logOf S → Ordered S begun log

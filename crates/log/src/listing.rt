@@ -1,14 +1,16 @@
 // The log of a set, delta by delta.
-use crate::candidate::Next;
-use crate::next::next;
-use crate::preparing::Prepared;
+use crate::next::Next;
+use crate::next::first_ready;
+use crate::next::skip_placed;
+use crate::sorting::sort_by_key;
 use closure::ready::MARKS;
 use log_order::LogOrder;
+use prepared::Prepared;
 ghost use mathlib.Core.Path.{_≡_};
 ghost use mathlib.Core.List.{[]};
 ghost use Rattle.table.specs.Table.{setIn, Holds};
 ghost use Rattle.log_order.specs.LogOrder.{placesOf, OrderRight};
-ghost use Rattle.log.specs.Keys.{PreparedRight};
+ghost use Rattle.prepared.specs.Keys.{PreparedRight};
 ghost use Rattle.log.specs.Ordered.{Ordered};
 
 // Of all deltas that are ready it places the one of the lowest key, again and again, until none is.
@@ -19,12 +21,16 @@ pub fn order(pool: &[u8], starts: &[u16], prepared: Prepared, begun: LogOrder) -
     let rows = prepared.rows;
     let counts = prepared.counts;
     let keys = prepared.keys;
+    let used = starts.len();
+    let sorted = sort_by_key(&keys, used);
     let mut placed = [0u8; MARKS];
     let mut log = begun;
+    let mut first = 0;
     let mut k = 0;
-    while k < starts.len() {
-        let found = next(pool, starts, &rows, &counts, keys, &placed);
-        let Next::At(i, _) = found else {
+    while k < used {
+        first = skip_placed(&sorted[..used], &placed, first);
+        let found = first_ready(&rows, &counts, &sorted[..used], &placed, first);
+        let Next::At(i) = found else {
             return log;
         };
         let longer = log.place(i as u8);

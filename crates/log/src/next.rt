@@ -1,38 +1,44 @@
-// The delta that comes next: of all that are ready the one of the lowest key.
-use crate::candidate::Next;
-use crate::candidate::candidate;
-use crate::candidate::lower;
-use key::Key;
-use layout::CAPACITY;
+// The delta that comes next: of the deltas by key the first that is ready.
+use closure::ready::ready;
 ghost use mathlib.Core.Path.{_≡_};
 ghost use lib.ListN.{length};
-ghost use Rattle.table.specs.Table.{setIn, Holds};
-ghost use Rattle.needs.specs.Rows.{RowsRight};
 ghost use Rattle.closure.specs.Ready.{marksSize};
-ghost use Rattle.log.specs.Keys.{KeysRight};
-ghost use Rattle.log.specs.Next.{NextRight};
+ghost use Rattle.log.specs.Next.{Marked, Lookable, Skips, FirstReady};
 
-// Looks at each delta of the table, the last one first.
-pub fn next(
-    pool: &[u8],
-    starts: &[u16],
-    rows: &[u8],
-    counts: &[u8],
-    keys: [Key; CAPACITY],
-    placed: &[u8],
-) -> Next
-    requires { ⌜ Holds (now pool) (now starts) × RowsRight (setIn (now pool) (now starts)) (now rows) (now counts) × KeysRight (setIn (now pool) (now starts)) keys × (length (now placed) ≡ marksSize) ⌝ }
-    ensures { λ r. ⌜ NextRight (setIn (now (pool .entry)) (now (starts .entry))) (now (placed .entry)) r ⌝ }
+// The index of the delta that comes next.
+pub enum Next {
+    At(usize),
+    Nothing,
+}
+
+// The place of the first from `from` on that is not placed; that of the end where all are.
+pub fn skip_placed(sorted: &[u8], placed: &[u8], from: usize) -> usize
+    requires { ⌜ (length (now placed) ≡ marksSize) × Marked (now sorted) ⌝ }
+    ensures { λ r. ⌜ Skips (now (sorted .entry)) (now (placed .entry)) from r ⌝ }
 {
-    let mut best = Next::Nothing;
-    let mut i = starts.len();
-    while 0 < i {
-        let k = i - 1;
-        let key = keys[k];
-        let found = candidate(rows, counts, placed, k, key);
-        let least = lower(found, best);
-        best = least;
-        i = k;
+    let mut k = from;
+    while k < sorted.len() {
+        let i = sorted[k] as usize;
+        if placed[i] == 0 {
+            return k;
+        }
+        k += 1;
     }
-    best
+    k
+}
+
+// The first from `from` on that is ready.
+pub fn first_ready(rows: &[u8], counts: &[u8], sorted: &[u8], placed: &[u8], from: usize) -> Next
+    requires { ⌜ Lookable (now rows) (now counts) (now sorted) × (length (now placed) ≡ marksSize) ⌝ }
+    ensures { λ r. ⌜ FirstReady (now (rows .entry)) (now (counts .entry)) (now (sorted .entry)) (now (placed .entry)) from r ⌝ }
+{
+    let mut k = from;
+    while k < sorted.len() {
+        let i = sorted[k] as usize;
+        if ready(rows, counts, placed, i) {
+            return Next::At(i);
+        }
+        k += 1;
+    }
+    Next::Nothing
 }

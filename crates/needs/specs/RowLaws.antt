@@ -1,16 +1,17 @@
 -- Rows by index: one more row is written, and what callers read of rows that are right.
 use mathlib.Core.Path.{_≡_, refl, sym, _∙_, ap, subst}
 use mathlib.Core.Logic.{⊎-elim}
-use mathlib.Core.List.{List, [], _∷_, _++_, map, append-assoc}
+use mathlib.Core.List.{List, [], _∷_, map}
 use Prim.Native.Nat.{ℕ, zero, suc, _+_, _*_, _≤_, _<_}
 use native.Mathlib.Omega.{arith}
-use lib.ListN.{length, getD, set, take, drop, length-drop, length-map, take-append-drop}
-use lib.Seq.{paste, length-take-le, take-all, take-append-le, drop-append-le, take-at, drop-at, getD-take, getD-drop, getD-set-same, getD-set-other}
+use lib.ListN.{length, getD, set, take, drop, length-drop, length-map}
+use lib.Seq.{paste, length-take-le, getD-take, getD-drop, getD-set-same, getD-set-other}
 use lib.Dec.{eqb, eqb→eq}
 use Rattle.model.specs.Layout.{capacity}
 use Rattle.model.specs.Message.{Message, sequenceOf, needsOf}
 use Rattle.model.specs.Order.{State, RightSet, sequencesOf, needs}
 use Rattle.order.specs.TestLaws.{decide, not-eqb}
+use Rattle.buffer.specs.PasteLaws.{part-here, part-before}
 use Rattle.needs.specs.Names.{missing, indexOf}
 use Rattle.needs.specs.IndexLaws.{index-small}
 use Rattle.needs.specs.Rows.{rowSize, rowIn, RowIs, RowsRight, RowFits}
@@ -18,24 +19,6 @@ use Rattle.needs.specs.Rows.{rowSize, rowIn, RowIs, RowsRight, RowFits}
 pub needs-are : (S : State) (m : Message) → needs S m ≡ needsOf m
 unfolding needs
 needs-are S m = refl
-
--- ---- parts of a list into which another is pasted
-part-of-first : (xs ys : List ℕ) (j n : ℕ) → j + n ≤ length xs → take n (drop j (xs ++ ys)) ≡ take n (drop j xs)
-part-of-first xs ys j n h = ap (take n) (drop-append-le j xs ys (omega arith)) ∙ take-append-le n (drop j xs) ys (omega (arith, length-drop j xs))
-
-part-before : (d : List ℕ) (at : ℕ) (s : List ℕ) (m j n : ℕ) → at ≤ length d → j + n ≤ at → take n (drop j (paste d at s m)) ≡ take n (drop j d)
-part-before d at s m j n h k =
-    let inside : j + n ≤ length (take at d) = omega (arith, length-take-le at d h) in
-    ap (λ (l : List ℕ). take n (drop j l)) (append-assoc (take at d) (take m s) (drop (at + m) d))
-    ∙ part-of-first (take at d) (take m s ++ drop (at + m) d) j n inside ∙ sym (part-of-first (take at d) (drop at d) j n inside)
-    ∙ ap (λ (l : List ℕ). take n (drop j l)) (take-append-drop at d)
-
-part-here : (d : List ℕ) (at : ℕ) (s : List ℕ) (n : ℕ) → at ≤ length d → n ≡ length s → take n (drop at (paste d at s n)) ≡ s
-part-here d at s n h e =
-    let behind : List ℕ = drop (at + n) d in
-    ap (λ (l : List ℕ). take n (drop at l)) (append-assoc (take at d) (take n s) behind)
-    ∙ ap (take n) (drop-at (take at d) (take n s ++ behind) at (length-take-le at d h))
-    ∙ take-at (take n s) behind n (length-take-le n s (omega arith)) ∙ take-all n s (omega arith)
 
 -- ---- one more row
 module _ (row : ℕ → List ℕ) (rows counts : List ℕ) (i n : ℕ) (room : rowSize * i + rowSize ≤ length rows) (here : i < length counts)

@@ -12,7 +12,7 @@ use Rattle.message.specs.declared.checks.Check.the-variants.{Right}
 use Rattle.table.specs.declared.Table.{Table}
 use Rattle.table.specs.Table.{startsOf, deltasOf, deltasAt, setIn}
 use Rattle.table.specs.Reading.{IsTable}
-use Rattle.log.specs.Checking.{ChecksLog}
+use Rattle.log_check.specs.Checking.{ChecksLog}
 use Rattle.judged.specs.LogRead.{ReadsLog}
 use Rattle.judged.specs.Judging.{placesIn}
 use Rattle.judged.specs.JudgingLaws.{judged, other-log, unjudged}

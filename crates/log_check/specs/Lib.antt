@@ -1,0 +1,4 @@
+pub mod Above
+pub mod Waiting
+pub mod Checking
+pub mod CheckingLaws

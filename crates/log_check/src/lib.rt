@@ -1,0 +1,48 @@
+// Whether a log that is there already is the log of the set: it is checked, not ordered again.
+mod above;
+mod waiting;
+
+use crate::above::above;
+use crate::waiting::any_ready;
+use closure::ready::MARKS;
+use closure::ready::effective;
+use closure::ready::ready;
+use layout::CAPACITY;
+use message::checks::Check;
+use prepared::Prepared;
+ghost use Rattle.table.specs.Table.{setIn, Holds};
+ghost use Rattle.prepared.specs.Keys.{PreparedRight};
+ghost use Rattle.log_check.specs.Checking.{Inside, ChecksLog};
+
+// Places the deltas of the log one after the other. Each has to be ready, and its key above those of all that stand at or behind
+// the place from which it was ready; in the end none may be ready.
+pub fn check_log(pool: &[u8], starts: &[u16], prepared: Prepared, places: &[u8]) -> Check
+    requires { ⌜ Holds (now pool) (now starts) × PreparedRight (setIn (now pool) (now starts)) prepared × Inside (setIn (now pool) (now starts)) (now places) ⌝ }
+    ensures { λ r. ⌜ ChecksLog (setIn (now (pool .entry)) (now (starts .entry))) (now (places .entry)) r ⌝ }
+{
+    let rows = prepared.rows;
+    let counts = prepared.counts;
+    let keys = prepared.keys;
+    let mut placed = [0u8; MARKS];
+    let mut ends = [0u32; MARKS];
+    let mut froms = [0u8; CAPACITY];
+    let mut k = 0;
+    while k < places.len() {
+        let i = places[k] as usize;
+        if !ready(&rows, &counts, &placed, i) {
+            return Check::Wrong;
+        }
+        let from = effective(&rows, &counts, &ends, i, 0);
+        if !above(&keys, places, &froms, from as usize, k) {
+            return Check::Wrong;
+        }
+        placed[i] = 1;
+        froms[k] = from as u8;
+        k += 1;
+        ends[i] = k as u32;
+    }
+    if any_ready(&rows, &counts, &placed, starts.len()) {
+        return Check::Wrong;
+    }
+    Check::Right
+}
