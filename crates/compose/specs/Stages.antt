@@ -5,7 +5,7 @@ use mathlib.Core.List.{List, [], _∷_}
 use Prim.Native.Nat.{ℕ, _/_, _≤_}
 use lib.ListN.{length}
 use lib.Dec.{T, eqb, ltb}
-use Rattle.model.specs.Layout.{imageSize, lineSize, commandSize, mostDependencies, messageRoom}
+use Rattle.model.specs.Layout.{lineSize, commandSize, mostDependencies, messageRoom}
 use Rattle.model.specs.Message.{Message}
 use Rattle.model.specs.Order.{State}
 use Rattle.model.specs.Compose.{newDependencies, composed}
@@ -68,7 +68,6 @@ pub record Composable (pool starts places line commands : List ℕ) (flag priori
   pub room : messageRoom ≤ length buffer
 
 pub record ComposableAt (b : List ℕ) (station : Station) (line commands : List ℕ) (flag priority : ℕ) (buffer : List ℕ) : Type 0 where
-  pub size : length b ≡ imageSize
   pub judged : IsStation b station
   pub ten : length line ≡ lineSize
   pub sized : T (commandsSized commands)

@@ -131,7 +131,6 @@ compose-at-requires c κs =
     let t = measured (judged e) in
     let a = told t .args in
     record {
-      size = sizes-are t .image-size;
       judged = station-is (e .before);
       ten = sizes-are t .line-size;
       sized = true-T (commandsSized (a .commands .now)) (sym (commands-right (k .before)));
