@@ -13,8 +13,7 @@ use Rattle.model.specs.Layout.{stepRoom, capacity}
 use Rattle.model.specs.Message.{Message, sequenceOf, passes}
 use Rattle.model.specs.Image.{stateIn}
 use Rattle.model.specs.Steps.{Step, execute, readSteps}
-use Rattle.model.specs.Calls as model
-use Rattle.model.specs.Calls.{Composed, Delivered, compose, deliver}
+use Rattle.model.specs.Calls.{Composed, Delivered, compose}
 use Rattle.model.specs.Run.{delivery}
 use Rattle.compose_laws.specs.ComposeLaws.{Promised, compose-promise}
 use Rattle.compose.specs.declared.answer.Composition.{Composition}
