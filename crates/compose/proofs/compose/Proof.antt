@@ -57,13 +57,13 @@ content-right : (c : tie.After-enum-told7) → let a = told (measured (judged (c
 content-right c = sym (ap right (c .enum-told7 .given .1)) ∙ c .before .before .check-content .ensures
 
 check-sizes-requires : tie.Need-check-sizes-requires
-check-sizes-requires c κs = search needs
+check-sizes-requires c κs = tt
 
 enum-told : tie.Need-enum-told
-enum-told c = search needs
+enum-told c = c .match .keys1
 
 enum-told-2 : tie.Need-enum-told-2
-enum-told-2 c = search needs
+enum-told-2 c = c .match .keys2
 
 returns : tie.Need-returns
 returns c =
@@ -75,10 +75,10 @@ read-station-requires : tie.Need-read-station-requires
 read-station-requires c κs = sizes-are c .image-size
 
 enum-told-3 : tie.Need-enum-told-3
-enum-told-3 c = search needs
+enum-told-3 c = c .match2 .keys1
 
 enum-told-4 : tie.Need-enum-told-4
-enum-told-4 c = search needs
+enum-told-4 c = c .match2 .keys2
 
 returns-2 : tie.Need-returns-2
 returns-2 c =
@@ -89,13 +89,13 @@ returns-2 c =
     (judges-wrong (a .image .now) (r .read-station .result) (r .read-station .ensures) (c .enum-told4 .given .1))
 
 commands-sized-requires : tie.Need-commands-sized-requires
-commands-sized-requires c κs = search needs
+commands-sized-requires c κs = tt
 
 enum-told-5 : tie.Need-enum-told-5
-enum-told-5 c = search needs
+enum-told-5 c = c .match3 .keys1
 
 enum-told-6 : tie.Need-enum-told-6
-enum-told-6 c = search needs
+enum-told-6 c = c .match3 .keys2
 
 returns-3 : tie.Need-returns-3
 returns-3 c =
@@ -106,13 +106,13 @@ returns-3 c =
     (sym (ap right (c .enum-told6 .given .1)) ∙ k .commands-sized .ensures)
 
 check-content-requires : tie.Need-check-content-requires
-check-content-requires c κs = search needs
+check-content-requires c κs = tt
 
 enum-told-7 : tie.Need-enum-told-7
-enum-told-7 c = search needs
+enum-told-7 c = c .match4 .keys1
 
 enum-told-8 : tie.Need-enum-told-8
-enum-told-8 c = search needs
+enum-told-8 c = c .match4 .keys2
 
 returns-4 : tie.Need-returns-4
 returns-4 c =

@@ -34,7 +34,9 @@ slice-aggregate-compose-behind-2 : tie.Need-slice-aggregate-compose-behind-2
 slice-aggregate-compose-behind-2 c = let s = began (c .before .before) in sym (length-take-le (s .args .station .logged) (s .args .station .places) (omega (arith, s .pre .judged .fits, places-size s)))
 
 compose-behind-requires : tie.Need-compose-behind-requires
-compose-behind-requires c κs = search needs
+compose-behind-requires c κs =
+    let s = began (c .before .before .before) in
+    record { log = record { holds = s .pre .judged .table .holds; log = s .pre .judged .log }; ten = s .pre .ten; sized = s .pre .sized; given = s .pre .given; room = s .pre .room }
 
 same-length : tie.Need-same-length
 same-length c = search needs

@@ -2,6 +2,7 @@
 use mathlib.Core.Path.{_≡_, sym, _∙_, ap, subst}
 use mathlib.Core.Bool.{false, not}
 use Prim.Native.Nat.{ℕ}
+use native.Mathlib.Omega.{arith}
 use borrow.Author.Tests.{not-true, not-false}
 use Rattle.model.specs.Bytes.{number}
 use Rattle.model.specs.Message.{lineOf}
@@ -46,16 +47,16 @@ drafts c =
     subst (λ (n : ℕ). Drafts (set s) n (s .args .flag) (s .args .priority) (c .draft-delta .result)) (line-is (read c)) (c .draft-delta .ensures)
 
 read-line-requires : tie.Need-read-line-requires
-read-line-requires c κs = search needs
+read-line-requires c κs = c .before .before .before .before .before .before .pre .ten
 
 check-line-requires : tie.Need-check-line-requires
-check-line-requires c κs = search needs
+check-line-requires c κs = began c .pre .log
 
 enum-told : tie.Need-enum-told
-enum-told c = search needs
+enum-told c = c .match .keys1
 
 enum-told-2 : tie.Need-enum-told-2
-enum-told-2 c = search needs
+enum-told-2 c = c .match .keys2
 
 returns : tie.Need-returns
 returns c =
@@ -65,13 +66,13 @@ returns c =
     held-case (set s) (number (a .line .now)) (a .flag) (a .priority) (a .commands .now) (a .message .now) (not-false _ (held-is k (c .enum-told2 .given .1)))
 
 draft-delta-requires : tie.Need-draft-delta-requires
-draft-delta-requires c κs = search needs
+draft-delta-requires c κs = let r = c .before .before .before in (began r .pre .log, omega (arith, r .read-line .ensures))
 
 enum-known-drafting : tie.Need-enum-known-drafting
-enum-known-drafting c = search needs
+enum-known-drafting c = c .match2 .keys1
 
 enum-told-3 : tie.Need-enum-told-3
-enum-told-3 c = search needs
+enum-told-3 c = c .match2 .keys2
 
 returns-2 : tie.Need-returns-2
 returns-2 c =
@@ -82,7 +83,7 @@ returns-2 c =
     past-case (set s) line (a .flag) (a .priority) (a .commands .now) (a .message .now) (free (d .before)) (drafts-past (set s) line (a .flag) (a .priority) (d .draft-delta .result) (drafts d) (c .enum-told3 .given .1))
 
 write-draft-requires : tie.Need-write-draft-requires
-write-draft-requires c κs = search needs
+write-draft-requires c κs = let s = began (read (c .before .before .before .before)) in record { log = s .pre .log; sized = s .pre .sized; room = s .pre .room }
 
 same-length : tie.Need-same-length
 same-length c = search needs

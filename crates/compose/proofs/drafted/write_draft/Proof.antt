@@ -29,16 +29,16 @@ few : (c : tie.After-enum-told) → c .before .before .before .find-dependencies
 few c = leb-true _ mostDependencies (sym (c .before .before .check-few .ensures) ∙ ap right (c .enum-told .given .1))
 
 find-dependencies-requires : tie.Need-find-dependencies-requires
-find-dependencies-requires c κs = search needs
+find-dependencies-requires c κs = c .before .before .before .before .before .before .pre .log
 
 check-few-requires : tie.Need-check-few-requires
-check-few-requires c κs = search needs
+check-few-requires c κs = tt
 
 enum-told : tie.Need-enum-told
-enum-told c = search needs
+enum-told c = c .match .keys1
 
 enum-told-2 : tie.Need-enum-told-2
-enum-told-2 c = search needs
+enum-told-2 c = c .match .keys2
 
 returns : tie.Need-returns
 returns c =
