@@ -1,13 +1,12 @@
 // Compose: a station writes a new message.
 pub mod answer;
-pub mod checks;
 pub mod drafted;
 
 use crate::answer::Composition;
-use crate::checks::check_content;
-use crate::checks::check_sizes;
 use crate::drafted::write_draft;
 use commands::commands_sized;
+use compose_checks::check_content;
+use compose_checks::check_sizes;
 use composing::drafting::Drafting;
 use composing::drafting::draft_delta;
 use composing::line::check_line;

@@ -10,8 +10,8 @@ use Rattle.buffer.specs.FieldLaws.{all-bytes}
 use Rattle.message.specs.Check.{right}
 use Rattle.judged.specs.Judging.{IsStation}
 use Rattle.judged.specs.JudgingLaws.{judges-wrong, judges-right}
-use Rattle.compose.specs.Checks.{sizesRight}
-use Rattle.compose.specs.CheckLaws.{Sizes, sizes-out, content-given}
+use Rattle.compose_checks.specs.Checks.{sizesRight}
+use Rattle.compose_checks.specs.CheckLaws.{Sizes, sizes-out, content-given}
 use Rattle.compose.specs.ComposeCases.{sizes-case, image-case, commands-case, content-case, late-case}
 use borrow.Author.Needs.{needs}
 use Rattle.compose.proofs.compose.Statement.{statement}

@@ -1,8 +1,8 @@
 -- Each test decides, or the next one does.
 use native.Mathlib.Omega.{arith}
-use Rattle.compose.specs.CheckLaws.{flag-wrong, priority-wrong, flag-given, priority-alone, none-given}
-use Rattle.compose.proofs.checks.check_given.Statement.{statement}
-use Rattle.compose.proofs.checks.check_given.Tie as tie
+use Rattle.compose_checks.specs.CheckLaws.{flag-wrong, priority-wrong, flag-given, priority-alone, none-given}
+use Rattle.compose_checks.proofs.check_given.Statement.{statement}
+use Rattle.compose_checks.proofs.check_given.Tie as tie
 
 returns : tie.Need-returns
 returns c = let a = c .before .args in flag-wrong (a .flag) (a .priority) (c .if1 .taken)

@@ -9,7 +9,7 @@ use Rattle.model.specs.Layout.{imageSize, messageRoom, lineSize, fieldLimit}
 use Rattle.model.specs.Codes.{composeContent}
 use Rattle.order.specs.TestLaws.{and-l, and-r}
 use Rattle.commands.specs.CommandTests.{commandsRight}
-use Rattle.compose.specs.Checks.{sizesRight, givenRight}
+use Rattle.compose_checks.specs.Checks.{sizesRight, givenRight}
 
 -- ---- the sizes, as facts
 pub record Sizes (image room line : ℕ) : Type 0 where

@@ -5,10 +5,10 @@ use lib.Dec.{eqb, ltb}
 use Rattle.model.specs.Layout.{messageRoom, lineSize}
 use Rattle.message.specs.declared.checks.Check.{Check}
 use Rattle.message.specs.Check.{right}
-use Rattle.compose.specs.Checks.{sizesRight}
+use Rattle.compose_checks.specs.Checks.{sizesRight}
 use borrow.Author.Needs.{needs}
-use Rattle.compose.proofs.checks.check_sizes.Statement.{statement}
-use Rattle.compose.proofs.checks.check_sizes.Tie as tie
+use Rattle.compose_checks.proofs.check_sizes.Statement.{statement}
+use Rattle.compose_checks.proofs.check_sizes.Tie as tie
 
 -- the test, by what was told of the image; and of the buffer too
 by-image : (c : tie.After-check-image-size) {k : Check} → c .check-image-size .result ≡ k → let a = c .before .args in

@@ -5,10 +5,10 @@ use Rattle.model.specs.Codes.{composeContent}
 use Rattle.message.specs.declared.checks.Check.{Check}
 use Rattle.message.specs.Check.{right}
 use Rattle.commands.specs.CommandTests.{commandsRight}
-use Rattle.compose.specs.CheckLaws.{content-parts}
+use Rattle.compose_checks.specs.CheckLaws.{content-parts}
 use borrow.Author.Needs.{needs}
-use Rattle.compose.proofs.checks.check_content.Statement.{statement}
-use Rattle.compose.proofs.checks.check_content.Tie as tie
+use Rattle.compose_checks.proofs.check_content.Statement.{statement}
+use Rattle.compose_checks.proofs.check_content.Tie as tie
 
 -- the test, by what was told of flag and priority
 told : (c : tie.After-check-given) {k : Check} → c .check-given .result ≡ k → let a = c .before .before .args in

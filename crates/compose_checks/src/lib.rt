@@ -8,7 +8,7 @@ use sizes::check_message_room;
 ghost use mathlib.Core.Path.{_≡_};
 ghost use Rattle.model.specs.Codes.{composeContent};
 ghost use Rattle.message.specs.Check.{right};
-ghost use Rattle.compose.specs.Checks.{sizesRight, givenRight};
+ghost use Rattle.compose_checks.specs.Checks.{sizesRight, givenRight};
 
 // Code 1: the sizes of the image, of the message buffer and of the line.
 pub fn check_sizes(image: usize, room: usize, line: usize) -> Check
