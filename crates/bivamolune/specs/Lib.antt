@@ -4,3 +4,5 @@ pub mod Answers
 pub mod AnswerLaws
 pub mod ReadAnswers
 pub mod ReadAnswerLaws
+pub mod ComposeAnswers
+pub mod ComposeAnswerLaws

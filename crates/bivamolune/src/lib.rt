@@ -1,4 +1,5 @@
 // The calls that a station's host makes, for C: numbers and byte slices, a slice as a pointer and a length.
+pub mod composition;
 mod packing;
 pub mod reads;
 

@@ -32,7 +32,7 @@ pub fn ready(rows: &[u8], counts: &[u8], placed: &[u8], i: usize) -> bool
 }
 
 // The greater of two numbers.
-fn greater(a: u32, b: u32) -> u32
+pub fn greater(a: u32, b: u32) -> u32
     ensures { λ r. ⌜ r ≡ max a b ⌝ }
 {
     if a < b {

@@ -34,6 +34,9 @@ pub const HEADER_SIZE: usize = 40;
 
 pub const SEQUENCE_SIZE: usize = 12;
 
+// a line is the first bytes of a sequence
+pub const LINE_SIZE: usize = 10;
+
 // how many numbers a line has, 0000 among them
 pub const NUMBERS_OF_LINE: u32 = 65536;
 

@@ -64,7 +64,7 @@ begins given b e = (
     left emptying.Done i = refl
     left emptying.WrongSize i = refl
 
-answers : (b : List ℕ) (c : Call) (a : Delivered) → Called b c a → Answers b c a
+pub answers : (b : List ℕ) (c : Call) (a : Delivered) → Called b c a → Answers b c a
 answers b (delivery m steps) a d =
     d .answer ∙ d .post ∙ ap₂ (λ (x y : List ℕ). deliver x y (now (d .steps-entry))) (sym (d .image)) (sym (d .sent)) ∙ ap (deliver b m) (sym (d .lent))
 

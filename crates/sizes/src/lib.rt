@@ -1,11 +1,13 @@
 // Code 1: the sizes of the buffers that a call is handed.
 use layout::IMAGE_SIZE;
+use layout::LINE_SIZE;
+use layout::LONGEST_MESSAGE;
 use layout::STEP_ROOM;
 use message::checks::Check;
 ghost use mathlib.Core.Path.{_≡_};
 ghost use mathlib.Core.Bool.{not};
-ghost use lib.Dec.{eqb};
-ghost use Rattle.model.specs.Layout.{imageSize};
+ghost use lib.Dec.{eqb, ltb};
+ghost use Rattle.model.specs.Layout.{imageSize, lineSize, messageRoom};
 ghost use Rattle.model.specs.Codes.{smallSteps};
 ghost use Rattle.message.specs.Check.{right};
 
@@ -24,6 +26,26 @@ pub fn check_step_room(size: usize) -> Check
     ensures { λ r. ⌜ right r ≡ not (smallSteps size) ⌝ }
 {
     if size < STEP_ROOM {
+        return Check::Wrong;
+    }
+    Check::Right
+}
+
+// A line: exactly its size.
+pub fn check_line_size(size: usize) -> Check
+    ensures { λ r. ⌜ right r ≡ eqb size lineSize ⌝ }
+{
+    if size != LINE_SIZE {
+        return Check::Wrong;
+    }
+    Check::Right
+}
+
+// A buffer for a composed message: room for the longest one.
+pub fn check_message_room(size: usize) -> Check
+    ensures { λ r. ⌜ right r ≡ not (ltb size messageRoom) ⌝ }
+{
+    if size < LONGEST_MESSAGE {
         return Check::Wrong;
     }
     Check::Right

@@ -1,0 +1,110 @@
+// Compose: a station writes a new message.
+pub mod answer;
+pub mod drafted;
+
+use crate::answer::Composition;
+use crate::drafted::write_draft;
+use commands::commands_sized;
+use compose_checks::check_content;
+use compose_checks::check_sizes;
+use composing::drafting::Drafting;
+use composing::drafting::draft_delta;
+use composing::line::check_line;
+use composing::line::read_line;
+use judged::judging::Station;
+use judged::judging::read_station;
+use message::checks::Check;
+ghost use mathlib.Core.Path.{_≡_};
+ghost use Rattle.model.specs.Bytes.{number};
+ghost use Rattle.model.specs.Image.{stateIn};
+ghost use Rattle.model.specs.Calls as model;
+ghost use Rattle.table.specs.Table.{setIn};
+ghost use Rattle.compose.specs.Answer.{composedBy};
+ghost use Rattle.compose.specs.Stages.{lateAnswer, Composable, ComposableAt};
+
+// Composes behind a log, whose places are given: codes 9 to 11, and the message.
+fn compose_behind(
+    pool: &[u8],
+    starts: &[u16],
+    places: &[u8],
+    line: &[u8],
+    commands: &[u8],
+    flag: u32,
+    priority: u32,
+    message: &mut [u8],
+) -> Composition
+    requires { ⌜ Composable (now pool) (now starts) (now places) (now line) (now commands) flag priority (now message) ⌝ }
+    ensures { λ r. ⌜ composedBy r (now (message .exit)) ≡ lateAnswer (setIn (now (pool .entry)) (now (starts .entry))) (number (now (line .entry))) (now (commands .entry)) flag priority (now (message .entry)) ⌝ }
+{
+    let first = read_line(line);
+    let free = check_line(pool, starts, places, first);
+    let Check::Right = free else {
+        return Composition::HeldLine;
+    };
+    let drafting = draft_delta(pool, starts, places, first, flag, priority);
+    let Drafting::Fits(draft) = drafting else {
+        return Composition::PastLimit;
+    };
+    write_draft(pool, starts, places, draft, commands, message)
+}
+
+// Composes at a judged station.
+fn compose_at(
+    image: &[u8],
+    station: Station,
+    line: &[u8],
+    commands: &[u8],
+    flag: u32,
+    priority: u32,
+    message: &mut [u8],
+) -> Composition
+    requires { ⌜ ComposableAt (now image) station (now line) (now commands) flag priority (now message) ⌝ }
+    ensures { λ r. ⌜ composedBy r (now (message .exit)) ≡ lateAnswer (stateIn (now (image .entry))) (number (now (line .entry))) (now (commands .entry)) flag priority (now (message .entry)) ⌝ }
+{
+    let table = station.table;
+    let starts = table.starts;
+    let count = table.count;
+    let places = station.places;
+    let logged = station.logged;
+    compose_behind(
+        image,
+        &starts[..count],
+        &places[..logged],
+        line,
+        commands,
+        flag,
+        priority,
+        message,
+    )
+}
+
+// Composes a message on a line: it stands at the front of its buffer, the rest unchanged. A refusal writes nothing.
+pub fn compose(
+    image: &[u8],
+    line: &[u8],
+    commands: &[u8],
+    flag: u32,
+    priority: u32,
+    message: &mut [u8],
+) -> Composition
+    ensures { λ r. ⌜ composedBy r (now (message .exit)) ≡ model.compose (now (image .entry)) (now (line .entry)) (now (commands .entry)) flag priority (now (message .entry)) ⌝ }
+{
+    let sizes = check_sizes(image.len(), message.len(), line.len());
+    let Check::Right = sizes else {
+        return Composition::WrongSize;
+    };
+    let station = read_station(image);
+    let check = station.check;
+    let Check::Right = check else {
+        return Composition::NoImage;
+    };
+    let sized = commands_sized(commands);
+    let Check::Right = sized else {
+        return Composition::WrongLayout;
+    };
+    let content = check_content(commands, flag, priority);
+    let Check::Right = content else {
+        return Composition::WrongContent;
+    };
+    compose_at(image, station, line, commands, flag, priority, message)
+}

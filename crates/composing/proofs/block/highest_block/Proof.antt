@@ -1,0 +1,91 @@
+-- The highest so far and those that are left make up the highest.
+use mathlib.Core.Path.{_≡_, sym, _∙_, ap}
+use Prim.Native.Nat.{ℕ, _+_, _-_, _≤_, _<_, max}
+use native.Mathlib.Omega.{arith}
+use lib.ListN.{length, getD, drop}
+use borrow.Author.Needs.{needs}
+use Rattle.model.specs.Lists.{greatest}
+use Rattle.order.specs.ScanLaws.{greatest-step, greatest-end}
+use Rattle.table.specs.PlaceLaws.{below-at}
+use Rattle.composing.proofs.block.highest_block.Statement.{statement}
+use Rattle.composing.proofs.block.highest_block.Tie as tie
+
+abbrev Inv-loop : tie.InvT-loop
+Inv-loop blocks places highest₀ k₀ highest k =
+    (k ≤ length places) × (greatest (λ i. getD blocks i 0) places ≡ max highest (greatest (λ i. getD blocks i 0) (drop k places)))
+
+abbrev μ-loop : tie.MeasureT-loop
+μ-loop blocks places highest₀ k₀ highest k = length places - k
+
+-- where the call began, and the head of the loop from where the place was read
+abbrev start : tie.At-loop Inv-loop μ-loop → tie.Start Inv-loop μ-loop
+start h = h .before .before .before
+
+abbrev turn : tie.After-shared-slice-known3 Inv-loop μ-loop → tie.At-loop Inv-loop μ-loop
+turn c = c .before .before
+
+-- the place of a turn has a block
+below : (c : tie.After-shared-slice-known3 Inv-loop μ-loop) → getD (start (turn c) .args .places .now) (turn c .loop .k) 0 < length (start (turn c) .args .blocks .now)
+below c = let s = start (turn c) in below-at (length (s .args .blocks .now)) (s .args .places .now) (s .pre) (turn c .loop .k) (omega arith)
+
+loop-holds : tie.Need-loop-holds Inv-loop μ-loop
+loop-holds c = (omega arith, omega arith)
+
+shared-slice-read-i : tie.Need-shared-slice-read-i Inv-loop μ-loop
+shared-slice-read-i c = omega arith
+
+cast-i : tie.Need-cast-i Inv-loop μ-loop
+cast-i c = omega (arith, c .shared-slice-known3 .given (turn c .loop .k))
+
+mul-greater : tie.Need-mul-greater Inv-loop μ-loop
+mul-greater c = omega (arith, c .shared-slice-known3 .given (turn c .loop .k))
+
+shared-slice-read-greater : tie.Need-shared-slice-read-greater Inv-loop μ-loop
+shared-slice-read-greater c = omega (arith, below (c .before))
+
+greater-requires : tie.Need-greater-requires Inv-loop μ-loop
+greater-requires c κs = search needs
+
+add-k : tie.Need-add-k Inv-loop μ-loop
+add-k c = omega arith
+
+loop-less : tie.Need-loop-less Inv-loop μ-loop
+loop-less c = omega arith
+
+regroup : (a b c : ℕ) → max a (max b c) ≡ max (max a b) c
+regroup a b c = omega arith
+
+loop-again : tie.Need-loop-again Inv-loop μ-loop
+loop-again c =
+    let h = turn (c .before .before) in
+    let l = h .loop in
+    let a = start h .args in
+    let f : ℕ → ℕ = λ i. getD (a .blocks .now) i 0 in
+    let rest = greatest f (drop (l .k + 1) (a .places .now)) in (
+      omega arith,
+      l .inv .1 ∙ ap (max (l .highest)) (greatest-step f (a .places .now) (l .k) 0 (omega arith)) ∙ regroup (l .highest) (f (getD (a .places .now) (l .k) 0)) rest
+          ∙ ap (λ (x : ℕ). max x rest) (sym (c .greater .ensures)),
+    )
+
+returns : tie.Need-returns Inv-loop μ-loop
+returns c =
+    let h = c .before in
+    let a = start h .args in
+    sym (h .loop .inv .1 ∙ ap (max (h .loop .highest)) (greatest-end (λ i. getD (a .blocks .now) i 0) (a .places .now) (h .loop .k) (omega arith)) ∙ omega arith)
+
+pub highest-block-spec : {M : Type 1} → statement M
+highest-block-spec =
+    tie.close
+    (tie.spec
+    Inv-loop
+    μ-loop
+    loop-holds
+    shared-slice-read-i
+    cast-i
+    mul-greater
+    shared-slice-read-greater
+    greater-requires
+    add-k
+    loop-less
+    loop-again
+    returns)

@@ -1,0 +1,109 @@
+-- Number, group and block in turn: the first that passes its limit decides.
+use mathlib.Core.Path.{_≡_, _∙_, ap, ap₂}
+use mathlib.Core.Bool.{Bool}
+use mathlib.Core.List.{List}
+use Prim.Native.Nat.{ℕ, _+_, _*_}
+use native.Mathlib.Omega.{arith}
+use lib.Dec.{eqb}
+use Rattle.model.specs.Layout.{numbersOfLine}
+use Rattle.model.specs.Message.{Message, lineOf}
+use Rattle.model.specs.Order.{State, logOf}
+use Rattle.model.specs.Compose.{newNumber, newSequence, newGroup}
+use Rattle.sequence.specs.Sequence.{sequenceNumber}
+use Rattle.table.specs.Table.{setIn}
+use Rattle.image.specs.LogPlaceLaws.{log-inside}
+use Rattle.composing.specs.Drafting.{priorityBy}
+use Rattle.composing.specs.DraftingLaws.{numbered, past-number, past-group, past-block, past-none}
+use borrow.Author.Needs.{needs}
+use Rattle.composing.proofs.drafting.draft_delta.Statement.{statement}
+use Rattle.composing.proofs.drafting.draft_delta.Tie as tie
+
+-- where the call began, from where the number is known; and that from where the group and the block are
+abbrev began : tie.After-new-number → tie.Start
+began c = c .before .before .before .before
+
+abbrev counted : tie.After-new-group → tie.After-new-number
+counted c = c .before .before .before
+
+abbrev grouped : tie.After-new-block → tie.After-new-group
+grouped c = c .before .before
+
+abbrev set : tie.Start → State
+set s = setIn (s .args .pool .now) (s .args .starts .now)
+
+abbrev line : tie.Start → ℕ
+line s = lineOf (sequenceNumber (s .args .line))
+
+abbrev flag : tie.Start → Bool
+flag s = eqb (s .args .flag) 1
+
+-- the number, the sequence and the group are the log's
+number-is : (c : tie.After-new-number) → c .new-number .result ≡ newNumber (logOf (set (began c))) (line (began c))
+number-is c = let s = began c in c .new-number .ensures .0 ∙ ap (λ (l : List Message). newNumber l (line s)) (s .pre .0 .log)
+
+own-is : (c : tie.After-new-number) → let s = began c in
+    sequenceNumber (record { high = s .args .line .high; low = s .args .line .low + c .new-number .result }) ≡ newSequence (logOf (set s)) (line s)
+own-is c = let s = began c in numbered (s .args .line) (c .new-number .result) (s .pre .1) ∙ ap (λ (n : ℕ). line s * numbersOfLine + n) (number-is c)
+
+group-is : (c : tie.After-new-group) → let s = began (counted c) in c .new-group .result ≡ newGroup (logOf (set s)) (newSequence (logOf (set s)) (line s))
+group-is c = let s = began (counted c) in c .new-group .ensures ∙ ap₂ newGroup (s .pre .0 .log) (own-is (counted c))
+
+new-number-requires : tie.Need-new-number-requires
+new-number-requires c κs = let s = c .before .before .before in log-inside (s .args .pool .now) (s .args .starts .now) (s .args .places .now) (s .pre .0)
+
+returns : tie.Need-returns
+returns c = let n = c .before in let s = began n in past-number (set s) (line s) (flag s) (n .new-number .result) (number-is n) (c .if1 .taken)
+
+add-t13 : tie.Need-add-t13
+add-t13 c = search needs
+
+new-group-requires : tie.Need-new-group-requires
+new-group-requires c κs = let s = began (c .before .before) in log-inside (s .args .pool .now) (s .args .starts .now) (s .args .places .now) (s .pre .0)
+
+returns-2 : tie.Need-returns-2
+returns-2 c =
+    let g = c .before in
+    let n = counted g in
+    let s = began n in
+    past-group (set s) (line s) (flag s) (n .new-number .result) (number-is n) (omega arith) (g .new-group .result) (group-is g) (c .if2 .taken)
+
+new-block-requires : tie.Need-new-block-requires
+new-block-requires c κs = search needs
+
+returns-3 : tie.Need-returns-3
+returns-3 c =
+    let b = c .before in
+    let g = grouped b in
+    let n = counted g in
+    let s = began n in
+    past-block (set s) (line s) (flag s) (n .new-number .result) (number-is n) (omega arith) (g .new-group .result) (group-is g) (omega arith) (b .new-block .result) (b .new-block .ensures) (c .if3 .taken)
+
+priority-of-requires : tie.Need-priority-of-requires
+priority-of-requires c κs = search needs
+
+returns-4 : tie.Need-returns-4
+returns-4 c =
+    let b = c .before .before in
+    let g = grouped b in
+    let n = counted g in
+    let s = began n in
+    record {
+      within = past-none (set s) (line s) (flag s) (n .new-number .result) (number-is n) (omega arith) (g .new-group .result) (group-is g) (omega arith) (b .new-block .result) (b .new-block .ensures) (omega arith);
+      sequence = own-is n;
+      group = group-is g;
+      priority-is = c .priority-of .ensures ∙ ap (λ (x : ℕ). priorityBy (flag s) x (s .args .priority)) (b .new-block .ensures);
+    }
+
+pub draft-delta-spec : {M : Type 1} → statement M
+draft-delta-spec =
+    tie.close
+    (tie.spec
+    new-number-requires
+    returns
+    add-t13
+    new-group-requires
+    returns-2
+    new-block-requires
+    returns-3
+    priority-of-requires
+    returns-4)

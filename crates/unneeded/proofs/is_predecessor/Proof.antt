@@ -1,0 +1,39 @@
+-- None or one is the predecessor, and that one is compared.
+use mathlib.Core.Path.{sym, _∙_, ap}
+use Rattle.model.specs.Lists.{has}
+use lib.Dec.{eqb}
+use Rattle.sequence.specs.Sequence.{sequenceNumber, predecessorList}
+use Rattle.unneeded.specs.MarkLaws.{or-false}
+use borrow.Author.Needs.{needs}
+use Rattle.unneeded.proofs.is_predecessor.Statement.{statement}
+use Rattle.unneeded.proofs.is_predecessor.Tie as tie
+
+predecessor-of-requires : tie.Need-predecessor-of-requires
+predecessor-of-requires c κs = search needs
+
+enum-known-before : tie.Need-enum-known-before
+enum-known-before c = search needs
+
+enum-told : tie.Need-enum-told
+enum-told c = search needs
+
+returns : tie.Need-returns
+returns c =
+    let p = c .before .before in
+    ap (has (sequenceNumber (p .before .args .x))) (sym (ap predecessorList (c .enum-told .given .1)) ∙ p .predecessor-of .ensures)
+
+equal-requires : tie.Need-equal-requires
+equal-requires c κs = search needs
+
+returns-2 : tie.Need-returns-2
+returns-2 c =
+    let known = c .before .before in
+    let p = known .before .before in
+    let x = sequenceNumber (p .before .args .x) in
+    c .equal .ensures ∙ sym (or-false (eqb x (sequenceNumber (known .before2 .given .0 .0))))
+    ∙ ap (has x) (sym (ap predecessorList (known .before2 .given .1)) ∙ p .predecessor-of .ensures)
+
+pub is-predecessor-spec : {M : Type 1} → statement M
+is-predecessor-spec =
+    tie.close
+    (tie.spec predecessor-of-requires enum-known-before enum-told returns equal-requires returns-2)

@@ -1,0 +1,5 @@
+pub mod Marks
+pub mod MarkLaws
+pub mod Unneeded
+pub mod UnneededLaws
+pub mod FindingLaws

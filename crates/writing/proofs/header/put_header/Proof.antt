@@ -1,0 +1,53 @@
+-- Each case of the priority has its own numbers.
+use mathlib.Core.Path.{sym, _∙_, ap}
+use Rattle.message.specs.declared.header.Priority.{Priority}
+use Rattle.image.specs.Pieces.{pasted}
+use Rattle.writing.specs.Writing.{headerWith}
+use borrow.Author.Needs.{needs}
+use Rattle.writing.proofs.header.put_header.Statement.{statement}
+use Rattle.writing.proofs.header.put_header.Tie as tie
+
+enum-told : tie.Need-enum-told
+enum-told c = search needs
+
+put-parts-requires : tie.Need-put-parts-requires
+put-parts-requires c κs = search needs
+
+enum-known-given : tie.Need-enum-known-given
+enum-known-given c = search needs
+
+put-parts-requires-2 : tie.Need-put-parts-requires-2
+put-parts-requires-2 c κs = search needs
+
+same-length : tie.Need-same-length
+same-length c = search needs
+
+returns : tie.Need-returns
+returns c =
+    let put = c .before .before in
+    let told = put .before .before in
+    let a = told .before .before .before .args in
+    put .put-parts .ensures ∙ ap (λ (p : Priority). pasted (a .message .now) 0 (headerWith (a .h) p)) (sym (told .enum-told .given .1))
+
+same-length-2 : tie.Need-same-length-2
+same-length-2 c = search needs
+
+returns-2 : tie.Need-returns-2
+returns-2 c =
+    let put = c .before .before in
+    let given = put .before .before .before in
+    let a = given .before .before .before .args in
+    put .put-parts2 .ensures ∙ ap (λ (p : Priority). pasted (a .message .now) 0 (headerWith (a .h) p)) (sym (given .given .given .1))
+
+pub put-header-spec : {M : Type 1} → statement M
+put-header-spec =
+    tie.close
+    (tie.spec
+    enum-told
+    put-parts-requires
+    enum-known-given
+    put-parts-requires-2
+    same-length
+    returns
+    same-length-2
+    returns-2)

@@ -1,0 +1,81 @@
+-- Each number is written behind the one before it.
+use mathlib.Core.Path.{_∙_, ap}
+use mathlib.Core.List.{List}
+use Prim.Native.Nat.{ℕ}
+use lib.Seq.{paste}
+use Rattle.model.specs.Bytes.{bytes}
+use Rattle.model.specs.Layout.{headerSize, dependenciesOffsetAt, commandsOffsetAt, firstZerosAt}
+use Rattle.model.specs.Message.{commandsStart}
+use Rattle.writing.specs.WritingLaws.{offsets-pasted}
+use borrow.Author.Needs.{needs}
+use Rattle.writing.proofs.header.put_offsets.Statement.{statement}
+use Rattle.writing.proofs.header.put_offsets.Tie as tie
+
+mul-start : tie.Need-mul-start
+mul-start c = search needs
+
+add-start : tie.Need-add-start
+add-start c = search needs
+
+mul-total : tie.Need-mul-total
+mul-total c = search needs
+
+add-total : tie.Need-add-total
+add-total c = search needs
+
+cast-put-u16 : tie.Need-cast-put-u16
+cast-put-u16 c = search needs
+
+put-u16-requires : tie.Need-put-u16-requires
+put-u16-requires c κs = search needs
+
+cast-put-u16-2 : tie.Need-cast-put-u16-2
+cast-put-u16-2 c = search needs
+
+put-u16-requires-2 : tie.Need-put-u16-requires-2
+put-u16-requires-2 c κs = search needs
+
+cast-put-u16-3 : tie.Need-cast-put-u16-3
+cast-put-u16-3 c = search needs
+
+put-u16-requires-3 : tie.Need-put-u16-requires-3
+put-u16-requires-3 c κs = search needs
+
+put-u16-requires-4 : tie.Need-put-u16-requires-4
+put-u16-requires-4 c κs = search needs
+
+same-length : tie.Need-same-length
+same-length c = search needs
+
+returns : tie.Need-returns
+returns c =
+    let zeros = c .before .before in
+    let commands = zeros .before .before .before .before in
+    let dependencies = commands .before .before .before .before in
+    let total = dependencies .before .before .before .before in
+    let s = total .before .before .before in
+    let a = s .args in
+    zeros .put-u164 .ensures
+    ∙ ap (λ (b : List ℕ). paste b firstZerosAt (bytes 2 0) 2)
+    (commands .put-u163 .ensures
+    ∙ ap (λ (b : List ℕ). paste b commandsOffsetAt (bytes 2 (commandsStart (a .dependencies))) 2)
+    (dependencies .put-u162 .ensures ∙ ap (λ (b : List ℕ). paste b dependenciesOffsetAt (bytes 2 headerSize) 2) (total .put-u16 .ensures)))
+    ∙ offsets-pasted (a .message .now) (s .pre .0) (a .dependencies) (a .commands)
+
+pub put-offsets-spec : {M : Type 1} → statement M
+put-offsets-spec =
+    tie.close
+    (tie.spec
+    mul-start
+    add-start
+    mul-total
+    add-total
+    cast-put-u16
+    put-u16-requires
+    cast-put-u16-2
+    put-u16-requires-2
+    cast-put-u16-3
+    put-u16-requires-3
+    put-u16-requires-4
+    same-length
+    returns)

@@ -1,0 +1,54 @@
+-- The four parts stand one behind the other.
+use mathlib.Core.Path.{_∙_, ap}
+use mathlib.Core.List.{List}
+use Prim.Native.Nat.{ℕ}
+use Rattle.model.specs.Bytes.{bytes}
+use Rattle.model.specs.Layout.{lengthAt, sequenceAt, groupAt, sequenceSize}
+use Rattle.sequence.specs.Sequence.{sequenceNumber}
+use Rattle.image.specs.Pieces.{pasted}
+use Rattle.writing.specs.Writing.{offsetsBytes, fieldsBytes}
+use Rattle.writing.specs.WritingLaws.{header-pasted}
+use borrow.Author.Needs.{needs}
+use Rattle.writing.proofs.header.put_parts.Statement.{statement}
+use Rattle.writing.proofs.header.put_parts.Tie as tie
+
+put-counts-requires : tie.Need-put-counts-requires
+put-counts-requires c κs = search needs
+
+put-offsets-requires : tie.Need-put-offsets-requires
+put-offsets-requires c κs = search needs
+
+put-sequence-requires : tie.Need-put-sequence-requires
+put-sequence-requires c κs = search needs
+
+put-fields-requires : tie.Need-put-fields-requires
+put-fields-requires c κs = search needs
+
+same-length : tie.Need-same-length
+same-length c = search needs
+
+returns : tie.Need-returns
+returns c =
+    let fields = c .before .before in
+    let own = fields .before .before .before .before in
+    let offsets = own .before .before .before .before in
+    let counts = offsets .before .before .before .before in
+    let s = counts .before .before .before .before in
+    let a = s .args in
+    fields .put-fields .ensures
+    ∙ ap (λ (b : List ℕ). pasted b groupAt (fieldsBytes (a .h .group) (a .block) (a .priority)))
+    (own .put-sequence .ensures
+    ∙ ap (λ (b : List ℕ). pasted b sequenceAt (bytes sequenceSize (sequenceNumber (a .h .sequence))))
+    (offsets .put-offsets .ensures ∙ ap (λ (b : List ℕ). pasted b lengthAt (offsetsBytes (a .h .dependencies) (a .h .commands))) (counts .put-counts .ensures)))
+    ∙ header-pasted (a .message .now) (s .pre .0) (a .flag) (sequenceNumber (a .h .sequence)) (a .h .group) (a .block) (a .priority) (a .h .dependencies) (a .h .commands)
+
+pub put-parts-spec : {M : Type 1} → statement M
+put-parts-spec =
+    tie.close
+    (tie.spec
+    put-counts-requires
+    put-offsets-requires
+    put-sequence-requires
+    put-fields-requires
+    same-length
+    returns)

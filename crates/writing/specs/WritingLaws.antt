@@ -1,0 +1,124 @@
+-- The pieces of a message, pasted one behind the other, are the message at the front of the buffer.
+use mathlib.Core.Path.{_≡_, refl, sym, _∙_, ap, ap₂}
+use mathlib.Core.Bool.{Bool, true, false, cond}
+use mathlib.Core.List.{List, [], _∷_, _++_, map, append-nil, append-assoc, Memᴰ·of-map}
+use Prim.Native.Nat.{ℕ, _+_, _*_, _/_, _%_, _≤_, _<_}
+use native.Mathlib.Omega.{arith}
+use native.Mathlib.Numerals.{add-one}
+use lib.ListN.{length, set, take, drop, getD, length-append, length-map}
+use lib.Seq.{paste, set-split, append-snoc, drop-cons, take-length}
+use Rattle.model.specs.Bytes.{bytes}
+use Rattle.model.specs.Layout.{kindAt, priorityFlagAt, dependencyCountAt, commandCountAt, lengthAt, dependenciesOffsetAt, commandsOffsetAt, firstZerosAt, sequenceAt, groupAt, blockAt, priorityAt, lastZerosAt, headerSize, sequenceSize, commandSize}
+use Rattle.model.specs.Message.{commandsStart, totalLength}
+use Rattle.model.specs.Compose.{messageOf}
+use Rattle.model.specs.Calls.{written}
+use Rattle.wire_laws.specs.BytesLaws.{length-bytes, length-join}
+use Rattle.sequence.specs.declared.Sequence.{Sequence}
+use Rattle.sequence.specs.Sequence.{sequenceNumber}
+use Rattle.message.specs.declared.header.Header.{Header}
+use Rattle.message.specs.declared.header.Priority.{Priority}
+use Rattle.message.specs.declared.header.Priority.the-variants.{Absent, Given}
+use Rattle.buffer.specs.FieldLaws.{bytes-low}
+use Rattle.buffer.specs.PasteLaws.{paste-halves}
+use Rattle.image.specs.Pieces.{pasted}
+use Rattle.image.specs.PieceLaws.{pasted-pasted, order-pasted}
+use Rattle.writing.specs.Writing.{countsBytes, offsetsBytes, fieldsBytes, headerBytes, headerWith, headerFor, sequencesBytes, messageWith, messageFor}
+
+-- ---- the header
+pub byte-pasted : (d : List ℕ) (at v : ℕ) → at < length d → set d at v ≡ pasted d at (v ∷ [])
+byte-pasted d at v h = set-split d at v h ∙ ap (λ (n : ℕ). take at d ++ v ∷ drop n d) (sym (add-one at)) ∙ sym (append-snoc (take at d) v (drop (at + 1) d))
+
+module _ (d : List ℕ) (room : headerSize ≤ length d) where
+  pub counts-pasted : (flag D C : ℕ)
+      → pasted (pasted (pasted (pasted d kindAt (1 ∷ [])) priorityFlagAt (flag ∷ [])) dependencyCountAt (D ∷ [])) commandCountAt (C ∷ []) ≡ pasted d kindAt (countsBytes flag D C)
+  counts-pasted flag D C = order-pasted d kindAt ((1 ∷ []) ∷ (flag ∷ []) ∷ (D ∷ []) ∷ (C ∷ []) ∷ []) (omega arith)
+
+  pub offsets-pasted : (D C : ℕ)
+      → paste (paste (paste (paste d lengthAt (bytes 2 (totalLength D C)) 2) dependenciesOffsetAt (bytes 2 headerSize) 2) commandsOffsetAt (bytes 2 (commandsStart D)) 2) firstZerosAt (bytes 2 0) 2
+      ≡ pasted d lengthAt (offsetsBytes D C)
+  offsets-pasted D C = order-pasted d lengthAt (bytes 2 (totalLength D C) ∷ bytes 2 headerSize ∷ bytes 2 (commandsStart D) ∷ bytes 2 0 ∷ []) (omega arith)
+
+  pub fields-pasted : (group block priority : ℕ)
+      → paste (paste (paste (paste d groupAt (bytes 4 group) 4) blockAt (bytes 4 block) 4) priorityAt (bytes 4 priority) 4) lastZerosAt (bytes 4 0) 4
+      ≡ pasted d groupAt (fieldsBytes group block priority)
+  fields-pasted group block priority = order-pasted d groupAt (bytes 4 group ∷ bytes 4 block ∷ bytes 4 priority ∷ bytes 4 0 ∷ []) room
+
+  pub header-pasted : (flag s group block priority D C : ℕ)
+      → pasted (pasted (pasted (pasted d kindAt (countsBytes flag D C)) lengthAt (offsetsBytes D C)) sequenceAt (bytes sequenceSize s)) groupAt (fieldsBytes group block priority)
+      ≡ pasted d 0 (headerBytes flag s group block priority D C)
+  header-pasted flag s group block priority D C = order-pasted d 0 (countsBytes flag D C ∷ offsetsBytes D C ∷ bytes sequenceSize s ∷ fieldsBytes group block priority ∷ []) room
+
+-- ---- a sequence: its eight high bytes, and its four low ones
+pub sequence-pasted : (d : List ℕ) (at : ℕ) (s : Sequence) → at + sequenceSize ≤ length d → s .low < 4294967296
+    → paste (paste d at (bytes 8 (s .high)) 8) (at + 8) (bytes 4 (s .low)) 4 ≡ pasted d at (bytes sequenceSize (sequenceNumber s))
+sequence-pasted d at s h k =
+    let n = sequenceNumber s in
+    let top : s .high ≡ n / 4294967296 = omega arith in
+    let rest : n % 4294967296 ≡ s .low = omega arith in
+    ap₂ (λ (x : ℕ) (y : List ℕ). paste (paste d at (bytes 8 x) 8) (at + 8) y 4) top (ap (bytes 4) (sym rest) ∙ bytes-low 4 0 n) ∙ paste-halves d at 8 4 n (omega arith)
+
+pub length-sequences : (names : List ℕ) → length (sequencesBytes names) ≡ sequenceSize * length names
+length-sequences names =
+    length-join sequenceSize (map (bytes sequenceSize) names) (λ b k. let r = Memᴰ·of-map (bytes sequenceSize) names k in ap length (sym (r .2)) ∙ length-bytes sequenceSize (r .0))
+    ∙ omega (arith, length-map names (bytes sequenceSize))
+
+-- one sequence, and those behind it
+pub sequences-next : (d : List ℕ) (at : ℕ) (names : List ℕ) (k n : ℕ) → k < length names → n ≡ getD names k 0 → at + sequenceSize ≤ length d
+    → pasted (pasted d at (bytes sequenceSize n)) (at + sequenceSize) (sequencesBytes (drop (k + 1) names)) ≡ pasted d at (sequencesBytes (drop k names))
+sequences-next d at names k n h e room =
+    pasted-pasted d at (bytes sequenceSize n) (sequencesBytes (drop (k + 1) names)) room
+    ∙ ap (λ (l : List ℕ). pasted d at (sequencesBytes l)) (ap₂ (λ (x i : ℕ). x ∷ drop i names) e (add-one k) ∙ sym (drop-cons names k 0 h))
+
+-- ---- header, sequences and commands
+message-pieces : (flag : Bool) (s group block priority : ℕ) (deps commands : List ℕ) (D C : ℕ) → D ≡ length deps → C ≡ length commands / commandSize
+    → headerBytes (cond flag 1 0) s group block priority D C ++ sequencesBytes deps ++ commands ≡ messageOf flag s group block priority deps commands
+message-pieces flag s group block priority deps commands D C d c =
+    ap₂ (λ (x y : ℕ). headerBytes (cond flag 1 0) s group block priority x y ++ sequencesBytes deps ++ commands) d c
+
+module _ (h : Header) where
+  pub message-is : (deps commands : List ℕ) → h .dependencies ≡ length deps → h .commands ≡ length commands / commandSize
+      → headerFor h ++ sequencesBytes deps ++ commands ≡ messageFor h deps commands
+  unfolding messageFor
+  message-is deps commands d c = go (h .priority)
+    where
+      go : (p : Priority) → headerWith h p ++ sequencesBytes deps ++ commands ≡ messageWith h p deps commands
+      go Absent = message-pieces false (sequenceNumber (h .sequence)) (h .group) 0 0 deps commands (h .dependencies) (h .commands) d c
+      go (Given block priority) = message-pieces true (sequenceNumber (h .sequence)) (h .group) block priority deps commands (h .dependencies) (h .commands) d c
+
+  pub header-length : length (headerFor h) ≡ headerSize
+  header-length = go (h .priority)
+    where
+      go : (p : Priority) → length (headerWith h p) ≡ headerSize
+      go Absent = refl
+      go (Given block priority) = refl
+
+-- a piece at the front
+pub front-written : (x d : List ℕ) → pasted d 0 x ≡ written x d
+front-written x d = ap₂ (λ (y : List ℕ) (n : ℕ). y ++ drop n d) {u = 0 + length x} {v = length x} (take-length x) (omega arith)
+
+-- the three pieces, the header at the front
+pub message-written : (d : List ℕ) (h : Header) (deps commands : List ℕ) (start : ℕ) → h .dependencies ≡ length deps → h .commands ≡ length commands / commandSize
+    → start ≡ headerSize + length (sequencesBytes deps) → start + length commands ≤ length d
+    → pasted (pasted (pasted d 0 (headerFor h)) headerSize (sequencesBytes deps)) start commands ≡ written (messageFor h deps commands) d
+message-written d h deps commands start e f g room =
+    let head : headerSize ≡ 0 + length (headerFor h) = omega (arith, header-length h) in
+    let behind : start ≡ 0 + length (headerFor h) + length (sequencesBytes deps) = omega (arith, header-length h) in
+    ap₂ (λ (m n : ℕ). pasted (pasted (pasted d 0 (headerFor h)) m (sequencesBytes deps)) n commands) head behind
+    ∙ order-pasted d 0 (headerFor h ∷ sequencesBytes deps ∷ commands ∷ []) (omega (arith, header-length h, size)) ∙ ap (pasted d 0) whole ∙ front-written (messageFor h deps commands) d
+  where
+    whole : headerFor h ++ (sequencesBytes deps ++ (commands ++ [])) ≡ messageFor h deps commands
+    whole =
+        ap (λ (x : List ℕ). headerFor h ++ (sequencesBytes deps ++ x)) (append-nil commands) ∙ sym (append-assoc (headerFor h) (sequencesBytes deps) commands)
+        ∙ message-is h deps commands e f
+
+    size : length (headerFor h ++ (sequencesBytes deps ++ (commands ++ []))) ≡ length (headerFor h) + (length (sequencesBytes deps) + length commands)
+    size =
+        length-append (headerFor h) (sequencesBytes deps ++ (commands ++ []))
+        ∙ ap (λ (n : ℕ). length (headerFor h) + n) (length-append (sequencesBytes deps) (commands ++ []) ∙ ap (λ (x : List ℕ). length (sequencesBytes deps) + length x) (append-nil commands))
+
+-- how long it is
+pub message-length : (h : Header) (deps commands : List ℕ) → h .dependencies ≡ length deps → h .commands ≡ length commands / commandSize
+    → length (messageFor h deps commands) ≡ headerSize + sequenceSize * length deps + length commands
+message-length h deps commands e f =
+    ap length (sym (message-is h deps commands e f)) ∙ length-append (headerFor h ++ sequencesBytes deps) commands
+    ∙ ap (λ (n : ℕ). n + length commands) (length-append (headerFor h) (sequencesBytes deps) ∙ ap₂ _+_ (header-length h) (length-sequences deps))
