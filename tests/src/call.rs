@@ -42,6 +42,10 @@ pub enum Action {
         steps: usize,
     },
     Compose(Composing),
+    /// Asks for the value of a tag.
+    Setpoint(u32),
+    /// Asks for the log's message at a place.
+    LogMessage(u32),
 }
 
 /// What a compose is handed beside the image.
@@ -100,7 +104,7 @@ impl Action {
 /// message buffer whole, and what the call only reads, which it must leave as it was.
 #[derive(Clone, Debug, Default, PartialEq, Eq)]
 pub struct Outcome {
-    pub answer: u32,
+    pub answer: u64,
     pub image: Vec<u8>,
     pub buffer: Vec<u8>,
     pub message: Vec<u8>,
@@ -147,6 +151,8 @@ impl World {
             Action::Deliver { message, steps } => deliver(calls, image, message, *steps),
             Action::DeliverComposed { steps } => deliver(calls, image, &self.composed, *steps),
             Action::Compose(composing) => compose(calls, image, composing.clone()),
+            Action::Setpoint(tag) => read(calls.setpoint(&image, *tag), image),
+            Action::LogMessage(place) => read(calls.log_message(&image, *place), image),
         }
     }
 
@@ -186,6 +192,11 @@ impl World {
 
 fn empty(calls: &dyn Calls, mut image: Vec<u8>) -> Outcome {
     let answer = calls.empty(&mut image);
+    read(answer.into(), image)
+}
+
+/// What is seen after a call that has no buffer but the image.
+fn read(answer: u64, image: Vec<u8>) -> Outcome {
     Outcome {
         answer,
         image,
@@ -198,7 +209,7 @@ fn deliver(calls: &dyn Calls, mut image: Vec<u8>, message: &[u8], steps: usize) 
     let (message, mut buffer) = (message.to_vec(), pattern(steps));
     let answer = calls.deliver(&mut image, &message, &mut buffer);
     Outcome {
-        answer,
+        answer: answer.into(),
         image,
         buffer,
         message,
@@ -211,7 +222,7 @@ fn compose(calls: &dyn Calls, image: Vec<u8>, own: Composing) -> Outcome {
     let mut buffer = pattern(own.room);
     let answer = calls.compose(&image, &own.request(), &mut buffer);
     Outcome {
-        answer,
+        answer: answer.into(),
         image,
         buffer,
         line: own.line,

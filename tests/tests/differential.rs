@@ -7,7 +7,7 @@ mod common;
 
 use std::process::{Command, Output};
 
-use bivamolune_tests::boundary::Reference;
+use bivamolune_tests::boundary::{length, offset, value, Reference};
 use bivamolune_tests::call::{Action, Call, Composing, Outcome, View, World};
 use bivamolune_tests::differential::{compare, difference, report, report_of, shrink};
 use bivamolune_tests::faulty::{Fault, Faulty, FAULTS};
@@ -64,6 +64,8 @@ fn what_a_call_reads_is_in_its_outcome() {
         Action::Empty,
         Action::Compose(composing.clone()),
         Action::DeliverComposed { steps: 2_032 },
+        Action::Setpoint(2),
+        Action::LogMessage(0),
     ];
     let mut world = World::default();
     for action in actions {
@@ -80,6 +82,14 @@ fn what_a_call_reads_is_in_its_outcome() {
             }
             Action::DeliverComposed { .. } => {
                 assert_eq!(outcome.message[40..], composing.commands);
+            }
+            Action::Setpoint(_) => {
+                assert_eq!(value(outcome.answer), 3);
+                assert!(outcome.image == world.image);
+            }
+            Action::LogMessage(_) => {
+                assert_eq!((offset(outcome.answer), length(outcome.answer)), (272, 48));
+                assert!(outcome.image == world.image);
             }
             _ => {}
         }

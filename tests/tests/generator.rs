@@ -11,7 +11,6 @@ use bivamolune_tests::call::{Action, Call, Composing, Outcome, View, World};
 use bivamolune_tests::edit::Edit;
 use bivamolune_tests::generate::{any_draft, case, damaged_message, drafts, nearly_right, LIMIT};
 use bivamolune_tests::random::Random;
-use bivamolune_tests::reference::station::{log_message_code, setpoint};
 use common::{delta, messages, u16_at, u32_at, Station, A, B, C, IMAGE};
 
 /// How often each (call, code) was answered, and each mark was seen.
@@ -36,21 +35,19 @@ fn name(action: &Action) -> &'static str {
         Action::Empty => "empty",
         Action::Deliver { .. } | Action::DeliverComposed { .. } => "deliver",
         Action::Compose(_) => "compose",
+        Action::Setpoint(_) => "setpoint",
+        Action::LogMessage(_) => "log message",
     }
 }
 
-/// Runs a list and notes codes and marks. On each image the calls that only read are
-/// made too, at a place and a tag by chance.
+/// Runs a list and notes codes and marks.
 fn run(seed: u64, seen: &mut Seen) {
-    let mut random = Random::new(seed);
     let mut world = World::default();
     for call in case(seed) {
         let view = world.view(&call.view);
         let outcome = world.perform(&Reference, &call);
         let answered = code(outcome.answer);
         seen.code(name(&call.action), answered);
-        seen.code("log message", log_message_code(&view, random.below(4)));
-        seen.code("setpoint", setpoint(&view, random.below(70)).0);
         if call.view == View::Station && call.action.delivers() && answered == 0 {
             mark_delivery(seen, &outcome);
         }
