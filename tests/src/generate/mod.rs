@@ -1,11 +1,13 @@
-//! Hard inputs from a seed: sets of deltas, wrong messages, edits, and lists of calls.
+//! Hard inputs from a seed: sets of deltas, wrong messages, edits, lists of calls, streams.
 
 mod right;
 mod sets;
+mod streams;
 mod wrong;
 
 pub use right::any_draft;
 pub use sets::{drafts, LIMIT, LINES};
+pub use streams::stream;
 pub use wrong::{conflicting, damaged_message, nearly_right};
 
 use crate::call::{Action, Call, Composing, View};
