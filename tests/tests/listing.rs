@@ -8,7 +8,8 @@ mod common;
 mod program;
 
 use std::collections::BTreeMap;
-use std::path::PathBuf;
+use std::fs;
+use std::path::{Path, PathBuf};
 
 use bivamolune_tests::generate::stream;
 use bivamolune_tests::reference;
@@ -43,6 +44,18 @@ fn input(drafts: &[Draft]) -> Vec<u8> {
 fn the_example() {
     let expected = "1 0 0 1\n2 0 1 2\nlog 2 held 0\n";
     assert_eq!(listing(&input(&[b1(), a1()])), expected);
+}
+
+/// The sample that is shipped: the remark is held, displays and burner are executed at once,
+/// and the late message undoes three and executes all five.
+#[test]
+fn the_shipped_sample() {
+    let samples = Path::new(env!("CARGO_MANIFEST_DIR")).join("../samples");
+    let deltas = fs::read(samples.join("plant-fault.deltas")).expect("the sample is there");
+    let lines = fs::read_to_string(samples.join("plant-fault.txt")).expect("its lines are there");
+    let expected = "1 0 0 0\n2 0 0 1\n3 0 0 1\n4 0 0 1\n5 0 3 5\nlog 5 held 0\n";
+    assert_eq!(lines, expected);
+    assert_eq!(listing(&deltas), expected);
 }
 
 #[test]

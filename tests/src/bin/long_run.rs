@@ -15,17 +15,11 @@ use std::env;
 use std::process::ExitCode;
 use std::time::{Duration, Instant};
 
-use bivamolune_tests::boundary::{Calls, Reference, COMPARED};
+use bivamolune_tests::boundary::{Calls, Reference, COMPARED, SUBJECT};
 use bivamolune_tests::differential::{compare, report, trace};
 use bivamolune_tests::faulty::{Faulty, FAULTS};
 use bivamolune_tests::generate::case;
 use bivamolune_tests::reference::compose::Request;
-
-/// With a library feature, the library; else the second implementation once more.
-#[cfg(feature = "link")]
-const OTHER: bivamolune_tests::boundary::Library = bivamolune_tests::boundary::Library;
-#[cfg(not(feature = "link"))]
-const OTHER: Reference = Reference;
 
 /// What the command line asks for.
 #[derive(Default)]
@@ -92,7 +86,7 @@ fn run(options: &Options) -> Result<bool, String> {
                     .to_string(),
             )
         }
-        None => &OTHER,
+        None => &SUBJECT,
     };
     let what = match &faulty {
         Some(faulty) => format!("second implementation and its variant {:?}", faulty.0),

@@ -84,6 +84,12 @@ impl Calls for Reference {
     }
 }
 
+/// What is tested: the library where it is linked, else the second implementation.
+#[cfg(feature = "link")]
+pub const SUBJECT: Library = Library;
+#[cfg(not(feature = "link"))]
+pub const SUBJECT: Reference = Reference;
+
 /// The lower and the upper half of an answer of 64 bits.
 pub fn packed(low: u32, high: u32) -> u64 {
     u64::from(high) << 32 | u64::from(low)

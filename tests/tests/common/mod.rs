@@ -3,6 +3,7 @@
 #![deny(warnings)]
 #![allow(dead_code)]
 
+pub use bivamolune_tests::boundary::SUBJECT;
 use bivamolune_tests::boundary::{code, executions, length, offset, packed, undos, value, Calls};
 use bivamolune_tests::reference::compose::Request;
 pub use bivamolune_tests::view::{messages, u16_at, u32_at};
@@ -19,12 +20,6 @@ pub const MESSAGE: usize = 200;
 
 /// What unwritten bytes of step and message buffers hold.
 pub const PATTERN: u8 = 0xA5;
-
-/// The implementation under test: the library's functions where they are linked.
-#[cfg(feature = "link")]
-pub const SUBJECT: bivamolune_tests::boundary::Library = bivamolune_tests::boundary::Library;
-#[cfg(not(feature = "link"))]
-pub const SUBJECT: bivamolune_tests::boundary::Reference = bivamolune_tests::boundary::Reference;
 
 /// A delta of a line of the examples, in group 1, which sets tag 0 to 1.
 pub fn delta(letter: u8, number: u16) -> Draft {
