@@ -60,6 +60,17 @@ pub struct Composing {
 }
 
 impl Composing {
+    /// Without priority, into a buffer of the least size.
+    pub fn plain(line: &[u8], commands: &[u8]) -> Composing {
+        Composing {
+            line: line.to_vec(),
+            commands: commands.to_vec(),
+            priority_flag: 0,
+            priority: 0,
+            room: 200,
+        }
+    }
+
     /// The same, as the call takes it.
     pub fn request(&self) -> Request<'_> {
         Request {

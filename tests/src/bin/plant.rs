@@ -12,7 +12,7 @@ use std::env;
 use std::ops::Range;
 use std::process::ExitCode;
 
-use bivamolune_tests::boundary::SUBJECT;
+use bivamolune_tests::boundary::{COMPARED, SUBJECT};
 use bivamolune_tests::plant::{run, Duty, Run, What};
 
 const USAGE: &str = "usage: plant --seeds A..B | --unsaved A..B | --events SEED";
@@ -46,15 +46,11 @@ fn range(words: &str) -> Option<Range<u64>> {
 
 /// Who answers.
 fn subject() -> String {
-    let of = |library| {
-        if library {
-            "the library"
-        } else {
-            "the second implementation"
-        }
+    let of = |function| match COMPARED.contains(&function) {
+        true => "the library",
+        false => "the second implementation",
     };
-    let deliver = of(cfg!(feature = "library-deliver"));
-    let compose = of(cfg!(feature = "library-compose"));
+    let (deliver, compose) = (of("bivamolune_deliver"), of("bivamolune_compose"));
     format!("deliver is answered by {deliver}, compose by {compose}")
 }
 

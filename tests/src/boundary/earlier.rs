@@ -1,6 +1,7 @@
 //! An earlier archive of the static library, for the benchmark alone: only deliver. The
 //! build gives its functions other names, so that both archives fit into one program.
 
+use super::pointers::deliver_by;
 use super::Calls;
 
 #[allow(unsafe_code)]
@@ -20,18 +21,7 @@ extern "C" {
 pub struct Earlier;
 
 impl Calls for Earlier {
-    #[allow(unsafe_code)]
     fn deliver(&self, image: &mut [u8], message: &[u8], steps: &mut [u8]) -> u32 {
-        // Sound: each pointer and size are those of one slice, and none overlap.
-        unsafe {
-            earlier_bivamolune_deliver(
-                image.as_mut_ptr(),
-                image.len(),
-                message.as_ptr(),
-                message.len(),
-                steps.as_mut_ptr(),
-                steps.len(),
-            )
-        }
+        deliver_by(earlier_bivamolune_deliver, image, message, steps)
     }
 }

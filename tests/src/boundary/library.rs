@@ -1,6 +1,8 @@
 //! The static library. A function whose feature is off is answered by the second
 //! implementation, so that a comparison says nothing about it.
 
+#[cfg(feature = "library-deliver")]
+use super::pointers::deliver_by;
 use super::Calls;
 #[cfg(feature = "library-compose")]
 use super::Request;
@@ -55,16 +57,7 @@ impl Calls for Library {
 
     #[cfg(feature = "library-deliver")]
     fn deliver(&self, image: &mut [u8], message: &[u8], steps: &mut [u8]) -> u32 {
-        unsafe {
-            bivamolune_deliver(
-                image.as_mut_ptr(),
-                image.len(),
-                message.as_ptr(),
-                message.len(),
-                steps.as_mut_ptr(),
-                steps.len(),
-            )
-        }
+        deliver_by(bivamolune_deliver, image, message, steps)
     }
 
     #[cfg(feature = "library-compose")]

@@ -4,6 +4,8 @@
 mod earlier;
 #[cfg(feature = "link")]
 mod library;
+#[cfg(any(feature = "library-deliver", feature = "earlier"))]
+mod pointers;
 
 #[cfg(feature = "earlier")]
 pub use earlier::Earlier;

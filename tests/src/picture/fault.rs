@@ -36,28 +36,33 @@ pub fn scene(calls: &dyn Calls) -> Result<Scene, String> {
     scene.about = ABOUT.map(str::to_string).to_vec();
     let end = end(&mut scene, &story)?;
     scene.about.push(end);
-    let burner = scene.names.name(&sequence_of(&story.burner));
-    let executed = Mark::Executed(burner.clone());
-    let now = scene.find(FURNACE, &executed);
-    let before = scene.find(old, &executed);
-    let (now, before) = now
-        .zip(before)
-        .ok_or("the burner change was not executed")?;
-    scene.bar(
-        Kind::Good,
-        format!(
-            "burner change {burner} is executed as it arrives, at {}",
-            now.time
-        ),
-        now,
-    );
-    if let Some(bar) = scene.lanes[old].bars.last_mut() {
-        bar.words = format!(
-            "burner change {burner} stands behind the remark until {}",
-            before.time
-        );
-    }
+    tell_burner(&mut scene, &story, old)?;
     Ok(scene)
+}
+
+/// When the burner change is executed: at the furnace as it arrives, which must be so, and
+/// where it stood in the old queue's lane.
+fn tell_burner(scene: &mut Scene, story: &Story, old: usize) -> Result<(), String> {
+    let burner = scene.names.name(&sequence_of(&story.burner));
+    let mut arrivals = story.arrivals.iter();
+    let arrived = arrivals.find(|(_, message)| *message == story.burner);
+    let executed = scene.find(FURNACE, &Mark::Executed(burner.clone()));
+    match (arrived, executed) {
+        (Some((time, _)), Some(spot)) if *time == spot.time => {
+            let words = format!("burner change {burner} is executed as it arrives, at {time}");
+            scene.bar(Kind::Good, words, spot);
+        }
+        _ => return Err("the burner change is not executed as it arrives".to_string()),
+    }
+    let own = format!("{burner} ");
+    let mut bars = scene.lanes[old].bars.iter_mut();
+    if let Some(bar) = bars.find(|bar| bar.words.starts_with(&own)) {
+        let until = bar
+            .to
+            .map_or("the end".to_string(), |to| to.time.to_string());
+        bar.words = format!("burner change {burner} stands behind the remark until {until}");
+    }
+    Ok(())
 }
 
 /// What all stations end with, which must be the same.

@@ -117,11 +117,9 @@ impl Stage<'_> {
         priority: Option<u32>,
     ) -> Result<Vec<u8>, String> {
         let composing = Composing {
-            line: self.stations[at].lines[0].to_vec(),
-            commands: command.to_vec(),
             priority_flag: u32::from(priority.is_some()),
             priority: priority.unwrap_or(0),
-            room: 200,
+            ..Composing::plain(&self.stations[at].lines[0], &command)
         };
         let (code, message) = self.stations[at].compose(self.calls, &composing);
         if code != 0 {
