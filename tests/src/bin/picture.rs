@@ -6,6 +6,7 @@
 #![deny(warnings)]
 
 use std::env;
+use std::io::{self, Write};
 use std::process::ExitCode;
 
 use bivamolune_tests::boundary::SUBJECT;
@@ -19,11 +20,12 @@ fn main() -> ExitCode {
         ["seed", number] => number.parse().ok().map(|number| seed(&SUBJECT, number)),
         _ => None,
     };
-    match drawn {
-        Some(Ok(picture)) => {
-            print!("{picture}");
-            ExitCode::SUCCESS
-        }
+    let written = drawn.map(|drawn| {
+        let written = io::stdout().write_all(drawn?.as_bytes());
+        written.map_err(|error| error.to_string())
+    });
+    match written {
+        Some(Ok(())) => ExitCode::SUCCESS,
         Some(Err(error)) => {
             eprintln!("{error}");
             ExitCode::FAILURE

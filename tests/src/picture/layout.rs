@@ -1,14 +1,17 @@
 //! Where things are: columns for times, rows for lanes, and a place for each mark.
 
-use std::collections::BTreeMap;
+use std::collections::{BTreeMap, BTreeSet};
 
-use super::scene::{Bar, Lane, Mark, Scene, Spot};
+use super::scene::{Bar, Flight, Lane, Mark, Scene, Spot};
 
 /// Space left of the first column, and between things.
 pub const LEFT: usize = 172;
 const MARGIN: usize = 16;
 const GAP: usize = 4;
-/// Between columns.
+/// From one time to the next at least, and between the marks of two times in a lane.
+const STEP: usize = 36;
+/// What a flight goes to the right at least.
+const FLIGHT: usize = 28;
 const BETWEEN: usize = 16;
 /// A lane: above its marks, and a line of words below them.
 const MARKS: usize = 40;
@@ -55,24 +58,16 @@ pub struct Layout {
     pub right: usize,
     /// The lower edge of the last lane.
     pub bottom: usize,
-    /// Left edges of marks within their column.
-    within: Vec<BTreeMap<usize, Vec<usize>>>,
+    within: Vec<Edges>,
 }
+
+/// Left edges of the marks of a lane within their column.
+type Edges = BTreeMap<usize, Vec<usize>>;
 
 impl Layout {
     pub fn new(scene: &Scene) -> Layout {
         let within: Vec<_> = scene.lanes.iter().map(edges).collect();
-        let mut widths: BTreeMap<usize, usize> = BTreeMap::new();
-        for (time, edges) in within.iter().flatten() {
-            let width = widths.entry(*time).or_default();
-            *width = (*width).max(edges.last().copied().unwrap_or(0));
-        }
-        let mut right = LEFT;
-        let mut columns = BTreeMap::new();
-        for (time, width) in widths {
-            columns.insert(time, right);
-            right += width + BETWEEN;
-        }
+        let (columns, right) = columns(&within, &scene.flights);
         let mut bottom = TITLE + ABOUT * scene.about.len() + AXIS;
         let mut lanes = Vec::new();
         for lane in &scene.lanes {
@@ -109,8 +104,36 @@ impl Layout {
     }
 }
 
+/// The left edge of each time, and the right edge of all. A time begins past the one before
+/// it, past the marks that its lanes have so far, and past where what arrives set out; other
+/// lanes' marks may still go on.
+fn columns(within: &[Edges], flights: &[Flight]) -> (BTreeMap<usize, usize>, usize) {
+    let times = within.iter().flat_map(|lane| lane.keys().copied());
+    let times: BTreeSet<usize> = times.collect();
+    let mut ends = vec![LEFT; within.len()];
+    let mut columns: BTreeMap<usize, usize> = BTreeMap::new();
+    let mut next = LEFT;
+    for time in times {
+        let lanes = (0..within.len()).filter(|lane| within[*lane].contains_key(&time));
+        let landing = flights.iter().filter(|flight| flight.to.time == time);
+        let set_out = landing.filter_map(|Flight { from, .. }| {
+            let edge = within[from.lane][&from.time][from.place];
+            Some(columns.get(&from.time)? + edge + FLIGHT)
+        });
+        let free = lanes.clone().map(|lane| ends[lane]);
+        let start = free.chain(set_out).fold(next, usize::max);
+        for lane in lanes {
+            let width = within[lane][&time].last().copied().unwrap_or(0);
+            ends[lane] = start + width + BETWEEN;
+        }
+        columns.insert(time, start);
+        next = start + STEP;
+    }
+    (columns, ends.into_iter().fold(next, usize::max))
+}
+
 /// The left edge of each mark within its column, and the right edge of the last.
-fn edges(lane: &Lane) -> BTreeMap<usize, Vec<usize>> {
+fn edges(lane: &Lane) -> Edges {
     let of_marks = |marks: &Vec<Mark>| {
         let mut edges = vec![0];
         let mut edge = 0;

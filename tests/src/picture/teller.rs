@@ -1,10 +1,14 @@
 //! Tells the events of a plant as marks, bars and flights.
 
 use std::collections::BTreeMap;
+use std::mem::discriminant;
 
 use super::scene::{Flight, Kind, Lane, Mark, Scene, Spot};
 use crate::plant::{Event, What};
 use crate::wire::Sequence;
+
+/// How many steps of a kind have their names, in a row.
+const NAMED: usize = 6;
 
 /// What a station has, as the events tell it: its log, and what is held with the bar of each.
 #[derive(Clone, Debug, Default)]
@@ -18,6 +22,8 @@ struct Teller {
     scene: Scene,
     known: Vec<Known>,
     saved: Vec<Known>,
+    /// How many steps the last mark of each station counts.
+    counted: Vec<usize>,
     /// The delta that was composed last, and where.
     composed: Option<(usize, Sequence)>,
     /// Messages on their way: from where, to which lane, and which.
@@ -30,6 +36,7 @@ pub fn tell(lanes: Vec<Lane>, events: &[Event]) -> Scene {
     let mut teller = Teller {
         scene: Scene::default(),
         saved: known.clone(),
+        counted: vec![0; lanes.len()],
         known,
         composed: None,
         flying: Vec::new(),
@@ -55,8 +62,7 @@ impl Teller {
             What::Delivered(at, own, code) => self.delivered(*at, time, own, *code, steps),
             What::Undone(at, own) => {
                 self.known[*at].log.pop();
-                let name = self.scene.names.name(own);
-                self.scene.mark(*at, time, Mark::Undone(name));
+                self.step(*at, time, own, Mark::Undone);
             }
             What::Executed(at, own) => self.executed(*at, time, own),
             What::Sent(from, to, own) => self.sent(*from, *to, time, own),
@@ -71,18 +77,21 @@ impl Teller {
         }
     }
 
-    /// A message that is new and brings no step is held.
+    /// A message that is new and brings no step is held. One that is known and was not on
+    /// its way, as in the last exchange, is left out.
     fn delivered(&mut self, at: usize, time: usize, own: &Sequence, code: u32, steps: bool) {
         let name = self.scene.names.name(own);
-        if self.composed.take() != Some((at, *own)) {
+        let known = &self.known[at];
+        let known = known.log.contains(own) || known.held.contains_key(own);
+        let flew = self.flying.iter().any(|(_, to, of)| *to == at && of == own);
+        if self.composed.take() != Some((at, *own)) && (!known || flew) {
             let spot = self.scene.mark(at, time, Mark::Arrived);
             self.land(spot, own, false);
         }
-        let known = &self.known[at];
         if code != 0 {
             let refused = Mark::Refused(format!("{name}: {code}"));
             self.scene.mark(at, time, refused);
-        } else if !steps && !known.log.contains(own) && !known.held.contains_key(own) {
+        } else if !steps && !known {
             let spot = self.scene.mark(at, time, Mark::Held(name.clone()));
             self.hold(spot, own, name);
         }
@@ -94,12 +103,37 @@ impl Teller {
     }
 
     fn executed(&mut self, at: usize, time: usize, own: &Sequence) {
-        let name = self.scene.names.name(own);
-        let spot = self.scene.mark(at, time, Mark::Executed(name));
+        let spot = self.step(at, time, own, Mark::Executed);
         self.known[at].log.push(*own);
         if let Some(bar) = self.known[at].held.remove(own) {
             self.scene.lanes[at].bars[bar].to = Some(spot);
         }
+    }
+
+    /// A mark for a step. Of many alike the first ones have their names, and one mark counts
+    /// the rest.
+    fn step(&mut self, at: usize, time: usize, own: &Sequence, of: fn(String) -> Mark) -> Spot {
+        let name = self.scene.names.name(own);
+        let marks = self.scene.lanes[at].marks.entry(time).or_default();
+        let kind = discriminant(&of(String::new()));
+        let alike = marks
+            .iter()
+            .rev()
+            .take_while(|mark| discriminant(*mark) == kind);
+        let alike = alike.count();
+        if alike > NAMED {
+            marks.pop();
+        }
+        self.counted[at] = if alike < NAMED {
+            0
+        } else {
+            self.counted[at] + 1
+        };
+        let mark = match self.counted[at] {
+            0 => of(name),
+            rest => of(format!("+{rest}")),
+        };
+        self.scene.mark(at, time, mark)
     }
 
     /// One mark for all that is sent from a station at a time.
