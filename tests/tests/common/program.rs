@@ -5,11 +5,14 @@ use std::os::unix::process::ExitStatusExt;
 use std::path::PathBuf;
 use std::process::{Child, ChildStdin, Command, ExitStatus, Stdio};
 use std::thread;
+use std::time::{Duration, Instant};
 
 use bivamolune_tests::reference::listing::listing;
 
 /// The signal of a write to a pipe that nobody reads: no crash, but how such a program ends.
 const SIGPIPE: i32 = 13;
+/// How long a program may take to end.
+const LIMIT: Duration = Duration::from_secs(20);
 
 /// Where the proved program is built, seen from this package.
 #[cfg(feature = "library-listing")]
@@ -107,7 +110,15 @@ fn unread(mut child: Child, input: &[u8]) -> ExitStatus {
     drop(child.stdout.take());
     let stdin = child.stdin.take().expect("its input is piped");
     feed(stdin, input, input.len().max(1));
-    child.wait().expect("the program ends")
+    let begin = Instant::now();
+    while begin.elapsed() < LIMIT {
+        if let Some(status) = child.try_wait().expect("its status can be asked") {
+            return status;
+        }
+        thread::sleep(Duration::from_millis(1));
+    }
+    child.kill().expect("it can be ended");
+    panic!("the program does not end when nobody reads what it prints");
 }
 
 /// Whether a signal ended it that is not the one of a closed pipe.
