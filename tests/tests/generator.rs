@@ -55,6 +55,7 @@ fn run(seed: u64, seen: &mut Seen) {
             mark_limit(seen, &view, composing);
         }
         mark_edit(seen, &call, answered);
+        mark_reading(seen, &call.action, answered);
         world.follow(&call, &outcome);
     }
 }
@@ -101,6 +102,21 @@ fn mark_limit(seen: &mut Seen, image: &[u8], composing: &Composing) {
     seen.mark("10 by group alone", by_group && !by_block);
 }
 
+/// Marks of a setpoint or a log message: far out, and far on in a log.
+fn mark_reading(seen: &mut Seen, action: &Action, answered: u32) {
+    let far = |place: u32| place == u32::MAX && answered == 12;
+    seen.mark(
+        "a far tag",
+        matches!(action, Action::Setpoint(tag) if far(*tag)),
+    );
+    seen.mark(
+        "a far place",
+        matches!(action, Action::LogMessage(place) if far(*place)),
+    );
+    let late = matches!(action, Action::LogMessage(40..=63)) && answered == 0;
+    seen.mark("a late place", late);
+}
+
 /// Marks of a call on an edited copy.
 fn mark_edit(seen: &mut Seen, call: &Call, answered: u32) {
     let edited = matches!(call.view, View::Edited(_));
@@ -132,7 +148,7 @@ fn every_code_of_every_call_and_hard_logs() {
     for (call, count) in &seen.codes {
         assert!(*count >= 10, "{call:?} only {count} times");
     }
-    assert_eq!(seen.marks.len(), 15);
+    assert_eq!(seen.marks.len(), 18);
     for (mark, count) in &seen.marks {
         assert!(*count >= 10, "{mark} only {count} times");
     }
