@@ -15,11 +15,6 @@
 #include <sys/mman.h>
 #include <unistd.h>
 
-/* The library has these or not; the linker leaves a null where it has not. */
-#pragma weak bivamolune_compose
-#pragma weak bivamolune_setpoint
-#pragma weak bivamolune_log_message
-
 #define PAGES 8u
 #define MOST (PAGES * 4096u)
 #define REST 0x5Au
@@ -154,7 +149,6 @@ struct request {
 };
 
 static void compose(const uint8_t *bytes, size_t size, const struct request *r, size_t room) {
-    if (bivamolune_compose == NULL) return;
     begin_call("compose");
     lay(&image, bytes, size, 1);
     lay(&line, r->line, r->line_size, 1);
@@ -166,14 +160,12 @@ static void compose(const uint8_t *bytes, size_t size, const struct request *r, 
 }
 
 static void setpoint(const uint8_t *bytes, size_t size, uint32_t tag) {
-    if (bivamolune_setpoint == NULL) return;
     begin_call("setpoint");
     lay(&image, bytes, size, 1);
     end_call(&asking, bivamolune_setpoint_code(bivamolune_setpoint(image.at, size, tag)));
 }
 
 static void log_message(const uint8_t *bytes, size_t size, uint32_t at) {
-    if (bivamolune_log_message == NULL) return;
     begin_call("log message");
     lay(&image, bytes, size, 1);
     end_call(&finding, bivamolune_log_message_code(bivamolune_log_message(image.at, size, at)));
@@ -271,12 +263,10 @@ static void run_nulls(const uint8_t *right) {
     }
     begin_call("empty with null");
     bivamolune_empty(NULL, 0);
-    if (bivamolune_compose == NULL) return;
     begin_call("compose with null");
     lay(&image, right, BIVAMOLUNE_IMAGE_SIZE, 1);
     bivamolune_compose(image.at, image.size, NULL, 0, NULL, 0, 0, 0, NULL, 0);
     bivamolune_compose(NULL, 0, NULL, 0, NULL, 0, 0, 0, NULL, 0);
-    if (bivamolune_setpoint == NULL || bivamolune_log_message == NULL) return;
     begin_call("setpoint and log message with null");
     bivamolune_setpoint(NULL, 0, 0);
     bivamolune_log_message(NULL, 0, 0);
@@ -302,14 +292,13 @@ static void run_hostile(void) {
     }
 }
 
-/* Each of the calls that there are has answered each of its codes. */
+/* Each call has answered each of its codes. */
 static void check_codes(void) {
     const struct kind *const kinds[] = {&emptying, &delivering, &composing, &asking, &finding};
-    const int there[] = {1, 1, bivamolune_compose != NULL, bivamolune_setpoint != NULL, bivamolune_log_message != NULL};
     for EACH(i, kinds) {
         char text[200];
         snprintf(text, sizeof text, "%s did not answer each of its codes\n", kinds[i]->name);
-        if (there[i] && kinds[i]->answered != kinds[i]->codes) die(text);
+        if (kinds[i]->answered != kinds[i]->codes) die(text);
     }
 }
 
