@@ -4,8 +4,12 @@
  * image, a buffer of the caller's. Every call is defined for every size and every content of its buffers.
  *
  * What is promised
- * - The lowest code that applies is answered. A refused call changes no byte of any buffer, and its counts are 0.
- * - An accepted call writes what the paper says and leaves every other byte.
+ * - The lowest code that applies is answered. A refused call changes no byte of any buffer, and its counts, length, offset
+ *   and value are 0.
+ * - An accepted call writes what the paper says and leaves every other byte. Compose, setpoint and log message only read the
+ *   image.
+ * - A composed message that is delivered to the image it was composed on, if that holds fewer than 64 deltas, is accepted
+ *   with no undo, and its execution is the first step.
  * - A buffer may start at any address. A call takes less than BIVAMOLUNE_STACK bytes of stack (measured, not proved).
  *
  * What the host owes
@@ -13,8 +17,10 @@
  *   size 0 it may be NULL.
  * - The buffers of a call do not overlap.
  * - One call at a time on an image, and nobody else writes the image meanwhile. Calls on different images are free.
- * - The answer of deliver is several numbers in one. `if (bivamolune_deliver(..) != 0)` takes most successes for failures:
- *   ask bivamolune_accepted(answer), or bivamolune_code(answer).
+ * - An answer is several numbers in one. `if (bivamolune_deliver(..) != 0)` takes most successes for failures: ask
+ *   bivamolune_accepted(answer), or bivamolune_code(answer). Those of setpoint and log message have 64 bits and functions of
+ *   their own; in a variable of 32 bits nothing but the code is left of them.
+ * - What log message hands back is a part of the image itself. It is the message until the image is written again.
  * - An image in memory is not written in one blow. If power may fail, or the process may be killed, keep the last image in
  *   safe storage until the next one is there whole; what an interrupted call left may be no image (code 2).
  * - A delta of the station's own is composed, delivered to the station's own image, the image is saved, and only then is the
@@ -33,13 +39,14 @@ extern "C" {
 
 /* The version of this header and of the archive that it goes with. */
 #define BIVAMOLUNE_VERSION_MAJOR 0
-#define BIVAMOLUNE_VERSION_MINOR 1
+#define BIVAMOLUNE_VERSION_MINOR 2
 #define BIVAMOLUNE_VERSION_PATCH 0
-#define BIVAMOLUNE_VERSION "0.1.0"
+#define BIVAMOLUNE_VERSION "0.2.0"
 
 /* Sizes in bytes. */
 #define BIVAMOLUNE_IMAGE_SIZE 16384  /* an image, exactly */
 #define BIVAMOLUNE_STEP_ROOM 2032    /* a step buffer, at least: 127 steps */
+#define BIVAMOLUNE_MESSAGE_ROOM 200  /* compose's message buffer, at least */
 #define BIVAMOLUNE_STEP_SIZE 16      /* a step: one of the two below, three zeros, the sequence */
 #define BIVAMOLUNE_SEQUENCE_SIZE 12  /* a sequence: endpoint UID 6, creator identifier 4, number 2 */
 #define BIVAMOLUNE_LINE_SIZE 10      /* a line: a sequence without its number */
@@ -51,6 +58,7 @@ extern "C" {
 #define BIVAMOLUNE_MESSAGE_MOST 200      /* bytes: eight of each */
 #define BIVAMOLUNE_DEPENDENCIES_MOST 8
 #define BIVAMOLUNE_COMMANDS_MOST 8       /* and at least one */
+#define BIVAMOLUNE_COMMAND_SIZE 8        /* bytes: operation, tag, two zeros, value */
 #define BIVAMOLUNE_NUMBER_MOST 2147483647 /* of a group, a block, a priority */
 
 /* A station. */
@@ -67,14 +75,19 @@ extern "C" {
 /* Codes. */
 enum bivamolune_result {
     BIVAMOLUNE_ACCEPTED = 0,
-    BIVAMOLUNE_WRONG_SIZE = 1,         /* an image or a step buffer of wrong size */
+    BIVAMOLUNE_WRONG_SIZE = 1,         /* an image, a step buffer, compose's message buffer or a line of wrong size */
     BIVAMOLUNE_NO_IMAGE = 2,           /* the buffer is no image of a set of at most 64 right deltas */
-    BIVAMOLUNE_WRONG_LAYOUT = 3,       /* kind, byte 1, counts, length, offsets or zeros of the message */
+    BIVAMOLUNE_WRONG_LAYOUT = 3,       /* kind, byte 1, counts, length, offsets or zeros of the message; compose: commands
+                                          that are not 8 to 64 bytes by eights */
     BIVAMOLUNE_WRONG_NUMBER = 4,       /* a sequence number 0000 */
     BIVAMOLUNE_WRONG_DEPENDENCIES = 5, /* dependencies out of order, equal, own or predecessor */
-    BIVAMOLUNE_WRONG_CONTENT = 6,      /* group, block, priority, operation, tag, zeros or value */
+    BIVAMOLUNE_WRONG_CONTENT = 6,      /* group, block, priority, compose's flag, operation, tag, zeros or value */
     BIVAMOLUNE_CONFLICT = 7,           /* the sequence is present with other bytes */
-    BIVAMOLUNE_FULL = 8                /* 64 deltas are present and this one is new */
+    BIVAMOLUNE_FULL = 8,               /* 64 deltas are present and this one is new */
+    BIVAMOLUNE_LINE_HELD = 9,          /* compose: the line has a held delta */
+    BIVAMOLUNE_LIMIT = 10,             /* compose: number, group or block would pass its limit */
+    BIVAMOLUNE_CROWDED = 11,           /* compose: over eight dependencies */
+    BIVAMOLUNE_NOT_THERE = 12          /* a place that the log has not, or a tag above 63 */
 };
 
 /* A code in words, for a log file. */
@@ -89,6 +102,10 @@ static inline const char *bivamolune_code_name(uint32_t code) {
     case BIVAMOLUNE_WRONG_CONTENT: return "wrong content";
     case BIVAMOLUNE_CONFLICT: return "conflict";
     case BIVAMOLUNE_FULL: return "full";
+    case BIVAMOLUNE_LINE_HELD: return "line held";
+    case BIVAMOLUNE_LIMIT: return "limit";
+    case BIVAMOLUNE_CROWDED: return "crowded";
+    case BIVAMOLUNE_NOT_THERE: return "not there";
     default: return "no code";
     }
 }
@@ -103,11 +120,42 @@ uint32_t bivamolune_deliver(uint8_t *image, size_t image_size,
                             const uint8_t *message, size_t message_size,
                             uint8_t *steps, size_t steps_size);
 
-/* The parts of deliver's answer. */
+/* Composes the next delta of a line on top of the log, and writes it to the front of the message buffer; the bytes behind
+ * it are unchanged. The commands are handed over end to end. The flag is 0, then the priority is 0 as well, or 1 with a
+ * priority. The image is not changed: deliver the message to it, save the image, then send. */
+uint32_t bivamolune_compose(const uint8_t *image, size_t image_size,
+                            const uint8_t *line, size_t line_size,
+                            const uint8_t *commands, size_t commands_size,
+                            uint32_t priority_flag, uint32_t priority,
+                            uint8_t *message, size_t message_size);
+
+/* The parts of the answers of deliver and compose: the code of either, deliver's counts, the length of what compose wrote. */
 static inline uint32_t bivamolune_code(uint32_t answer) { return answer % 256u; }
+static inline int bivamolune_accepted(uint32_t answer) { return bivamolune_code(answer) == BIVAMOLUNE_ACCEPTED; }
 static inline uint32_t bivamolune_undos(uint32_t answer) { return answer / 256u % 256u; }
 static inline uint32_t bivamolune_executions(uint32_t answer) { return answer / 65536u; }
-static inline int bivamolune_accepted(uint32_t answer) { return bivamolune_code(answer) == BIVAMOLUNE_ACCEPTED; }
+static inline size_t bivamolune_composed_length(uint32_t answer) { return answer / 256u; }
+
+/* A number of four bytes as two's complement, with no conversion that a compiler may choose. */
+static inline int32_t bivamolune_signed(uint32_t word) {
+    return word <= 0x7FFFFFFFu ? (int32_t)word : -(int32_t)(0xFFFFFFFFu - word) - 1;
+}
+
+/* Looks up the value of a tag in an image, which is judged first. */
+uint64_t bivamolune_setpoint(const uint8_t *image, size_t image_size, uint32_t tag);
+
+/* The parts of setpoint's answer: the code, and the value, which is 0 beside a refusal. */
+static inline uint32_t bivamolune_setpoint_code(uint64_t answer) { return (uint32_t)(answer % 256u); }
+static inline int32_t bivamolune_setpoint_value(uint64_t answer) { return bivamolune_signed((uint32_t)(answer >> 32)); }
+
+/* Finds the message at a place of the log, counted from 0, in an image, which is judged first. */
+uint64_t bivamolune_log_message(const uint8_t *image, size_t image_size, uint32_t place);
+
+/* The parts of log message's answer: the code, and where in the image the message begins and how long it is. Beside a
+ * refusal both are 0. */
+static inline uint32_t bivamolune_log_message_code(uint64_t answer) { return (uint32_t)(answer % 256u); }
+static inline size_t bivamolune_log_message_length(uint64_t answer) { return (size_t)(answer % 4294967296u / 256u); }
+static inline size_t bivamolune_log_message_offset(uint64_t answer) { return (size_t)(answer >> 32); }
 
 /* What stands in an image. These look at BIVAMOLUNE_IMAGE_SIZE bytes and judge nothing: hand them what empty or deliver
  * accepted. */
@@ -119,14 +167,11 @@ static inline uint32_t bivamolune_log_count(const uint8_t *image) { return bivam
 static inline uint32_t bivamolune_held_count(const uint8_t *image) { return bivamolune_pair_at(image, 2); }
 /* How many bytes of the image are in use. */
 static inline uint32_t bivamolune_bytes_used(const uint8_t *image) { return bivamolune_pair_at(image, 8); }
-/* The value of a setpoint; 0 where the tag is above 63. */
+/* The value of a setpoint; 0 where the tag is above 63. (bivamolune_setpoint judges the image first.) */
 static inline int32_t bivamolune_value(const uint8_t *image, uint32_t tag) {
     size_t at = BIVAMOLUNE_VALUES_AT + 4u * (size_t)tag;
-    uint32_t word;
     if (tag >= BIVAMOLUNE_TAGS) return 0;
-    word = bivamolune_pair_at(image, at) * 65536u + bivamolune_pair_at(image, at + 2);
-    /* Two's complement, with no conversion that a compiler may choose. */
-    return word <= 0x7FFFFFFFu ? (int32_t)word : -(int32_t)(0xFFFFFFFFu - word) - 1;
+    return bivamolune_signed(bivamolune_pair_at(image, at) * 65536u + bivamolune_pair_at(image, at + 2));
 }
 
 #ifdef __cplusplus

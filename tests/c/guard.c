@@ -4,7 +4,7 @@
  * compiler put no checks into it, so that a sanitizer of the host sees only the host; a page sees every access.
  *
  * It ends with 1, and a line that says what was touched, at the first such access. The last line counts the calls.
- * With the word `codes` it also fails unless deliver answered each of its codes, so that no part of it was left out. */
+ * With the word `codes` it also fails unless each call answered each of its codes, so that no part of it was left out. */
 #define _DEFAULT_SOURCE
 #include "bivamolune.h"
 
@@ -14,11 +14,6 @@
 #include <string.h>
 #include <sys/mman.h>
 #include <unistd.h>
-
-/* The library has it or not; the linker leaves a null where it has not. */
-__attribute__((weak)) uint32_t bivamolune_compose(const uint8_t *image, size_t image_size, const uint8_t *line, size_t line_size,
-                                                  const uint8_t *commands, size_t commands_size, uint32_t priority_flag,
-                                                  uint32_t priority, uint8_t *message, size_t message_size);
 
 #define PAGES 8u
 #define MOST (PAGES * 4096u)
@@ -42,9 +37,21 @@ enum place { AT_END, AT_START, UNALIGNED };
 static enum place place = AT_END;
 static size_t shift;
 
+/* A call's name, the codes that it meets, and those that it answered, a bit for each. */
+struct kind {
+    const char *name;
+    uint32_t codes, answered;
+};
+
+#define BIT(code) ((uint32_t)1 << (code))
+static struct kind emptying = {"empty", BIT(0) | BIT(1), 0},
+                   delivering = {"deliver", BIT(9) - 1, 0},
+                   composing = {"compose", BIT(0) | BIT(1) | BIT(2) | BIT(3) | BIT(6) | BIT(9) | BIT(10) | BIT(11), 0},
+                   asking = {"setpoint", BIT(0) | BIT(1) | BIT(2) | BIT(12), 0},
+                   finding = {"log message", BIT(0) | BIT(1) | BIT(2) | BIT(12), 0};
+
 static const char *call = "nothing";
 static unsigned long calls;
-static unsigned answered[256];
 
 /* ---- what was touched */
 static void die(const char *text) {
@@ -110,26 +117,29 @@ static void begin_call(const char *name) {
     calls++;
 }
 
-static uint32_t empty(const uint8_t *bytes, size_t size) {
-    uint32_t answer;
-    begin_call("empty");
-    lay(&image, bytes, size, 0);
-    answer = bivamolune_empty(image.at, size);
-    around(&image);
-    return answer;
+static void end_call(struct kind *kind, uint32_t code) {
+    char text[200];
+    if (code < 32) kind->answered |= BIT(code);
+    if ((kind->answered & ~kind->codes) == 0 && code < 32) return;
+    snprintf(text, sizeof text, "call %lu, %s: answered %u, which is none of its codes\n", calls, call, (unsigned)code);
+    die(text);
 }
 
-static uint32_t deliver(const uint8_t *bytes, size_t size, const uint8_t *delta, size_t delta_size, size_t room) {
-    uint32_t answer;
+static void empty(const uint8_t *bytes, size_t size) {
+    begin_call("empty");
+    lay(&image, bytes, size, 0);
+    end_call(&emptying, bivamolune_empty(image.at, size));
+    around(&image);
+}
+
+static void deliver(const uint8_t *bytes, size_t size, const uint8_t *delta, size_t delta_size, size_t room) {
     begin_call("deliver");
     lay(&image, bytes, size, 0);
     lay(&message, delta, delta_size, 1);
     lay(&steps, NULL, room, 0);
-    answer = bivamolune_deliver(image.at, size, message.at, delta_size, steps.at, room);
-    answered[bivamolune_code(answer)]++;
+    end_call(&delivering, bivamolune_code(bivamolune_deliver(image.at, size, message.at, delta_size, steps.at, room)));
     around(&image);
     around(&steps);
-    return answer;
 }
 
 struct request {
@@ -139,14 +149,26 @@ struct request {
 };
 
 static void compose(const uint8_t *bytes, size_t size, const struct request *r, size_t room) {
-    if (bivamolune_compose == NULL) return;
     begin_call("compose");
     lay(&image, bytes, size, 1);
     lay(&line, r->line, r->line_size, 1);
     lay(&commands, r->commands, r->commands_size, 1);
     lay(&message, NULL, room, 0);
-    bivamolune_compose(image.at, size, line.at, r->line_size, commands.at, r->commands_size, r->flag, r->priority, message.at, room);
+    end_call(&composing, bivamolune_code(bivamolune_compose(image.at, size, line.at, r->line_size, commands.at, r->commands_size,
+                                                            r->flag, r->priority, message.at, room)));
     around(&message);
+}
+
+static void setpoint(const uint8_t *bytes, size_t size, uint32_t tag) {
+    begin_call("setpoint");
+    lay(&image, bytes, size, 1);
+    end_call(&asking, bivamolune_setpoint_code(bivamolune_setpoint(image.at, size, tag)));
+}
+
+static void log_message(const uint8_t *bytes, size_t size, uint32_t at) {
+    begin_call("log message");
+    lay(&image, bytes, size, 1);
+    end_call(&finding, bivamolune_log_message_code(bivamolune_log_message(image.at, size, at)));
 }
 
 /* ---- the generator's calls: a letter, then each buffer as a size and its bytes, then numbers; all numbers of four bytes */
@@ -165,23 +187,22 @@ static size_t buffer(uint8_t *into) {
 static void run_input(void) {
     static uint8_t one[MOST], two[MOST], three[MOST];
     for (int letter = getchar(); letter != EOF; letter = getchar()) {
-        size_t size = buffer(one), second = 0, third = 0;
-        uint32_t flag = 0, priority = 0, room = 0;
-        if (letter == 'd') {
-            second = buffer(two);
-            room = number();
-        } else if (letter == 'c') {
-            second = buffer(two);
-            third = buffer(three);
-            flag = number();
-            priority = number();
-            room = number();
+        size_t size = buffer(one);
+        struct request r = {two, three, 0, 0, 0, 0};
+        uint32_t last = 0;
+        if (letter == 'd' || letter == 'c') r.line_size = buffer(two);
+        if (letter == 'c') {
+            r.commands_size = buffer(three);
+            r.flag = number();
+            r.priority = number();
         }
-        struct request r = {two, three, second, third, flag, priority};
+        if (letter != 'e') last = number();
         for (place = AT_END; place <= AT_START; place = (enum place)(place + 1)) {
             if (letter == 'e') empty(one, size);
-            else if (letter == 'd') deliver(one, size, two, second, room);
-            else if (letter == 'c') compose(one, size, &r, room);
+            else if (letter == 'd') deliver(one, size, two, r.line_size, last);
+            else if (letter == 'c') compose(one, size, &r, last);
+            else if (letter == 's') setpoint(one, size, last);
+            else if (letter == 'l') log_message(one, size, last);
             else die("a letter that means no call\n");
         }
     }
@@ -193,11 +214,17 @@ static const uint8_t a1[48] = {1, 0, 0, 1, 0, 48, 0, 40, 0, 40, 0, 0, 0, 0, 0, 0
 static const size_t image_sizes[] = {0, 1, 2, 15, 16, 17, 271, 272, 273, 16383, 16384, 16385, 20000};
 static const size_t message_sizes[] = {0, 1, 2, 11, 39, 40, 41, 47, 48, 49, 199, 200, 201, 4096};
 static const size_t step_sizes[] = {0, 1, 15, 16, 17, 2031, 2032, 2033, 4096};
+static const size_t line_sizes[] = {0, 1, 9, 10, 11, 12};
+static const size_t command_sizes[] = {0, 1, 7, 8, 9, 63, 64, 65, 72};
+static const size_t room_sizes[] = {0, 1, 48, 199, 200, 201};
+#define EACH(i, sizes) (size_t i = 0; i < sizeof(sizes) / sizeof(sizes)[0]; i++)
 
-/* An image, grown by zeros, and messages of four kinds: right, one that claims the most, all ones, and random. */
+/* An image, grown by zeros; messages of four kinds: right, one that claims the most, all ones, and random; commands. */
 static void run_sizes(const uint8_t *right) {
     static uint8_t grown[MOST];
     static uint8_t kinds[4][4096];
+    static uint8_t many[72];
+    for (size_t i = 0; i < sizeof many; i++) many[i] = a1[40 + i % BIVAMOLUNE_COMMAND_SIZE];
     memcpy(grown, right, BIVAMOLUNE_IMAGE_SIZE);
     for (size_t i = 0; i < 4096; i++) kinds[3][i] = (uint8_t)(i * 2654435761u >> 13);
     memcpy(kinds[0], a1, sizeof a1);
@@ -206,12 +233,20 @@ static void run_sizes(const uint8_t *right) {
     kinds[1][5] = 200;
     kinds[1][9] = 136;
     memset(kinds[2], 255, sizeof kinds[2]);
-    for (size_t i = 0; i < sizeof image_sizes / sizeof image_sizes[0]; i++) {
+    for EACH(i, image_sizes) {
         empty(grown, image_sizes[i]);
-        for (size_t m = 0; m < sizeof message_sizes / sizeof message_sizes[0]; m++)
-            for (size_t s = 0; s < sizeof step_sizes / sizeof step_sizes[0]; s++)
+        setpoint(grown, image_sizes[i], 63);
+        log_message(grown, image_sizes[i], 0);
+        for EACH(m, message_sizes)
+            for EACH(s, step_sizes)
                 for (size_t kind = 0; kind < 4; kind++)
                     deliver(grown, image_sizes[i], kinds[kind], message_sizes[m], step_sizes[s]);
+        for EACH(l, line_sizes)
+            for EACH(c, command_sizes)
+                for EACH(r, room_sizes) {
+                    struct request request = {a1 + 12, many, line_sizes[l], command_sizes[c], 0, 0};
+                    compose(grown, image_sizes[i], &request, room_sizes[r]);
+                }
     }
 }
 
@@ -228,15 +263,18 @@ static void run_nulls(const uint8_t *right) {
     }
     begin_call("empty with null");
     bivamolune_empty(NULL, 0);
-    if (bivamolune_compose == NULL) return;
     begin_call("compose with null");
     lay(&image, right, BIVAMOLUNE_IMAGE_SIZE, 1);
     bivamolune_compose(image.at, image.size, NULL, 0, NULL, 0, 0, 0, NULL, 0);
     bivamolune_compose(NULL, 0, NULL, 0, NULL, 0, 0, 0, NULL, 0);
+    begin_call("setpoint and log message with null");
+    bivamolune_setpoint(NULL, 0, 0);
+    bivamolune_log_message(NULL, 0, 0);
 }
 
 static void run_hostile(void) {
     static uint8_t right[BIVAMOLUNE_IMAGE_SIZE];
+    const struct request plain = {a1 + 12, a1 + 40, BIVAMOLUNE_LINE_SIZE, BIVAMOLUNE_COMMAND_SIZE, 0, 0};
     bivamolune_empty(right, sizeof right);
     place = AT_END;
     run_sizes(right);
@@ -248,6 +286,19 @@ static void run_hostile(void) {
         empty(right, sizeof right);
         deliver(right, sizeof right, a1, sizeof a1, BIVAMOLUNE_STEP_ROOM);
         deliver(right, sizeof right, a1, sizeof a1 - 1, BIVAMOLUNE_STEP_ROOM);
+        compose(right, sizeof right, &plain, BIVAMOLUNE_MESSAGE_ROOM);
+        setpoint(right, sizeof right, 63);
+        log_message(right, sizeof right, 0);
+    }
+}
+
+/* Each call has answered each of its codes. */
+static void check_codes(void) {
+    const struct kind *const kinds[] = {&emptying, &delivering, &composing, &asking, &finding};
+    for EACH(i, kinds) {
+        char text[200];
+        snprintf(text, sizeof text, "%s did not answer each of its codes\n", kinds[i]->name);
+        if (kinds[i]->answered != kinds[i]->codes) die(text);
     }
 }
 
@@ -260,8 +311,7 @@ int main(int count, char **words) {
     for (size_t i = 0; i < AREAS; i++) map(areas[i]);
     run_input();
     run_hostile();
-    for (unsigned code = 0; count > 1 && strcmp(words[1], "codes") == 0 && code <= BIVAMOLUNE_FULL; code++)
-        if (answered[code] == 0) die("deliver did not answer each of its codes\n");
+    if (count > 1 && strcmp(words[1], "codes") == 0) check_codes();
     printf("%lu calls, no byte touched that was not the call's own\n", calls);
     return 0;
 }

@@ -2,7 +2,7 @@
 #include "bivamolune.h"
 #include "bivamolune.h"
 
-static_assert(BIVAMOLUNE_FULL == 8 && BIVAMOLUNE_ACCEPTED == 0, "codes are constants");
+static_assert(BIVAMOLUNE_NOT_THERE == 12 && BIVAMOLUNE_ACCEPTED == 0, "codes are constants");
 
 int main() {
     const bivamolune_result wanted = BIVAMOLUNE_ACCEPTED;

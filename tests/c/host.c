@@ -1,107 +1,6 @@
 /* A host in C, which C++ reads as well: begins a station, delivers the paper's examples, and checks answers, images, steps
- * and what the header gives beside the calls.
- * Each check prints nothing; the last line counts them, and the exit status is 1 if one failed. */
-#include "bivamolune.h"
-
-#include <stdio.h>
-#include <string.h>
-
-static unsigned passed, failed;
-
-static void check(int right, const char *what) {
-    if (right) {
-        passed++;
-    } else {
-        failed++;
-        printf("failed: %s\n", what);
-    }
-}
-
-/* A plain delta of group 1 with one command and at most one dependency. */
-struct delta {
-    uint8_t bytes[200];
-    size_t size;
-};
-
-static void put(uint8_t *at, uint32_t value, size_t size) {
-    for (size_t i = size; i-- > 0; value /= 256) at[i] = (uint8_t)(value % 256);
-}
-
-static void put_sequence(uint8_t *at, uint8_t line, uint16_t number) {
-    memset(at, 0, 12);
-    at[5] = line;
-    at[9] = 1;
-    put(at + 10, number, 2);
-}
-
-static struct delta delta(uint8_t line, uint16_t number, uint8_t operation, uint8_t tag, int32_t value) {
-    struct delta d = {{0}, 48};
-    d.bytes[0] = 1;
-    d.bytes[3] = 1;
-    put(d.bytes + 4, 48, 2);
-    put(d.bytes + 6, 40, 2);
-    put(d.bytes + 8, 40, 2);
-    put_sequence(d.bytes + 12, line, number);
-    put(d.bytes + 24, 1, 4);
-    d.bytes[40] = operation;
-    d.bytes[41] = tag;
-    put(d.bytes + 44, (uint32_t)value, 4);
-    return d;
-}
-
-static struct delta prioritised(struct delta d, uint32_t block, uint32_t priority) {
-    d.bytes[1] = 1;
-    put(d.bytes + 28, block, 4);
-    put(d.bytes + 32, priority, 4);
-    return d;
-}
-
-static struct delta naming(struct delta d, uint8_t line, uint16_t number) {
-    memmove(d.bytes + 52, d.bytes + 40, 8);
-    put_sequence(d.bytes + 40, line, number);
-    d.bytes[2] = 1;
-    d.size = 60;
-    put(d.bytes + 4, 60, 2);
-    put(d.bytes + 8, 52, 2);
-    return d;
-}
-
-/* ---- a station */
-static uint8_t image[BIVAMOLUNE_IMAGE_SIZE];
-static uint8_t steps[BIVAMOLUNE_STEP_ROOM];
-
-static void begin(void) {
-    memset(image, 0xEE, sizeof image);
-    memset(steps, 0xEE, sizeof steps);
-    check(bivamolune_empty(image, sizeof image) == 0, "empty");
-}
-
-static uint32_t deliver(struct delta d) {
-    memset(steps, 0xEE, sizeof steps);
-    return bivamolune_deliver(image, sizeof image, d.bytes, d.size, steps, sizeof steps);
-}
-
-static int32_t setpoint(uint32_t tag) { return bivamolune_value(image, tag); }
-
-/* Counts: L, H and the bytes used. */
-static int counts(uint32_t l, uint32_t h, uint32_t used) {
-    return bivamolune_log_count(image) == l && bivamolune_held_count(image) == h && bivamolune_bytes_used(image) == used;
-}
-
-/* The answer, and the steps: "u" or "x", a line's letter and a digit for each; the rest of the buffer is as it was. */
-static int answers(uint32_t answer, uint32_t code, uint32_t undos, uint32_t executions, const char *names) {
-    size_t n = strlen(names) / 3;
-    int right = bivamolune_code(answer) == code && bivamolune_undos(answer) == undos
-        && bivamolune_executions(answer) == executions && n == undos + executions;
-    for (size_t i = 0; i < n; i++) {
-        uint8_t step[BIVAMOLUNE_STEP_SIZE] = {0};
-        step[0] = names[3 * i] == 'u' ? BIVAMOLUNE_UNDO : BIVAMOLUNE_EXECUTE;
-        put_sequence(step + 4, (uint8_t)(names[3 * i + 1] - 'A' + 10), (uint16_t)(names[3 * i + 2] - '0'));
-        right = right && memcmp(steps + i * sizeof step, step, sizeof step) == 0;
-    }
-    for (size_t i = n * BIVAMOLUNE_STEP_SIZE; i < sizeof steps; i++) right = right && steps[i] == 0xEE;
-    return right;
-}
+ * and what the header gives beside the calls. */
+#include "station.h"
 
 static void run_examples(void) {
     struct delta a1 = delta(10, 1, 1, 3, 1500), b1 = delta(11, 1, 2, 3, -20), a2 = delta(10, 2, 1, 3, 7);
@@ -173,13 +72,14 @@ static void run_header(void) {
     check(strcmp(version, BIVAMOLUNE_VERSION) == 0, "the version");
     check(!bivamolune_accepted(success), "a refusal is not accepted");
     check(strcmp(bivamolune_code_name((uint32_t)full), "full") == 0, "the name of a code");
-    for (uint32_t code = 0; code < 10; code++)
+    for (uint32_t code = 0; code <= BIVAMOLUNE_NOT_THERE + 1; code++)
         for (uint32_t other = 0; other < code; other++)
             differ = differ && strcmp(bivamolune_code_name(code), bivamolune_code_name(other)) != 0;
     check(differ, "the names differ");
-    check(strcmp(bivamolune_code_name(9), bivamolune_code_name(0xFFFFFFFFu)) == 0, "no code");
+    check(strcmp(bivamolune_code_name(13), bivamolune_code_name(0xFFFFFFFFu)) == 0, "no code");
     check(BIVAMOLUNE_MESSAGE_LEAST == 40 + 8 && BIVAMOLUNE_STEP_ROOM == BIVAMOLUNE_STEPS_MOST * BIVAMOLUNE_STEP_SIZE
-        && BIVAMOLUNE_MESSAGE_MOST == 40 + 12 * BIVAMOLUNE_DEPENDENCIES_MOST + 8 * BIVAMOLUNE_COMMANDS_MOST, "limits");
+        && BIVAMOLUNE_MESSAGE_MOST == 40 + 12 * BIVAMOLUNE_DEPENDENCIES_MOST + 8 * BIVAMOLUNE_COMMANDS_MOST
+        && BIVAMOLUNE_MESSAGE_ROOM == BIVAMOLUNE_MESSAGE_MOST, "limits");
 
     begin();
     success = deliver(delta(10, 1, 1, 0, BIVAMOLUNE_VALUE_LEAST));
@@ -195,10 +95,26 @@ static void run_header(void) {
     check(setpoint(0) == INT32_MAX, "the greatest number of four bytes");
 }
 
+/* Answers of 64 bits, written out. */
+static void run_answers(void) {
+    const uint64_t high = 4294967296u;
+    check(bivamolune_composed_length(200 * 256) == 200 && bivamolune_accepted(200 * 256), "the length of a composed message");
+    check(bivamolune_setpoint_value(1500 * high) == 1500 && bivamolune_setpoint_code(1500 * high) == 0, "the value 1500");
+    check(bivamolune_setpoint_value(0xFFFFFFECu * high) == -20, "the value -20");
+    check(bivamolune_setpoint_value(0x80000000u * high) == INT32_MIN
+        && bivamolune_setpoint_value(0x7FFFFFFFu * high) == INT32_MAX, "the ends of four bytes");
+    check(bivamolune_setpoint_code(12) == BIVAMOLUNE_NOT_THERE && bivamolune_setpoint_value(12) == 0, "no value");
+    check(bivamolune_log_message_offset(320 * high + 200 * 256) == 320
+        && bivamolune_log_message_length(320 * high + 200 * 256) == 200
+        && bivamolune_log_message_code(320 * high + 200 * 256) == 0, "a part of 200 bytes at 320");
+    check(bivamolune_log_message_code(2) == BIVAMOLUNE_NO_IMAGE && bivamolune_log_message_length(2) == 0
+        && bivamolune_log_message_offset(2) == 0, "no part");
+}
+
 int main(void) {
     run_examples();
     run_refusals();
     run_header();
-    printf("%u passed, %u failed\n", passed, failed);
-    return failed != 0;
+    run_answers();
+    return report();
 }

@@ -2,11 +2,17 @@
 #include "bivamolune.h"
 
 #define NOTHING 0
-#define STEPS_PAST 1    /* writes the byte past the steps */
-#define IMAGE_PAST 2    /* writes the byte past the image */
-#define MESSAGE_PAST 3  /* reads the byte past the message */
-#define IMAGE_BEFORE 4  /* reads the byte before the image */
-#define MESSAGE_WRITE 5 /* writes into the message */
+#define STEPS_PAST 1      /* writes the byte past the steps */
+#define IMAGE_PAST 2      /* writes the byte past the image */
+#define MESSAGE_PAST 3    /* reads the byte past the message */
+#define IMAGE_BEFORE 4    /* reads the byte before the image */
+#define MESSAGE_WRITE 5   /* writes into the message */
+#define COMPOSED_PAST 6   /* compose writes the byte past the message */
+#define LINE_PAST 7       /* compose reads the byte past the line */
+#define COMMANDS_PAST 8   /* compose reads the byte past the commands */
+#define COMPOSE_WRITE 9   /* compose writes into the image */
+#define SETPOINT_PAST 10  /* setpoint reads the byte past the image */
+#define LOG_WRITE 11      /* log message writes into the image */
 
 uint32_t bivamolune_empty(uint8_t *image, size_t image_size) {
     if (image_size != BIVAMOLUNE_IMAGE_SIZE) return BIVAMOLUNE_WRONG_SIZE;
@@ -30,4 +36,32 @@ uint32_t bivamolune_deliver(uint8_t *image, size_t image_size, const uint8_t *me
     default: break;
     }
     return BIVAMOLUNE_ACCEPTED;
+}
+
+uint32_t bivamolune_compose(const uint8_t *image, size_t image_size, const uint8_t *line, size_t line_size, const uint8_t *commands,
+                            size_t commands_size, uint32_t priority_flag, uint32_t priority, uint8_t *message, size_t message_size) {
+    if (image_size != BIVAMOLUNE_IMAGE_SIZE || line_size != BIVAMOLUNE_LINE_SIZE || message_size < BIVAMOLUNE_MESSAGE_ROOM)
+        return BIVAMOLUNE_WRONG_SIZE;
+    if (commands_size != BIVAMOLUNE_COMMAND_SIZE || priority_flag > 1 || priority != 0) return BIVAMOLUNE_WRONG_CONTENT;
+    message[message_size - 1] = (uint8_t)(image[image_size - 1] + line[line_size - 1] + commands[commands_size - 1]);
+    switch (FAULT) {
+    case COMPOSED_PAST: message[message_size] = 0; break;
+    case LINE_PAST: message[0] = ((const volatile uint8_t *)line)[line_size]; break;
+    case COMMANDS_PAST: message[0] = ((const volatile uint8_t *)commands)[commands_size]; break;
+    case COMPOSE_WRITE: *(volatile uint8_t *)image = 1; break;
+    default: break;
+    }
+    return BIVAMOLUNE_ACCEPTED;
+}
+
+uint64_t bivamolune_setpoint(const uint8_t *image, size_t image_size, uint32_t tag) {
+    if (image_size != BIVAMOLUNE_IMAGE_SIZE) return BIVAMOLUNE_WRONG_SIZE;
+    if (FAULT == SETPOINT_PAST) (void)((const volatile uint8_t *)image)[image_size];
+    return tag < BIVAMOLUNE_TAGS ? BIVAMOLUNE_ACCEPTED : BIVAMOLUNE_NOT_THERE;
+}
+
+uint64_t bivamolune_log_message(const uint8_t *image, size_t image_size, uint32_t place) {
+    if (image_size != BIVAMOLUNE_IMAGE_SIZE) return BIVAMOLUNE_WRONG_SIZE;
+    if (FAULT == LOG_WRITE) *(volatile uint8_t *)image = 1;
+    return place < bivamolune_log_count(image) ? BIVAMOLUNE_ACCEPTED : BIVAMOLUNE_NOT_THERE;
 }

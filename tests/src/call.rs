@@ -42,6 +42,10 @@ pub enum Action {
         steps: usize,
     },
     Compose(Composing),
+    /// Asks for the value of a tag.
+    Setpoint(u32),
+    /// Asks for the log's message at a place.
+    LogMessage(u32),
 }
 
 /// What a compose is handed beside the image.
@@ -56,6 +60,17 @@ pub struct Composing {
 }
 
 impl Composing {
+    /// Without priority, into a buffer of the least size.
+    pub fn plain(line: &[u8], commands: &[u8]) -> Composing {
+        Composing {
+            line: line.to_vec(),
+            commands: commands.to_vec(),
+            priority_flag: 0,
+            priority: 0,
+            room: 200,
+        }
+    }
+
     /// The same, as the call takes it.
     pub fn request(&self) -> Request<'_> {
         Request {
@@ -100,7 +115,7 @@ impl Action {
 /// message buffer whole, and what the call only reads, which it must leave as it was.
 #[derive(Clone, Debug, Default, PartialEq, Eq)]
 pub struct Outcome {
-    pub answer: u32,
+    pub answer: u64,
     pub image: Vec<u8>,
     pub buffer: Vec<u8>,
     pub message: Vec<u8>,
@@ -147,6 +162,8 @@ impl World {
             Action::Deliver { message, steps } => deliver(calls, image, message, *steps),
             Action::DeliverComposed { steps } => deliver(calls, image, &self.composed, *steps),
             Action::Compose(composing) => compose(calls, image, composing.clone()),
+            Action::Setpoint(tag) => read(calls.setpoint(&image, *tag), image),
+            Action::LogMessage(place) => read(calls.log_message(&image, *place), image),
         }
     }
 
@@ -186,6 +203,11 @@ impl World {
 
 fn empty(calls: &dyn Calls, mut image: Vec<u8>) -> Outcome {
     let answer = calls.empty(&mut image);
+    read(answer.into(), image)
+}
+
+/// What is seen after a call that has no buffer but the image.
+fn read(answer: u64, image: Vec<u8>) -> Outcome {
     Outcome {
         answer,
         image,
@@ -198,7 +220,7 @@ fn deliver(calls: &dyn Calls, mut image: Vec<u8>, message: &[u8], steps: usize) 
     let (message, mut buffer) = (message.to_vec(), pattern(steps));
     let answer = calls.deliver(&mut image, &message, &mut buffer);
     Outcome {
-        answer,
+        answer: answer.into(),
         image,
         buffer,
         message,
@@ -211,7 +233,7 @@ fn compose(calls: &dyn Calls, image: Vec<u8>, own: Composing) -> Outcome {
     let mut buffer = pattern(own.room);
     let answer = calls.compose(&image, &own.request(), &mut buffer);
     Outcome {
-        answer,
+        answer: answer.into(),
         image,
         buffer,
         line: own.line,

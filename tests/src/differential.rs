@@ -3,7 +3,7 @@
 
 use std::fmt::Write;
 
-use crate::boundary::{code, executions, length, undos, Calls};
+use crate::boundary::{code, executions, length, offset, undos, value, Calls};
 use crate::call::{hex, Action, Call, Outcome, World};
 
 /// Where two implementations part, and in what.
@@ -164,17 +164,20 @@ pub fn trace(one: &dyn Calls, two: &dyn Calls, calls: &[Call]) -> String {
 }
 
 /// A packed answer taken apart.
-fn answer(call: &Call, packed: u32) -> String {
-    match call.action {
-        Action::Empty => format!("code {packed}"),
-        Action::Compose(_) => {
-            format!("code {} length {}", code(packed), length(packed))
-        }
-        _ => {
+fn answer(call: &Call, packed: u64) -> String {
+    let parts = match call.action {
+        Action::Empty => String::new(),
+        Action::Compose(_) => format!(" length {}", length(packed)),
+        Action::Deliver { .. } | Action::DeliverComposed { .. } => {
             let (undone, executed) = (undos(packed), executions(packed));
-            format!("code {} undos {undone} executions {executed}", code(packed))
+            format!(" undos {undone} executions {executed}")
         }
-    }
+        Action::Setpoint(_) => format!(" value {}", value(packed)),
+        Action::LogMessage(_) => {
+            format!(" length {} offset {}", length(packed), offset(packed))
+        }
+    };
+    format!("code {}{parts}", code(packed))
 }
 
 /// A call with its arguments.

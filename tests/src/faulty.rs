@@ -1,13 +1,14 @@
 //! Deliberately wrong variants of the second implementation. Each shows that the
 //! differential runner finds its fault.
 
-use crate::boundary::{code, executions, length, undos, Calls, Reference};
+use crate::boundary::{code, executions, length, packed, undos, value, Calls, Reference};
 use crate::reference::bytes::{i32_at, u16_at, u8_at};
 use crate::reference::compose::Request;
 use crate::reference::image::{self, read_sized};
 use crate::reference::message::Delta;
 use crate::reference::order::{key, order, Order, Set};
 use crate::reference::steps::{self, Steps};
+use crate::view::messages;
 
 /// What is wrong.
 #[derive(Clone, Copy, Debug, PartialEq, Eq)]
@@ -56,10 +57,22 @@ pub enum Fault {
     SameLog,
     /// Refuses every delta.
     RefusesAll,
+    /// Answers 12 for the log's last place.
+    LastPlaceRefused,
+    /// Goes on to the held ones past the log.
+    HeldAsLog,
+    /// Counts the offset of a message from where the messages begin.
+    OffsetFromMessages,
+    /// Takes tag 64 for tag 0.
+    TagWraps,
+    /// Answers a setpoint of a buffer that is no image.
+    SetpointUnjudged,
+    /// Answers a value below zero as its distance from zero.
+    SignLost,
 }
 
 /// Every fault. Those that the paper names as programs that come close are among them.
-pub const FAULTS: [Fault; 22] = [
+pub const FAULTS: [Fault; 28] = [
     Fault::FullAt63,
     Fault::KeyAlone,
     Fault::TailNotCleared,
@@ -82,6 +95,12 @@ pub const FAULTS: [Fault; 22] = [
     Fault::LeavesImage,
     Fault::SameLog,
     Fault::RefusesAll,
+    Fault::LastPlaceRefused,
+    Fault::HeldAsLog,
+    Fault::OffsetFromMessages,
+    Fault::TagWraps,
+    Fault::SetpointUnjudged,
+    Fault::SignLost,
 ];
 
 /// The second implementation with one fault.
@@ -154,6 +173,28 @@ impl Calls for Faulty {
         }
         answer
     }
+
+    fn setpoint(&self, image: &[u8], tag: u32) -> u64 {
+        let answer = Reference.setpoint(image, tag);
+        match (self.0, code(answer)) {
+            (Fault::TagWraps, 12) => Reference.setpoint(image, tag % 64),
+            (Fault::SetpointUnjudged, 2) if tag < 64 => {
+                packed(0, i32_at(image, 16 + 4 * tag as usize) as u32)
+            }
+            (Fault::SignLost, 0) => packed(0, value(answer).unsigned_abs()),
+            _ => answer,
+        }
+    }
+
+    fn log_message(&self, image: &[u8], place: u32) -> u64 {
+        let answer = Reference.log_message(image, place);
+        match (self.0, code(answer)) {
+            (Fault::LastPlaceRefused, 0) if place + 1 == u32::from(u16_at(image, 0)) => 12,
+            (Fault::HeldAsLog, 12) if place < u32::from(count(image)) => held_as_log(image, place),
+            (Fault::OffsetFromMessages, 0) => answer - packed(0, 272),
+            _ => answer,
+        }
+    }
 }
 
 impl Faulty {
@@ -179,6 +220,13 @@ fn hold_all(image: &mut [u8]) {
         let log = Vec::new();
         image.copy_from_slice(&image::write(&Order { log, held }));
     }
+}
+
+/// The message at a place of log and held ones together.
+fn held_as_log(image: &[u8], place: u32) -> u64 {
+    let before = messages(image, 0, place as usize);
+    let offset = 272 + before.concat().len();
+    packed(256 * u32::from(u16_at(image, offset + 4)), offset as u32)
 }
 
 /// How many deltas an image counts.

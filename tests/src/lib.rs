@@ -12,6 +12,7 @@ pub mod edit;
 pub mod faulty;
 pub mod generate;
 pub mod mutations;
+pub mod picture;
 pub mod plant;
 pub mod random;
 pub mod reference;

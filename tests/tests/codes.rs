@@ -7,9 +7,11 @@ mod common;
 use bivamolune_tests::boundary::Calls;
 use bivamolune_tests::reference::compose::Request;
 use bivamolune_tests::reference::reader::Reader;
-use bivamolune_tests::reference::station::{log_message, log_message_code, setpoint};
 use bivamolune_tests::wire::{line, sequence, set};
-use common::{a1, delta, plain_request, Station, A, D, IMAGE, MESSAGE, PATTERN, STEPS, SUBJECT};
+use common::{
+    a1, delta, log_message, log_message_code, plain_request, setpoint, Station, A, D, IMAGE,
+    MESSAGE, PATTERN, STEPS, SUBJECT,
+};
 
 #[test]
 fn row_1_an_image_of_16383() {

@@ -7,7 +7,7 @@ mod common;
 
 use std::process::{Command, Output};
 
-use bivamolune_tests::boundary::Reference;
+use bivamolune_tests::boundary::{length, offset, value, Reference};
 use bivamolune_tests::call::{Action, Call, Composing, Outcome, View, World};
 use bivamolune_tests::differential::{compare, difference, report, report_of, shrink};
 use bivamolune_tests::faulty::{Fault, Faulty, FAULTS};
@@ -53,38 +53,31 @@ fn a_byte_of_any_buffer_is_a_difference() {
 /// A call gets its arguments and leaves them to be compared.
 #[test]
 fn what_a_call_reads_is_in_its_outcome() {
-    let composing = Composing {
-        line: vec![7; 10],
-        commands: vec![1, 2, 0, 0, 0, 0, 0, 3],
-        priority_flag: 0,
-        priority: 0,
-        room: 200,
-    };
-    let actions = [
-        Action::Empty,
-        Action::Compose(composing.clone()),
-        Action::DeliverComposed { steps: 2_032 },
-    ];
+    let composing = Composing::plain(&[7; 10], &[1, 2, 0, 0, 0, 0, 0, 3]);
     let mut world = World::default();
-    for action in actions {
+    let mut perform = |action| {
         let call = Call {
             view: View::Station,
             action,
         };
         let outcome = world.perform(&SUBJECT, &call);
-        match call.action {
-            Action::Compose(_) => {
-                assert_eq!(outcome.line, composing.line);
-                assert_eq!(outcome.commands, composing.commands);
-                assert!(outcome.image == world.image);
-            }
-            Action::DeliverComposed { .. } => {
-                assert_eq!(outcome.message[40..], composing.commands);
-            }
-            _ => {}
-        }
+        let before = world.image.clone();
         world.follow(&call, &outcome);
-    }
+        (before, outcome)
+    };
+    perform(Action::Empty);
+    let (image, composed) = perform(Action::Compose(composing.clone()));
+    assert_eq!(composed.line, composing.line);
+    assert_eq!(composed.commands, composing.commands);
+    assert!(composed.image == image);
+    let (_, delivered) = perform(Action::DeliverComposed { steps: 2_032 });
+    assert_eq!(delivered.message[40..], composing.commands);
+    let (image, found) = perform(Action::Setpoint(2));
+    assert_eq!(value(found.answer), 3);
+    assert!(found.image == image);
+    let (image, found) = perform(Action::LogMessage(0));
+    assert_eq!((offset(found.answer), length(found.answer)), (272, 48));
+    assert!(found.image == image);
 }
 
 /// The most calls that the shortest list for a fault has.

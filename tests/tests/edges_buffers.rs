@@ -7,10 +7,10 @@ mod common;
 use bivamolune_tests::boundary::Calls;
 use bivamolune_tests::reference::compose::Request;
 use bivamolune_tests::reference::reader::Reader;
-use bivamolune_tests::reference::station::{log_message, log_message_code, setpoint};
 use bivamolune_tests::wire::{line, Draft};
 use common::{
-    a1, b1, delta, plain_request, steps, Station, A, B, IMAGE, MESSAGE, PATTERN, STEPS, SUBJECT,
+    a1, b1, delta, log_message, log_message_code, plain_request, setpoint, steps, Station, A, B,
+    IMAGE, MESSAGE, PATTERN, STEPS, SUBJECT,
 };
 
 #[test]

@@ -4,9 +4,8 @@
 
 mod common;
 
-use bivamolune_tests::reference::station::setpoint;
 use bivamolune_tests::wire::{add, line, sequence, set, Draft};
-use common::{a1, b1, delta, Station, A, B, C, D, IMAGE};
+use common::{a1, b1, delta, setpoint, Station, A, B, C, D, IMAGE};
 
 /// Log A1 B1, held C3 and D2.
 fn station() -> Station {

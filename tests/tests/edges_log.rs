@@ -5,9 +5,8 @@
 mod common;
 
 use bivamolune_tests::reference::reader::Reader;
-use bivamolune_tests::reference::station::{log_message, log_message_code, setpoint};
 use bivamolune_tests::wire::{add, line, raise, sequence, set, Draft, Sequence};
-use common::{a1, b1, delta, steps, Station, A, B, C, D};
+use common::{a1, b1, delta, log_message, log_message_code, setpoint, steps, Station, A, B, C, D};
 
 fn s(letter: u8, number: u16) -> Sequence {
     sequence(line(letter), number)

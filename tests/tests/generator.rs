@@ -11,7 +11,6 @@ use bivamolune_tests::call::{Action, Call, Composing, Outcome, View, World};
 use bivamolune_tests::edit::Edit;
 use bivamolune_tests::generate::{any_draft, case, damaged_message, drafts, nearly_right, LIMIT};
 use bivamolune_tests::random::Random;
-use bivamolune_tests::reference::station::{log_message_code, setpoint};
 use common::{delta, messages, u16_at, u32_at, Station, A, B, C, IMAGE};
 
 /// How often each (call, code) was answered, and each mark was seen.
@@ -36,21 +35,19 @@ fn name(action: &Action) -> &'static str {
         Action::Empty => "empty",
         Action::Deliver { .. } | Action::DeliverComposed { .. } => "deliver",
         Action::Compose(_) => "compose",
+        Action::Setpoint(_) => "setpoint",
+        Action::LogMessage(_) => "log message",
     }
 }
 
-/// Runs a list and notes codes and marks. On each image the calls that only read are
-/// made too, at a place and a tag by chance.
+/// Runs a list and notes codes and marks.
 fn run(seed: u64, seen: &mut Seen) {
-    let mut random = Random::new(seed);
     let mut world = World::default();
     for call in case(seed) {
         let view = world.view(&call.view);
         let outcome = world.perform(&Reference, &call);
         let answered = code(outcome.answer);
         seen.code(name(&call.action), answered);
-        seen.code("log message", log_message_code(&view, random.below(4)));
-        seen.code("setpoint", setpoint(&view, random.below(70)).0);
         if call.view == View::Station && call.action.delivers() && answered == 0 {
             mark_delivery(seen, &outcome);
         }
@@ -58,6 +55,7 @@ fn run(seed: u64, seen: &mut Seen) {
             mark_limit(seen, &view, composing);
         }
         mark_edit(seen, &call, answered);
+        mark_reading(seen, &call.action, answered);
         world.follow(&call, &outcome);
     }
 }
@@ -104,6 +102,21 @@ fn mark_limit(seen: &mut Seen, image: &[u8], composing: &Composing) {
     seen.mark("10 by group alone", by_group && !by_block);
 }
 
+/// Marks of a setpoint or a log message: far out, and far on in a log.
+fn mark_reading(seen: &mut Seen, action: &Action, answered: u32) {
+    let far = |place: u32| place == u32::MAX && answered == 12;
+    seen.mark(
+        "a far tag",
+        matches!(action, Action::Setpoint(tag) if far(*tag)),
+    );
+    seen.mark(
+        "a far place",
+        matches!(action, Action::LogMessage(place) if far(*place)),
+    );
+    let late = matches!(action, Action::LogMessage(40..=63)) && answered == 0;
+    seen.mark("a late place", late);
+}
+
 /// Marks of a call on an edited copy.
 fn mark_edit(seen: &mut Seen, call: &Call, answered: u32) {
     let edited = matches!(call.view, View::Edited(_));
@@ -135,7 +148,7 @@ fn every_code_of_every_call_and_hard_logs() {
     for (call, count) in &seen.codes {
         assert!(*count >= 10, "{call:?} only {count} times");
     }
-    assert_eq!(seen.marks.len(), 15);
+    assert_eq!(seen.marks.len(), 18);
     for (mark, count) in &seen.marks {
         assert!(*count >= 10, "{mark} only {count} times");
     }

@@ -13,9 +13,8 @@ use bivamolune_tests::random::Random;
 use bivamolune_tests::reference::compose::Request;
 use bivamolune_tests::reference::listing::listing;
 use bivamolune_tests::reference::reader::Reader;
-use bivamolune_tests::reference::station::{log_message, log_message_code, setpoint};
 use bivamolune_tests::wire::Draft;
-use common::{Station, IMAGE, MESSAGE, STEPS, SUBJECT};
+use common::{log_message, log_message_code, setpoint, Station, IMAGE, MESSAGE, STEPS, SUBJECT};
 
 /// A buffer of any bytes, of a size near one that matters.
 fn noise(random: &mut Random, sizes: &[usize]) -> Vec<u8> {

@@ -1,36 +1,38 @@
-//! The listing program, run as a program.
+//! The listing program, run as a program: the second implementation's and, with the feature
+//! `library-listing`, the proved one.
 
 #![deny(warnings)]
 
 mod common;
+#[path = "common/program.rs"]
+mod program;
 
-use std::io::Write;
-use std::process::{Command, Stdio};
-use std::thread;
+use std::collections::BTreeMap;
+use std::fs;
+use std::path::{Path, PathBuf};
 
+use bivamolune_tests::generate::stream;
 use bivamolune_tests::reference;
 use bivamolune_tests::wire::{line, sequence, set, Draft};
 use common::{a1, b1, delta, A, B};
+use program::{crashed, programs, Program};
 
-/// What the program prints for an input, which is what the function of the package gives.
+/// What each program prints for an input, which is what the function of the package gives.
 fn listing(input: &[u8]) -> String {
-    let mut child = Command::new(env!("CARGO_BIN_EXE_listing"))
-        .stdin(Stdio::piped())
-        .stdout(Stdio::piped())
-        .spawn()
-        .expect("the program starts");
-    let mut stdin = child.stdin.take().expect("its input is piped");
-    let bytes = input.to_vec();
-    let writer = thread::spawn(move || stdin.write_all(&bytes));
-    let output = child.wait_with_output().expect("the program ends");
-    writer
-        .join()
-        .expect("no panic")
-        .expect("all input is taken");
-    assert!(output.status.success());
-    let printed = String::from_utf8(output.stdout).expect("plain characters");
-    assert_eq!(printed, reference::listing::listing(input));
-    printed
+    for program in programs() {
+        let agrees = program.agrees(input);
+        agrees.unwrap_or_else(|error| panic!("{program:?}: {error}"));
+    }
+    reference::listing::listing(input)
+}
+
+/// Runs a program over the streams of seeds.
+fn check_streams(program: &Program, seeds: std::ops::Range<u64>) {
+    for seed in seeds {
+        if let Err(error) = program.agrees(&stream(seed)) {
+            panic!("{program:?}, stream {seed}: {error}");
+        }
+    }
 }
 
 /// The messages end to end.
@@ -42,6 +44,18 @@ fn input(drafts: &[Draft]) -> Vec<u8> {
 fn the_example() {
     let expected = "1 0 0 1\n2 0 1 2\nlog 2 held 0\n";
     assert_eq!(listing(&input(&[b1(), a1()])), expected);
+}
+
+/// The sample that is shipped: the remark is held, displays and burner are executed at once,
+/// and the late message undoes three and executes all five.
+#[test]
+fn the_shipped_sample() {
+    let samples = Path::new(env!("CARGO_MANIFEST_DIR")).join("../samples");
+    let deltas = fs::read(samples.join("plant-fault.deltas")).expect("the sample is there");
+    let lines = fs::read_to_string(samples.join("plant-fault.txt")).expect("its lines are there");
+    let expected = "1 0 0 0\n2 0 0 1\n3 0 0 1\n4 0 0 1\n5 0 3 5\nlog 5 held 0\n";
+    assert_eq!(lines, expected);
+    assert_eq!(listing(&deltas), expected);
 }
 
 #[test]
@@ -159,4 +173,96 @@ fn a_full_station() {
     let printed = listing(&input(&drafts));
     let lines: Vec<&str> = printed.lines().collect();
     assert_eq!(lines[63..], ["64 0 0 1", "65 8 0 0", "log 64 held 0"]);
+}
+
+#[test]
+fn a_byte_at_a_time() {
+    let bytes = input(&[b1(), a1(), delta(A, 3)]);
+    for program in programs() {
+        let printed = program.list_pieces(&bytes, 1).expect("it lists");
+        assert_eq!(printed, "1 0 0 1\n2 0 1 2\n3 0 0 0\nlog 2 held 1\n");
+    }
+}
+
+#[test]
+fn pieces_past_the_sixty_thousandth_byte() {
+    let bytes = a1().bytes().repeat(2_000);
+    for program in programs() {
+        let printed = program.list_pieces(&bytes, 7_001).expect("it lists");
+        assert_eq!(printed.lines().count(), 1_251);
+        assert!(printed.ends_with("\n1250 0 0 0\nlog 1 held 0\n"));
+    }
+}
+
+/// Nobody reads what it prints: it ends, not as if all were well, and by no crash.
+#[test]
+fn a_closed_output() {
+    let bytes = input(&[b1(), a1()]);
+    for program in programs() {
+        let status = program.end_unread(&bytes);
+        assert!(
+            !status.success() && !crashed(status),
+            "{program:?}: {status}"
+        );
+        let status = program.end_unread_without_signal(&bytes);
+        assert!(status.code().is_some(), "{program:?}: {status}");
+    }
+}
+
+/// Programs that print nothing, their input, or do not end well are told apart.
+#[test]
+fn a_wrong_program_is_found() {
+    let wrong = |path: &str| Program(PathBuf::from(path)).agrees(b"log 0 held 0\n");
+    let wanted = "line 1: None, and wanted is Some(\"1 3 0 0\")";
+    assert_eq!(wrong("/bin/true"), Err(wanted.to_string()));
+    let wanted = "line 1: Some(\"log 0 held 0\"), and wanted is Some(\"1 3 0 0\")";
+    assert_eq!(wrong("/bin/cat"), Err(wanted.to_string()));
+    assert!(wrong("/bin/false")
+        .unwrap_err()
+        .starts_with("it ended with"));
+}
+
+/// The streams are what they are for: each code that a delivery may print, ends by a wrong
+/// cut, by a rest and by the end, and more than the program takes.
+#[test]
+fn streams_meet_what_they_are_for() {
+    let mut seen: BTreeMap<String, usize> = BTreeMap::new();
+    let mut mark =
+        |what: &str, is: bool| *seen.entry(what.to_string()).or_default() += usize::from(is);
+    for seed in 0..1_000 {
+        let bytes = stream(seed);
+        let printed = reference::listing::listing(&bytes);
+        let lines: Vec<Vec<&str>> = printed.lines().map(|l| l.split(' ').collect()).collect();
+        let (last, before) = lines.split_last().expect("a last line");
+        for code in ["0", "3", "4", "5", "6", "7", "8"] {
+            mark(
+                &format!("code {code}"),
+                before.iter().any(|line| line[1] == code),
+            );
+        }
+        mark("too long", bytes.len() > 60_000);
+        mark("no line", before.is_empty());
+        mark("held", last[3] != "0");
+        mark("undone", before.iter().any(|line| line[2] != "0"));
+        mark(
+            "refused last",
+            before.last().map_or(false, |line| line[1] == "3"),
+        );
+    }
+    println!("{seen:?}");
+    assert_eq!(seen.len(), 12);
+    assert!(seen.values().all(|count| *count >= 5), "{seen:?}");
+}
+
+#[test]
+fn some_streams() {
+    for program in programs() {
+        check_streams(&program, 0..300);
+    }
+}
+
+#[cfg(feature = "library-listing")]
+#[test]
+fn ten_thousand_streams() {
+    check_streams(&program::proved(), 300..10_300);
 }

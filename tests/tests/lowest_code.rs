@@ -7,9 +7,11 @@ mod common;
 
 use bivamolune_tests::boundary::Calls;
 use bivamolune_tests::reference::compose::Request;
-use bivamolune_tests::reference::station::{log_message, log_message_code, setpoint};
 use bivamolune_tests::wire::{line, sequence, set, Draft, Line};
-use common::{delta, plain_request, Station, A, B, C, IMAGE, MESSAGE, PATTERN, STEPS, SUBJECT};
+use common::{
+    delta, log_message, log_message_code, plain_request, setpoint, Station, A, B, C, IMAGE,
+    MESSAGE, PATTERN, STEPS, SUBJECT,
+};
 
 const LIMIT: u32 = 2_147_483_647;
 

@@ -9,10 +9,11 @@ use std::collections::{BTreeMap, BTreeSet};
 use std::process::{Command, Output};
 
 use bivamolune_tests::boundary::Calls;
+use bivamolune_tests::call::Composing;
 use bivamolune_tests::faulty::{Fault, Faulty};
 use bivamolune_tests::plant::{run, Duty, Run, Station, What};
 use bivamolune_tests::view::u16_at;
-use bivamolune_tests::wire::{line, set, Line};
+use bivamolune_tests::wire::{line, set};
 use common::{A, B, SUBJECT};
 
 /// The seeds that are run here; the program runs more.
@@ -125,14 +126,7 @@ fn station(letter: u8) -> Station {
 
 /// Composes on a station's line a delta that sets tag 0, and delivers it there.
 fn compose_own(station: &mut Station, value: i32) -> Vec<u8> {
-    let own: Line = station.lines[0];
-    let request = bivamolune_tests::call::Composing {
-        line: own.to_vec(),
-        commands: set(0, value).to_vec(),
-        priority_flag: 0,
-        priority: 0,
-        room: 200,
-    };
+    let request = Composing::plain(&station.lines[0], &set(0, value));
     let (code, message) = station.compose(&SUBJECT, &request);
     assert_eq!((code, deliver(station, &message)), (0, 0));
     message
@@ -204,12 +198,21 @@ fn program(words: &[&str]) -> Output {
         .expect("the program runs")
 }
 
+/// The line that says whose functions were run.
+fn answered_by() -> String {
+    let of = |library| ["the second implementation", "the library"][usize::from(library)];
+    let deliver = of(cfg!(feature = "library-deliver"));
+    let compose = of(cfg!(feature = "library-compose"));
+    format!("deliver is answered by {deliver}, compose by {compose}\n")
+}
+
 #[test]
 fn the_program_runs_seeds_and_prints_events() {
     let output = program(&["--seeds", "5..9"]);
     let printed = String::from_utf8_lossy(&output.stdout);
     assert_eq!(output.status.code(), Some(0), "{printed}");
     assert!(printed.contains("seeds 5..9: 4 runs, "), "{printed}");
+    assert!(printed.starts_with(&answered_by()), "{printed}");
     let output = program(&["--events", "5"]);
     let printed = String::from_utf8_lossy(&output.stdout);
     assert_eq!(output.status.code(), Some(0), "{printed}");

@@ -9,7 +9,7 @@
 use std::fs;
 use std::path::{Path, PathBuf};
 
-const FOLDERS: [&str; 5] = ["crates/", "tests/", "docs/", "include/", ".ci/"];
+const FOLDERS: [&str; 6] = ["crates/", "tests/", "docs/", "include/", "samples/", ".ci/"];
 
 fn root() -> PathBuf {
     Path::new(env!("CARGO_MANIFEST_DIR")).join("..")

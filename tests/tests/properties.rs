@@ -12,9 +12,11 @@ use bivamolune_tests::generate::{case, conflicting, damaged_message, drafts, edi
 use bivamolune_tests::random::Random;
 use bivamolune_tests::reference::plain::PlainStation;
 use bivamolune_tests::reference::reader::Reader;
-use bivamolune_tests::reference::station::{log_message, log_message_code, setpoint};
 use bivamolune_tests::wire::{Draft, Sequence};
-use common::{messages, u16_at, u32_at, Station, PATTERN, STEPS, SUBJECT};
+use common::{
+    log_message, log_message_code, messages, setpoint, u16_at, u32_at, Station, PATTERN, STEPS,
+    SUBJECT,
+};
 
 /// The sequences of an image's log.
 fn log(image: &[u8]) -> Vec<Vec<u8>> {

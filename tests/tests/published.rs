@@ -114,50 +114,40 @@ fn up_to_c1() -> Space {
 
 #[test]
 fn simple_delta_ordering() {
-    let Space {
-        mut a,
-        mut b,
-        mut c,
-        a2,
-    } = up_to_c1();
-    let c1 = create(&mut c, C, 4, C1, &[A2, B1]);
-    receive(&mut a, &c1);
-    let b2 = create(&mut b, B, 4, B2, &[]);
-    let a3 = create(&mut a, A, 4, A3, &[C1]);
+    let mut at = up_to_c1();
+    let c1 = create(&mut at.c, C, 4, C1, &[A2, B1]);
+    receive(&mut at.a, &c1);
+    let b2 = create(&mut at.b, B, 4, B2, &[]);
+    let a3 = create(&mut at.a, A, 4, A3, &[C1]);
     // Now each receives what it lacks.
-    receive(&mut a, &b2);
-    for message in [&a3, &c1, &a2] {
-        receive(&mut b, message);
+    receive(&mut at.a, &b2);
+    for message in [&a3, &c1, &at.a2] {
+        receive(&mut at.b, message);
     }
     for message in [&a3, &b2] {
-        receive(&mut c, message);
+        receive(&mut at.c, message);
     }
-    for station in [&a, &b, &c] {
+    for station in [&at.a, &at.b, &at.c] {
         assert_eq!(rest(station), [A1, A2, B1, B2, C1, A3]);
         assert_eq!(station.held_count(), 0);
     }
-    assert!(a.image == b.image && b.image == c.image);
+    assert!(at.a.image == at.b.image && at.b.image == at.c.image);
 }
 
 /// Section 4.6 gives C1 and A3 a priority and puts B2 past C1. There the two papers
 /// part: here B2, which needs nothing with priority, is in block 0 and stays before.
 #[test]
 fn priority_delta_ordering_by_our_blocks() {
-    let Space {
-        mut a,
-        mut b,
-        mut c,
-        a2,
-    } = up_to_c1();
-    let c1 = create_explicit(&mut c, C, 1, &[A2, B1]);
-    receive(&mut a, &c1);
-    let b2 = create(&mut b, B, 4, B2, &[]);
-    let a3 = create_explicit(&mut a, A, 2, &[C1]);
-    assert_eq!(rest(&a), [A1, A2, B1, C1, A3]);
-    receive(&mut a, &b2);
-    for message in [&c1, &a3, &a2] {
-        receive(&mut b, message);
+    let mut at = up_to_c1();
+    let c1 = create_explicit(&mut at.c, C, 1, &[A2, B1]);
+    receive(&mut at.a, &c1);
+    let b2 = create(&mut at.b, B, 4, B2, &[]);
+    let a3 = create_explicit(&mut at.a, A, 2, &[C1]);
+    assert_eq!(rest(&at.a), [A1, A2, B1, C1, A3]);
+    receive(&mut at.a, &b2);
+    for message in [&c1, &a3, &at.a2] {
+        receive(&mut at.b, message);
     }
-    assert_eq!(rest(&a), [A1, A2, B1, B2, C1, A3]);
-    assert!(a.image == b.image);
+    assert_eq!(rest(&at.a), [A1, A2, B1, B2, C1, A3]);
+    assert!(at.a.image == at.b.image);
 }

@@ -3,7 +3,7 @@
 use std::arch::asm;
 
 use crate::bench::cases::Case;
-use crate::boundary::{Calls, Reference};
+use crate::boundary::{Calls, Reference, SUBJECT};
 
 /// The name of the first side: without the library's deliver it is the second
 /// implementation once more.
@@ -13,10 +13,6 @@ pub const FIRST: &str = if cfg!(feature = "library-deliver") {
     "itself"
 };
 
-#[cfg(feature = "link")]
-static LIBRARY: crate::boundary::Library = crate::boundary::Library;
-#[cfg(not(feature = "link"))]
-static LIBRARY: Reference = Reference;
 static SECOND: Reference = Reference;
 #[cfg(feature = "earlier")]
 static EARLIER: crate::boundary::Earlier = crate::boundary::Earlier;
@@ -70,7 +66,7 @@ impl Side {
 
 /// The library, or what stands in for it.
 pub fn library() -> &'static dyn Calls {
-    black_box(&LIBRARY)
+    black_box(&SUBJECT)
 }
 
 /// The second implementation.

@@ -20,11 +20,12 @@ use std::ops::Range;
 use std::os::unix::fs::FileExt;
 use std::thread;
 
-use crate::bench::cases::{Case, Spec};
+use crate::bench::cases::{Arrival, Case, Spec};
 use crate::bench::measure::check;
 use crate::bench::report::print_sides;
 use crate::bench::sides::{black_box, library, second, Buffers, FIRST};
 use crate::boundary::Calls;
+use crate::reference::compose::Request;
 
 /// The thread's stack, and how much of it is painted.
 const STACK: usize = 8 << 20;
@@ -37,7 +38,29 @@ enum Job<'a> {
     Nothing,
     Empty,
     Deliver(&'a Case),
+    /// On the image of the case: a compose, and the calls that only look.
+    Compose(&'a Case),
+    Read(&'a Case),
 }
+
+/// Eight commands that set tag 0 to 0.
+const COMMANDS: [u8; 64] = {
+    let mut commands = [0; 64];
+    let mut at = 0;
+    while at < 64 {
+        commands[at] = 1;
+        at += 8;
+    }
+    commands
+};
+
+/// A compose of the most commands, with priority.
+const REQUEST: Request = Request {
+    line: &[0xFF; 10],
+    commands: &COMMANDS,
+    priority_flag: 1,
+    priority: 5,
+};
 
 /// The bytes two sides used for the same job.
 struct Depths {
@@ -78,6 +101,11 @@ fn measure(specs: &[Spec]) -> Result<(usize, Vec<Depths>), String> {
         let case = spec.build();
         check(&case)?;
         rows.push(probe.depths(&case.name, Job::Deliver(&case))?);
+        if matches!(spec.arrival, Arrival::Latest | Arrival::Held) {
+            let name = |call| format!("{call} {} {}", spec.shape, spec.count);
+            rows.push(probe.depths(&name("compose"), Job::Compose(&case))?);
+            rows.push(probe.depths(&name("read"), Job::Read(&case))?);
+        }
     }
     Ok((floor, rows))
 }
@@ -148,7 +176,7 @@ impl Probe {
 impl Job<'_> {
     fn buffers(self) -> Buffers {
         match self {
-            Job::Deliver(case) => Buffers::new(case),
+            Job::Deliver(case) | Job::Compose(case) | Job::Read(case) => Buffers::new(case),
             Job::Nothing | Job::Empty => Buffers {
                 image: vec![0xA5; 16_384],
                 steps: Vec::new(),
@@ -166,6 +194,13 @@ impl Job<'_> {
             Job::Deliver(case) => {
                 black_box(calls.deliver(&mut buffers.image, &case.message, &mut buffers.steps));
             }
+            Job::Compose(_) => {
+                black_box(calls.compose(&buffers.image, &REQUEST, &mut buffers.steps));
+            }
+            Job::Read(_) => {
+                black_box(calls.setpoint(&buffers.image, 63));
+                black_box(calls.log_message(&buffers.image, 0));
+            }
         }
     }
 }
@@ -182,7 +217,6 @@ fn paint(pattern: u8) -> Range<usize> {
 #[cfg(test)]
 mod tests {
     use super::{black_box, thread, Calls, Job, Probe, STACK};
-    use crate::reference::compose::Request;
 
     const ARRAY: usize = 100_000;
 
@@ -193,14 +227,6 @@ mod tests {
         fn empty(&self, image: &mut [u8]) -> u32 {
             let array = [image[0]; ARRAY];
             u32::from(black_box(&array)[1])
-        }
-
-        fn deliver(&self, _: &mut [u8], _: &[u8], _: &mut [u8]) -> u32 {
-            0
-        }
-
-        fn compose(&self, _: &[u8], _: &Request, _: &mut [u8]) -> u32 {
-            0
         }
     }
 

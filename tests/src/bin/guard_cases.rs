@@ -62,6 +62,20 @@ impl Calls for Recorder {
         self.number(message.len() as u32);
         Reference.compose(image, request, message)
     }
+
+    fn setpoint(&self, image: &[u8], tag: u32) -> u64 {
+        self.letter(b's');
+        self.buffer(image);
+        self.number(tag);
+        Reference.setpoint(image, tag)
+    }
+
+    fn log_message(&self, image: &[u8], place: u32) -> u64 {
+        self.letter(b'l');
+        self.buffer(image);
+        self.number(place);
+        Reference.log_message(image, place)
+    }
 }
 
 fn main() -> ExitCode {

@@ -15,17 +15,11 @@ use std::env;
 use std::process::ExitCode;
 use std::time::{Duration, Instant};
 
-use bivamolune_tests::boundary::{Calls, Reference, COMPARED};
+use bivamolune_tests::boundary::{Calls, Reference, COMPARED, SUBJECT};
 use bivamolune_tests::differential::{compare, report, trace};
 use bivamolune_tests::faulty::{Faulty, FAULTS};
 use bivamolune_tests::generate::case;
 use bivamolune_tests::reference::compose::Request;
-
-/// With a library feature, the library; else the second implementation once more.
-#[cfg(feature = "link")]
-const OTHER: bivamolune_tests::boundary::Library = bivamolune_tests::boundary::Library;
-#[cfg(not(feature = "link"))]
-const OTHER: Reference = Reference;
 
 /// What the command line asks for.
 #[derive(Default)]
@@ -92,7 +86,7 @@ fn run(options: &Options) -> Result<bool, String> {
                     .to_string(),
             )
         }
-        None => &OTHER,
+        None => &SUBJECT,
     };
     let what = match &faulty {
         Some(faulty) => format!("second implementation and its variant {:?}", faulty.0),
@@ -145,11 +139,13 @@ fn many_seeds(other: &Counted, options: &Options, what: &str) -> bool {
     }
     println!(
         "no difference: {cases} cases from seed {}, {all_calls} calls, {} deliveries, {} empties, \
-         {} composes, {} s; compared: {what}",
+         {} composes, {} setpoints, {} log messages, {} s; compared: {what}",
         options.start,
         other.deliver.get(),
         other.empty.get(),
         other.compose.get(),
+        other.setpoint.get(),
+        other.log_message.get(),
         begin.elapsed().as_secs()
     );
     true
@@ -161,6 +157,8 @@ struct Counted<'a> {
     empty: Cell<u64>,
     deliver: Cell<u64>,
     compose: Cell<u64>,
+    setpoint: Cell<u64>,
+    log_message: Cell<u64>,
 }
 
 impl Counted<'_> {
@@ -170,6 +168,8 @@ impl Counted<'_> {
             empty: Cell::new(0),
             deliver: Cell::new(0),
             compose: Cell::new(0),
+            setpoint: Cell::new(0),
+            log_message: Cell::new(0),
         }
     }
 }
@@ -188,5 +188,15 @@ impl Calls for Counted<'_> {
     fn compose(&self, image: &[u8], request: &Request, message: &mut [u8]) -> u32 {
         self.compose.set(self.compose.get() + 1);
         self.calls.compose(image, request, message)
+    }
+
+    fn setpoint(&self, image: &[u8], tag: u32) -> u64 {
+        self.setpoint.set(self.setpoint.get() + 1);
+        self.calls.setpoint(image, tag)
+    }
+
+    fn log_message(&self, image: &[u8], place: u32) -> u64 {
+        self.log_message.set(self.log_message.get() + 1);
+        self.calls.log_message(image, place)
     }
 }

@@ -12,13 +12,8 @@ use std::env;
 use std::ops::Range;
 use std::process::ExitCode;
 
+use bivamolune_tests::boundary::{COMPARED, SUBJECT};
 use bivamolune_tests::plant::{run, Duty, Run, What};
-
-/// With a library feature, the library; else the second implementation.
-#[cfg(feature = "link")]
-const CALLS: bivamolune_tests::boundary::Library = bivamolune_tests::boundary::Library;
-#[cfg(not(feature = "link"))]
-const CALLS: bivamolune_tests::boundary::Reference = bivamolune_tests::boundary::Reference;
 
 const USAGE: &str = "usage: plant --seeds A..B | --unsaved A..B | --events SEED";
 
@@ -51,22 +46,18 @@ fn range(words: &str) -> Option<Range<u64>> {
 
 /// Who answers.
 fn subject() -> String {
-    let of = |library| {
-        if library {
-            "the library"
-        } else {
-            "the second implementation"
-        }
+    let of = |function| match COMPARED.contains(&function) {
+        true => "the library",
+        false => "the second implementation",
     };
-    let deliver = of(cfg!(feature = "library-deliver"));
-    let compose = of(cfg!(feature = "library-compose"));
+    let (deliver, compose) = (of("bivamolune_deliver"), of("bivamolune_compose"));
     format!("deliver is answered by {deliver}, compose by {compose}")
 }
 
 /// A run with the duty kept, which ended as it must.
 fn kept(seed: u64) -> Result<Run, String> {
-    let checked = run(&CALLS, seed, Duty::Kept).and_then(|run| {
-        run.check(&CALLS)?;
+    let checked = run(&SUBJECT, seed, Duty::Kept).and_then(|run| {
+        run.check(&SUBJECT)?;
         Ok(run)
     });
     checked.map_err(|error| format!("seed {seed}: {error}"))
@@ -93,7 +84,7 @@ fn many(seeds: Range<u64>) -> Result<(), String> {
 fn unsaved(seeds: Range<u64>) -> Result<(), String> {
     let (mut runs, mut reused, mut parted, mut stations) = (0, 0, 0, 0);
     for seed in seeds {
-        let ended = run(&CALLS, seed, Duty::SavedLater);
+        let ended = run(&SUBJECT, seed, Duty::SavedLater);
         let ended = ended.map_err(|error| format!("seed {seed}: {error}"))?;
         runs += 1;
         reused += ended.reused.len();

@@ -1,11 +1,13 @@
-//! Hard inputs from a seed: sets of deltas, wrong messages, edits, and lists of calls.
+//! Hard inputs from a seed: sets of deltas, wrong messages, edits, lists of calls, streams.
 
 mod right;
 mod sets;
+mod streams;
 mod wrong;
 
 pub use right::any_draft;
 pub use sets::{drafts, LIMIT, LINES};
+pub use streams::stream;
 pub use wrong::{conflicting, damaged_message, nearly_right};
 
 use crate::call::{Action, Call, Composing, View};
@@ -16,6 +18,8 @@ use sets::{styled_drafts, Kind, Style};
 
 /// The place of an image's last byte.
 const LAST: usize = 16_383;
+/// Sizes that are not an image's.
+const SIZES: [usize; 6] = [0, 10, 272, 16_383, 16_385, 20_000];
 
 /// An edit of an image.
 pub fn edit(random: &mut Random) -> Edit {
@@ -74,7 +78,25 @@ pub fn case(seed: u64) -> Vec<Call> {
         let draft = &drafts[random.below(drafts.len())];
         disturb(&mut random, &style, draft, &mut calls);
     }
+    if random.chance(2) {
+        read_everywhere(&mut random, &mut calls);
+    }
     calls
+}
+
+/// Every tag and every place, and some beyond, on the station, on a copy of wrong size and
+/// on an edited one.
+fn read_everywhere(random: &mut Random, calls: &mut Vec<Call>) {
+    let size = random.pick(&SIZES);
+    let edited = View::Edited(edit(random));
+    for view in [View::Station, View::Sized(size), edited] {
+        for number in (0..=65).chain([u32::MAX]) {
+            for action in [Action::Setpoint(number), Action::LogMessage(number)] {
+                let view = view.clone();
+                calls.push(Call { view, action });
+            }
+        }
+    }
 }
 
 /// How many deltas a list has. Single ones fill the image, or nearly.
@@ -136,7 +158,7 @@ fn compose_and_deliver(random: &mut Random, style: &Style, calls: &mut Vec<Call>
 /// One or two calls that are not the next plain delivery.
 fn disturb(random: &mut Random, style: &Style, draft: &Draft, calls: &mut Vec<Call>) {
     let bytes = draft.bytes();
-    match random.below(20) {
+    match random.below(22) {
         0 | 1 => calls.push(call(deliver(bytes))),
         2..=4 => calls.push(call(deliver(conflicting(random, draft)))),
         5 | 6 => calls.push(call(deliver(damaged_message(random, draft)))),
@@ -150,7 +172,7 @@ fn disturb(random: &mut Random, style: &Style, draft: &Draft, calls: &mut Vec<Ca
             calls.push(call(Action::Deliver { message, steps }));
         }
         15 => {
-            let size = random.pick(&[0, 10, 272, 16_383, 16_385, 20_000]);
+            let size = random.pick(&SIZES);
             let action = any_action(random, style, draft);
             calls.push(Call {
                 view: View::Sized(size),
@@ -158,6 +180,7 @@ fn disturb(random: &mut Random, style: &Style, draft: &Draft, calls: &mut Vec<Ca
             });
         }
         16 if random.chance(10) => calls.push(call(Action::Empty)),
+        17 | 18 => calls.push(call(reading(random))),
         _ => {
             let view = View::Edited(edit(random));
             let action = any_action(random, style, draft);
@@ -166,14 +189,29 @@ fn disturb(random: &mut Random, style: &Style, draft: &Draft, calls: &mut Vec<Ca
     }
 }
 
-/// An empty, a delivery or a compose.
+/// A setpoint or a log message, near the ends of what there is or anywhere.
+fn reading(random: &mut Random) -> Action {
+    let far = [63, 64, 65, 255, 256, 1 << 31, u32::MAX];
+    let number = match random.below(3) {
+        0 => random.pick(&far),
+        1 => random.below(64) as u32,
+        _ => random.below(4) as u32,
+    };
+    match random.chance(50) {
+        true => Action::Setpoint(number),
+        false => Action::LogMessage(number),
+    }
+}
+
+/// Any of the calls.
 fn any_action(random: &mut Random, style: &Style, draft: &Draft) -> Action {
-    match random.below(8) {
+    match random.below(10) {
         0 => Action::Empty,
         1..=4 => deliver(draft.bytes()),
         5 => deliver(damaged_message(random, draft)),
         6 => Action::DeliverComposed { steps: 2_032 },
-        _ => Action::Compose(compose(random, style)),
+        7 => Action::Compose(compose(random, style)),
+        _ => reading(random),
     }
 }
 

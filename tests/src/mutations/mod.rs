@@ -4,7 +4,7 @@
 pub mod trial;
 
 /// The tests that are run on each change first: those of few inputs.
-pub const QUICK: [&str; 11] = [
+pub const QUICK: [&str; 12] = [
     "examples",
     "codes",
     "edges_message",
@@ -14,6 +14,7 @@ pub const QUICK: [&str; 11] = [
     "edges_buffers",
     "published",
     "plant_fault",
+    "story",
     "listing",
     "lowest_code",
 ];

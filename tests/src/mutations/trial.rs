@@ -52,6 +52,10 @@ impl Trial {
         for name in ["src", "tests"] {
             copy_folder(&package.join(name), &trial.copy.join(name))?;
         }
+        // What is shipped lies beside the package.
+        for name in ["docs", "samples"] {
+            copy_folder(&package.join("..").join(name), &folder.join(name))?;
+        }
         Ok(trial)
     }
 

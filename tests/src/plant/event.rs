@@ -2,7 +2,9 @@
 
 use std::fmt::{self, Display, Formatter};
 
+use super::station::{Delivery, Step};
 use crate::call::hex;
+use crate::view::{sequence_of, u32_at};
 use crate::wire::Sequence;
 
 /// Something that happened at a time, which is counted from 1.
@@ -36,6 +38,24 @@ pub enum What {
     Sides(Vec<bool>),
     /// From here on everything reaches all.
     Exchange,
+}
+
+impl What {
+    /// That a message was composed at a station.
+    pub fn composed(at: usize, message: &[u8]) -> What {
+        let explicit = (message[1] == 1).then(|| (u32_at(message, 28), u32_at(message, 32)));
+        What::Composed(at, sequence_of(message), explicit)
+    }
+
+    /// That a message was delivered at a station, and the steps.
+    pub fn delivered(at: usize, message: &[u8], delivery: &Delivery) -> Vec<What> {
+        let mut all = vec![What::Delivered(at, sequence_of(message), delivery.code)];
+        all.extend(delivery.steps.iter().map(|step| match *step {
+            Step::Undo(sequence) => What::Undone(at, sequence),
+            Step::Execute(sequence) => What::Executed(at, sequence),
+        }));
+        all
+    }
 }
 
 impl Display for Event {

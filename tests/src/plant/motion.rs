@@ -11,7 +11,7 @@ use crate::boundary::Calls;
 use crate::call::Composing;
 use crate::generate::{drafts, nearly_right, LINES};
 use crate::random::Random;
-use crate::view::{sequence_of, u32_at};
+use crate::view::sequence_of;
 use crate::wire::{command, Draft, Line, Sequence};
 
 /// The stations, the network between, and all that has happened.
@@ -125,8 +125,7 @@ impl<'a> Plant<'a> {
             return self.not_composed(at, code);
         }
         self.budget -= 1;
-        let explicit = (message[1] == 1).then(|| (u32_at(&message, 28), u32_at(&message, 32)));
-        self.note(What::Composed(at, sequence_of(&message), explicit));
+        self.note(What::composed(at, &message));
         if self.crashes(at) {
             return Ok(());
         }
@@ -189,12 +188,8 @@ impl<'a> Plant<'a> {
     pub fn deliver(&mut self, at: usize, message: &[u8]) -> Result<Delivery, String> {
         let delivered = self.stations[at].deliver(self.calls, message);
         let delivery = delivered.map_err(|error| format!("station {at}: {error}"))?;
-        self.note(What::Delivered(at, sequence_of(message), delivery.code));
-        for step in &delivery.steps {
-            self.note(match *step {
-                Step::Undo(sequence) => What::Undone(at, sequence),
-                Step::Execute(sequence) => What::Executed(at, sequence),
-            });
+        for what in What::delivered(at, message, &delivery) {
+            self.note(what);
         }
         Ok(delivery)
     }

@@ -3,7 +3,8 @@
 #![deny(warnings)]
 #![allow(dead_code)]
 
-use bivamolune_tests::boundary::{code, executions, length, undos, Calls};
+pub use bivamolune_tests::boundary::SUBJECT;
+use bivamolune_tests::boundary::{code, executions, length, offset, packed, undos, value, Calls};
 use bivamolune_tests::reference::compose::Request;
 pub use bivamolune_tests::view::{messages, u16_at, u32_at};
 use bivamolune_tests::wire::{add, line, set, Draft, Line};
@@ -19,12 +20,6 @@ pub const MESSAGE: usize = 200;
 
 /// What unwritten bytes of step and message buffers hold.
 pub const PATTERN: u8 = 0xA5;
-
-/// The implementation under test: the library's functions where they are linked.
-#[cfg(feature = "link")]
-pub const SUBJECT: bivamolune_tests::boundary::Library = bivamolune_tests::boundary::Library;
-#[cfg(not(feature = "link"))]
-pub const SUBJECT: bivamolune_tests::boundary::Reference = bivamolune_tests::boundary::Reference;
 
 /// A delta of a line of the examples, in group 1, which sets tag 0 to 1.
 pub fn delta(letter: u8, number: u16) -> Draft {
@@ -168,6 +163,41 @@ impl Station {
     pub fn value(&self, tag: usize) -> i32 {
         u32_at(&self.image, 16 + 4 * tag) as i32
     }
+}
+
+/// A number as the calls take it: what does not fit is the greatest.
+fn number(number: usize) -> u32 {
+    u32::try_from(number).unwrap_or(u32::MAX)
+}
+
+/// What setpoint answers: the code, and the value. The image must be unchanged.
+pub fn setpoint(image: &[u8], tag: usize) -> (u32, i32) {
+    let copy = image.to_vec();
+    let answer = SUBJECT.setpoint(&copy, number(tag));
+    assert!(copy == image, "the image was written");
+    assert_eq!(answer, packed(code(answer), value(answer) as u32));
+    (code(answer), value(answer))
+}
+
+/// What log message answers: the code, and the part of the image, which is empty beside a
+/// refusal. The image must be unchanged.
+pub fn find_log_message(image: &[u8], place: usize) -> (u32, &[u8]) {
+    let copy = image.to_vec();
+    let answer = SUBJECT.log_message(&copy, number(place));
+    assert!(copy == image, "the image was written");
+    let (at, size) = (offset(answer), length(answer));
+    assert_eq!((at == 0, size == 0), (code(answer) != 0, code(answer) != 0));
+    (code(answer), &image[at..at + size])
+}
+
+/// The part alone.
+pub fn log_message(image: &[u8], place: usize) -> &[u8] {
+    find_log_message(image, place).1
+}
+
+/// The code alone.
+pub fn log_message_code(image: &[u8], place: usize) -> u32 {
+    find_log_message(image, place).0
 }
 
 /// A request without priority that sets tag 0 to 1.

@@ -1,0 +1,189 @@
+/* Compose, setpoint and log message from C: the paper's examples, each code with its small input, sizes, and null with
+ * size 0. C++ reads it as well. */
+#include "station.h"
+
+/* The arguments of a compose beside the image. The message buffer has more room than is needed. */
+struct request {
+    uint8_t line[12];
+    size_t line_size;
+    uint8_t commands[80];
+    size_t commands_size;
+    uint32_t flag, priority;
+    size_t room;
+};
+
+static uint8_t message[BIVAMOLUNE_MESSAGE_ROOM + 16];
+static uint8_t before[BIVAMOLUNE_IMAGE_SIZE];
+
+/* The next delta of a line, with the command of a delta. */
+static struct request request(uint8_t line, struct delta d) {
+    struct request r;
+    memset(&r, 0, sizeof r);
+    put_sequence(r.line, line, 0);
+    r.line_size = BIVAMOLUNE_LINE_SIZE;
+    memcpy(r.commands, d.bytes + d.size - BIVAMOLUNE_COMMAND_SIZE, BIVAMOLUNE_COMMAND_SIZE);
+    r.commands_size = BIVAMOLUNE_COMMAND_SIZE;
+    r.room = BIVAMOLUNE_MESSAGE_ROOM;
+    return r;
+}
+
+static uint32_t compose(struct request r) {
+    memset(message, 0xEE, sizeof message);
+    memcpy(before, image, sizeof image);
+    return bivamolune_compose(image, sizeof image, r.line, r.line_size, r.commands, r.commands_size, r.flag, r.priority, message,
+                              r.room);
+}
+
+/* The code and the message; the rest of the buffer and the image are as they were. */
+static int composes(struct request r, uint32_t code, struct delta d) {
+    uint32_t answer = compose(r);
+    int right = bivamolune_code(answer) == code && bivamolune_composed_length(answer) == d.size
+        && memcmp(message, d.bytes, d.size) == 0 && memcmp(before, image, sizeof image) == 0;
+    for (size_t i = d.size; i < sizeof message; i++) right = right && message[i] == 0xEE;
+    return right;
+}
+
+static int refuses(struct request r, uint32_t code) {
+    struct delta nothing = {{0}, 0};
+    return composes(r, code, nothing);
+}
+
+static struct delta grouped(struct delta d, uint32_t group) {
+    put(d.bytes + 24, group, 4);
+    return d;
+}
+
+static void run_composed(void) {
+    struct delta a1 = delta(10, 1, 1, 3, 1500), b1 = delta(11, 1, 2, 3, -20);
+    struct request urgent = request(10, a1);
+    urgent.flag = 1;
+    urgent.priority = 5;
+
+    begin();
+    check(composes(request(10, a1), 0, a1), "compose on an empty log");
+    check(composes(urgent, 0, prioritised(a1, 1, 5)), "compose with priority");
+    deliver(b1);
+    check(composes(request(10, a1), 0, grouped(naming(a1, 11, 1), 2)), "compose on A, log B1");
+    check(answers(deliver(grouped(naming(a1, 11, 1), 2)), 0, 0, 1, "xA1"), "delivered, it is the first step");
+
+    begin();
+    deliver(a1);
+    check(composes(request(11, b1), 0, naming(b1, 10, 1)), "compose on B, log A1");
+    check(composes(request(10, b1), 0, delta(10, 2, 2, 3, -20)), "the predecessor is not named");
+
+    begin();
+    for (uint8_t line = 16; line < 24; line++) deliver(delta(line, 1, 1, 3, line));
+    check(compose(request(10, a1)) == 256 * (40 + 8 * 12 + 8), "eight lone lines, a ninth composes");
+    check(message[2] == 8 && message[45] == 16 && message[40 + 7 * 12 + 5] == 23, "eight dependencies");
+}
+
+static void run_compose_codes(void) {
+    struct delta a1 = delta(10, 1, 1, 3, 1500);
+    struct request right = request(10, a1), odd;
+
+    begin();
+    odd = right, odd.line_size = 9;
+    check(refuses(odd, 1), "a line of nine bytes");
+    odd = right, odd.line_size = 11;
+    check(refuses(odd, 1), "a line of eleven bytes");
+    odd = right, odd.room = 199;
+    check(refuses(odd, 1), "199 bytes for the message");
+    odd = right, odd.commands_size = 7;
+    check(refuses(odd, 3), "seven bytes of commands");
+    odd = right, odd.commands_size = 72;
+    check(refuses(odd, 3), "nine commands");
+    odd = right, odd.commands[1] = 64;
+    check(refuses(odd, 6), "tag 64");
+    odd = right, odd.flag = 2;
+    check(refuses(odd, 6), "a flag of 2");
+    odd = right, odd.priority = 1;
+    check(refuses(odd, 6), "a priority without the flag");
+
+    deliver(delta(10, 3, 1, 3, 1));
+    check(refuses(right, 9), "A3 alone, compose on A");
+    begin();
+    deliver(prioritised(a1, BIVAMOLUNE_NUMBER_MOST, 0));
+    odd = right, odd.flag = 1;
+    check(refuses(odd, 10), "with priority, after block 2147483647");
+    begin();
+    for (uint8_t line = 16; line < 25; line++) deliver(delta(line, 1, 1, 3, line));
+    check(refuses(right, 11), "nine lone lines, a tenth composes");
+    image[1] = 1;
+    check(refuses(right, 2), "a damaged count");
+}
+
+/* An image of 16,383, and null with size 0 for each buffer and for all. */
+static void run_compose_sizes(void) {
+    struct delta a1 = delta(10, 1, 1, 3, 1500);
+    struct request r = request(10, a1);
+    uint8_t *line = r.line, *commands = r.commands;
+
+    begin();
+    check(bivamolune_compose(image, sizeof image - 1, line, 10, commands, 8, 0, 0, message, 200) == 1, "an image of 16,383");
+    check(bivamolune_compose(NULL, 0, line, 10, commands, 8, 0, 0, message, 200) == 1, "no image");
+    check(bivamolune_compose(image, sizeof image, NULL, 0, commands, 8, 0, 0, message, 200) == 1, "no line");
+    check(bivamolune_compose(image, sizeof image, line, 10, NULL, 0, 0, 0, message, 200) == 3, "no commands");
+    check(bivamolune_compose(image, sizeof image, line, 10, commands, 8, 0, 0, NULL, 0) == 1, "no message buffer");
+    check(bivamolune_compose(NULL, 0, NULL, 0, NULL, 0, 0, 0, NULL, 0) == 1, "nothing at all");
+}
+
+/* The answer of setpoint; the image is as it was. */
+static int value_is(size_t size, uint32_t tag, uint32_t code, int32_t value) {
+    uint64_t answer;
+    memcpy(before, image, sizeof image);
+    answer = bivamolune_setpoint(image, size, tag);
+    return bivamolune_setpoint_code(answer) == code && bivamolune_setpoint_value(answer) == value
+        && memcmp(before, image, sizeof image) == 0;
+}
+
+static void run_setpoint(void) {
+    begin();
+    check(value_is(sizeof image, 0, 0, 0) && value_is(sizeof image, 63, 0, 0), "no deltas, all zero");
+    deliver(delta(10, 1, 1, 3, 1500));
+    deliver(delta(11, 1, 2, 63, -20));
+    deliver(delta(12, 1, 1, 0, BIVAMOLUNE_VALUE_LEAST));
+    check(value_is(sizeof image, 3, 0, 1500), "tag 3");
+    check(value_is(sizeof image, 63, 0, -20), "tag 63");
+    check(value_is(sizeof image, 0, 0, BIVAMOLUNE_VALUE_LEAST), "the least value");
+    check(value_is(sizeof image, 64, 12, 0) && value_is(sizeof image, 0xFFFFFFFFu, 12, 0), "a tag above 63");
+    check(value_is(sizeof image - 1, 3, 1, 0) && value_is(0, 64, 1, 0), "an image of 16,383 and of nothing");
+    check(bivamolune_setpoint(NULL, 0, 3) == 1, "no image");
+    image[1] = 1;
+    check(value_is(sizeof image, 3, 2, 0) && value_is(sizeof image, 64, 2, 0), "a damaged count");
+}
+
+/* The answer of log message, and the bytes of the part; the image is as it was. */
+static int part_is(size_t size, uint32_t place, uint32_t code, size_t offset, struct delta d) {
+    uint64_t answer;
+    memcpy(before, image, sizeof image);
+    answer = bivamolune_log_message(image, size, place);
+    return bivamolune_log_message_code(answer) == code && bivamolune_log_message_offset(answer) == offset
+        && bivamolune_log_message_length(answer) == d.size && memcmp(image + offset, d.bytes, d.size) == 0
+        && memcmp(before, image, sizeof image) == 0;
+}
+
+static void run_log_message(void) {
+    struct delta a1 = delta(10, 1, 1, 3, 1500), b1 = naming(delta(11, 1, 2, 3, -20), 10, 1), nothing = {{0}, 0};
+
+    begin();
+    check(part_is(sizeof image, 0, 12, 0, nothing), "place 0 of an empty log");
+    deliver(b1);
+    check(part_is(sizeof image, 0, 12, 0, nothing), "a held delta is not in the log");
+    deliver(a1);
+    check(part_is(sizeof image, 0, 0, 272, a1), "the first message");
+    check(part_is(sizeof image, 1, 0, 320, b1), "the second message");
+    check(part_is(sizeof image, 2, 12, 0, nothing) && part_is(sizeof image, 0xFFFFFFFFu, 12, 0, nothing), "no such place");
+    check(part_is(sizeof image - 1, 0, 1, 0, nothing) && part_is(0, 9, 1, 0, nothing), "an image of 16,383 and of nothing");
+    check(bivamolune_log_message(NULL, 0, 0) == 1, "no image to look into");
+    image[1] = 1;
+    check(part_is(sizeof image, 0, 2, 0, nothing) && part_is(sizeof image, 9, 2, 0, nothing), "a damaged count");
+}
+
+int main(void) {
+    run_composed();
+    run_compose_codes();
+    run_compose_sizes();
+    run_setpoint();
+    run_log_message();
+    return report();
+}

@@ -1,0 +1,113 @@
+/* What the hosts share: checks that are counted, deltas written by hand, and a station. C++ reads it as well.
+ * A check that passes prints nothing; the last line counts them, and the exit status is 1 if one failed. */
+#ifndef STATION_H
+#define STATION_H
+
+#include "bivamolune.h"
+
+#include <stdio.h>
+#include <string.h>
+
+static unsigned passed, failed;
+
+static inline void check(int right, const char *what) {
+    if (right) {
+        passed++;
+    } else {
+        failed++;
+        printf("failed: %s\n", what);
+    }
+}
+
+static inline int report(void) {
+    printf("%u passed, %u failed\n", passed, failed);
+    return failed != 0;
+}
+
+/* A plain delta of group 1 with one command and at most one dependency. */
+struct delta {
+    uint8_t bytes[200];
+    size_t size;
+};
+
+static inline void put(uint8_t *at, uint32_t value, size_t size) {
+    for (size_t i = size; i-- > 0; value /= 256) at[i] = (uint8_t)(value % 256);
+}
+
+static inline void put_sequence(uint8_t *at, uint8_t line, uint16_t number) {
+    memset(at, 0, 12);
+    at[5] = line;
+    at[9] = 1;
+    put(at + 10, number, 2);
+}
+
+static inline struct delta delta(uint8_t line, uint16_t number, uint8_t operation, uint8_t tag, int32_t value) {
+    struct delta d = {{0}, 48};
+    d.bytes[0] = 1;
+    d.bytes[3] = 1;
+    put(d.bytes + 4, 48, 2);
+    put(d.bytes + 6, 40, 2);
+    put(d.bytes + 8, 40, 2);
+    put_sequence(d.bytes + 12, line, number);
+    put(d.bytes + 24, 1, 4);
+    d.bytes[40] = operation;
+    d.bytes[41] = tag;
+    put(d.bytes + 44, (uint32_t)value, 4);
+    return d;
+}
+
+static inline struct delta prioritised(struct delta d, uint32_t block, uint32_t priority) {
+    d.bytes[1] = 1;
+    put(d.bytes + 28, block, 4);
+    put(d.bytes + 32, priority, 4);
+    return d;
+}
+
+static inline struct delta naming(struct delta d, uint8_t line, uint16_t number) {
+    memmove(d.bytes + 52, d.bytes + 40, 8);
+    put_sequence(d.bytes + 40, line, number);
+    d.bytes[2] = 1;
+    d.size = 60;
+    put(d.bytes + 4, 60, 2);
+    put(d.bytes + 8, 52, 2);
+    return d;
+}
+
+/* ---- a station */
+static uint8_t image[BIVAMOLUNE_IMAGE_SIZE];
+static uint8_t steps[BIVAMOLUNE_STEP_ROOM];
+
+static inline void begin(void) {
+    memset(image, 0xEE, sizeof image);
+    memset(steps, 0xEE, sizeof steps);
+    check(bivamolune_empty(image, sizeof image) == 0, "empty");
+}
+
+static inline uint32_t deliver(struct delta d) {
+    memset(steps, 0xEE, sizeof steps);
+    return bivamolune_deliver(image, sizeof image, d.bytes, d.size, steps, sizeof steps);
+}
+
+static inline int32_t setpoint(uint32_t tag) { return bivamolune_value(image, tag); }
+
+/* Counts: L, H and the bytes used. */
+static inline int counts(uint32_t l, uint32_t h, uint32_t used) {
+    return bivamolune_log_count(image) == l && bivamolune_held_count(image) == h && bivamolune_bytes_used(image) == used;
+}
+
+/* The answer, and the steps: "u" or "x", a line's letter and a digit for each; the rest of the buffer is as it was. */
+static inline int answers(uint32_t answer, uint32_t code, uint32_t undos, uint32_t executions, const char *names) {
+    size_t n = strlen(names) / 3;
+    int right = bivamolune_code(answer) == code && bivamolune_undos(answer) == undos
+        && bivamolune_executions(answer) == executions && n == undos + executions;
+    for (size_t i = 0; i < n; i++) {
+        uint8_t step[BIVAMOLUNE_STEP_SIZE] = {0};
+        step[0] = names[3 * i] == 'u' ? BIVAMOLUNE_UNDO : BIVAMOLUNE_EXECUTE;
+        put_sequence(step + 4, (uint8_t)(names[3 * i + 1] - 'A' + 10), (uint16_t)(names[3 * i + 2] - '0'));
+        right = right && memcmp(steps + i * sizeof step, step, sizeof step) == 0;
+    }
+    for (size_t i = n * BIVAMOLUNE_STEP_SIZE; i < sizeof steps; i++) right = right && steps[i] == 0xEE;
+    return right;
+}
+
+#endif

@@ -1,0 +1,165 @@
+//! The five calls on byte buffers, with their answers packed into one number.
+
+#[cfg(feature = "earlier")]
+mod earlier;
+#[cfg(feature = "link")]
+mod library;
+#[cfg(any(feature = "library-deliver", feature = "earlier"))]
+mod pointers;
+
+#[cfg(feature = "earlier")]
+pub use earlier::Earlier;
+#[cfg(feature = "link")]
+pub use library::Library;
+
+use crate::reference::code::Code;
+use crate::reference::compose::{compose, Request};
+use crate::reference::station::{deliver, empty, log_message, log_message_code, setpoint};
+
+/// The calls of an implementation, as the C boundary has them. One that an implementation
+/// does not have is answered by the second implementation.
+pub trait Calls {
+    /// The code.
+    fn empty(&self, image: &mut [u8]) -> u32 {
+        Reference.empty(image)
+    }
+
+    /// The code + 256 * undos + 65536 * executions.
+    fn deliver(&self, image: &mut [u8], message: &[u8], steps: &mut [u8]) -> u32 {
+        Reference.deliver(image, message, steps)
+    }
+
+    /// The code + 256 * length of the message.
+    fn compose(&self, image: &[u8], request: &Request, message: &mut [u8]) -> u32 {
+        Reference.compose(image, request, message)
+    }
+
+    /// The code + 2^32 * the value as an unsigned number of 32 bits.
+    fn setpoint(&self, image: &[u8], tag: u32) -> u64 {
+        Reference.setpoint(image, tag)
+    }
+
+    /// The code + 256 * length of the part + 2^32 * its offset in the image; both are 0
+    /// beside a refusal.
+    fn log_message(&self, image: &[u8], place: u32) -> u64 {
+        Reference.log_message(image, place)
+    }
+}
+
+/// The second implementation. It has every call.
+#[derive(Clone, Copy, Debug, Default)]
+pub struct Reference;
+
+impl Calls for Reference {
+    fn empty(&self, image: &mut [u8]) -> u32 {
+        empty(image).map_or_else(Code::number, |()| 0)
+    }
+
+    fn deliver(&self, image: &mut [u8], message: &[u8], steps: &mut [u8]) -> u32 {
+        match deliver(image, message, steps) {
+            Ok(counts) => 256 * counts.undos as u32 + 65_536 * counts.executions as u32,
+            Err(code) => code.number(),
+        }
+    }
+
+    fn compose(&self, image: &[u8], request: &Request, message: &mut [u8]) -> u32 {
+        match compose(image, request, message) {
+            Ok(length) => 256 * length as u32,
+            Err(code) => code.number(),
+        }
+    }
+
+    fn setpoint(&self, image: &[u8], tag: u32) -> u64 {
+        let (code, value) = setpoint(image, tag as usize);
+        packed(code, value as u32)
+    }
+
+    fn log_message(&self, image: &[u8], place: u32) -> u64 {
+        let part = log_message(image, place as usize);
+        match log_message_code(image, place as usize) {
+            0 => {
+                let offset = part.as_ptr() as usize - image.as_ptr() as usize;
+                packed(256 * part.len() as u32, offset as u32)
+            }
+            code => packed(code, 0),
+        }
+    }
+}
+
+/// What is tested: the library where it is linked, else the second implementation.
+#[cfg(feature = "link")]
+pub const SUBJECT: Library = Library;
+#[cfg(not(feature = "link"))]
+pub const SUBJECT: Reference = Reference;
+
+/// The lower and the upper half of an answer of 64 bits.
+pub fn packed(low: u32, high: u32) -> u64 {
+    u64::from(high) << 32 | u64::from(low)
+}
+
+/// The code of a packed answer.
+pub fn code(answer: impl Into<u64>) -> u32 {
+    (answer.into() % 256) as u32
+}
+
+/// The undos of a delivery's packed answer.
+pub fn undos(answer: impl Into<u64>) -> usize {
+    (answer.into() / 256 % 256) as usize
+}
+
+/// The executions of a delivery's packed answer.
+pub fn executions(answer: impl Into<u64>) -> usize {
+    (answer.into() / 65_536) as usize
+}
+
+/// The length in the packed answer of compose or log message.
+pub fn length(answer: impl Into<u64>) -> usize {
+    (answer.into() % (1 << 32) / 256) as usize
+}
+
+/// The offset in the packed answer of log message.
+pub fn offset(answer: u64) -> usize {
+    (answer >> 32) as usize
+}
+
+/// The value in the packed answer of setpoint.
+pub fn value(answer: u64) -> i32 {
+    (answer >> 32) as u32 as i32
+}
+
+/// The functions of the static library that a comparison calls in this build. The rest of
+/// `Calls` is answered by the second implementation, and compared with itself.
+pub const COMPARED: &[&str] = &[
+    #[cfg(feature = "library-empty")]
+    "bivamolune_empty",
+    #[cfg(feature = "library-deliver")]
+    "bivamolune_deliver",
+    #[cfg(feature = "library-compose")]
+    "bivamolune_compose",
+    #[cfg(feature = "library-setpoint")]
+    "bivamolune_setpoint",
+    #[cfg(feature = "library-log-message")]
+    "bivamolune_log_message",
+];
+
+#[cfg(all(test, feature = "link"))]
+mod tests {
+    use super::COMPARED;
+    use std::collections::BTreeSet;
+    use std::process::Command;
+
+    /// A function that the archive gains, and that no feature compares, fails here.
+    #[test]
+    fn every_function_of_the_archive_is_compared() {
+        let archive = env!("BIVAMOLUNE_ARCHIVE");
+        let listed = Command::new("nm")
+            .args(["-g", "--defined-only", archive])
+            .output();
+        let listed = String::from_utf8(listed.expect("nm runs").stdout).expect("names");
+        let names = listed
+            .split_whitespace()
+            .filter(|word| word.starts_with("bivamolune_"));
+        let there: BTreeSet<&str> = names.collect();
+        assert_eq!(there, COMPARED.iter().copied().collect());
+    }
+}

@@ -1,0 +1,36 @@
+//! Pictures of what stations do: the plant's fault beside the old single queue, and any seed
+//! of the plant in motion. One file a part: the story, the old queue, what is drawn, where it
+//! is, and the shapes.
+
+mod draw;
+mod fault;
+mod layout;
+mod queue;
+mod scene;
+pub mod story;
+mod svg;
+mod teller;
+
+use crate::boundary::Calls;
+use crate::plant::{run, Duty};
+use scene::Lane;
+use teller::tell;
+
+/// The plant's fault, run on an implementation of the calls.
+pub fn fault(calls: &dyn Calls) -> Result<String, String> {
+    Ok(draw::draw(&fault::scene(calls)?))
+}
+
+/// The plant in motion of a seed.
+pub fn seed(calls: &dyn Calls, seed: u64) -> Result<String, String> {
+    let run = run(calls, seed, Duty::Kept)?;
+    run.check(calls)?;
+    let lanes = (0..run.memories.len()).map(|at| Lane::new(&format!("Station {at}"), ""));
+    let mut scene = tell(lanes.collect(), &run.events);
+    scene.title = format!("Plant in motion, seed {seed}");
+    scene.about = vec![format!(
+        "{} stations; in the end all that anybody has reaches all, and all images are equal.",
+        run.memories.len()
+    )];
+    Ok(draw::draw(&scene))
+}

@@ -1,0 +1,140 @@
+//! A listing program run as a process.
+
+use std::io::Write;
+use std::os::unix::process::ExitStatusExt;
+use std::path::PathBuf;
+use std::process::{Child, ChildStdin, Command, ExitStatus, Stdio};
+use std::thread;
+use std::time::{Duration, Instant};
+
+use bivamolune_tests::reference::listing::listing;
+
+/// The signal of a write to a pipe that nobody reads: no crash, but how such a program ends.
+const SIGPIPE: i32 = 13;
+/// How long a program may take to end.
+const LIMIT: Duration = Duration::from_secs(20);
+
+/// Where the proved program is built, seen from this package.
+#[cfg(feature = "library-listing")]
+const PROVED: &str = "../target/bin/listing";
+
+/// A program by its path.
+#[derive(Clone, Debug)]
+pub struct Program(pub PathBuf);
+
+/// The second implementation's program and, with the feature, the proved one.
+pub fn programs() -> Vec<Program> {
+    vec![
+        Program(PathBuf::from(env!("CARGO_BIN_EXE_listing"))),
+        #[cfg(feature = "library-listing")]
+        proved(),
+    ]
+}
+
+/// The proved program: named by the environment, or else where it is built. It must be there.
+#[cfg(feature = "library-listing")]
+pub fn proved() -> Program {
+    let built = || PathBuf::from(env!("CARGO_MANIFEST_DIR")).join(PROVED);
+    let path = std::env::var_os("BIVAMOLUNE_LISTING").map_or_else(built, PathBuf::from);
+    assert!(
+        path.is_file(),
+        "{} is missing: run `rt check listing`, or set BIVAMOLUNE_LISTING",
+        path.display()
+    );
+    Program(path)
+}
+
+impl Program {
+    fn start(&self) -> Child {
+        Program::started(&mut Command::new(&self.0))
+    }
+
+    fn started(command: &mut Command) -> Child {
+        let command = command.stdin(Stdio::piped()).stdout(Stdio::piped());
+        command.spawn().expect("the program starts")
+    }
+
+    /// What the program prints for an input.
+    pub fn list(&self, input: &[u8]) -> Result<String, String> {
+        self.list_pieces(input, input.len().max(1))
+    }
+
+    /// The same, with the input in pieces of a size.
+    pub fn list_pieces(&self, input: &[u8], size: usize) -> Result<String, String> {
+        let mut child = self.start();
+        let stdin = child.stdin.take().expect("its input is piped");
+        let bytes = input.to_vec();
+        let writer = thread::spawn(move || feed(stdin, &bytes, size));
+        let output = child.wait_with_output().expect("the program ends");
+        writer.join().expect("no panic");
+        if output.status.code() != Some(0) {
+            return Err(format!("it ended with {}", output.status));
+        }
+        String::from_utf8(output.stdout).map_err(|error| error.to_string())
+    }
+
+    /// Whether it prints what the second implementation gives.
+    pub fn agrees(&self, input: &[u8]) -> Result<String, String> {
+        let (printed, wanted) = (self.list(input)?, listing(input));
+        match printed == wanted {
+            true => Ok(printed),
+            false => Err(difference(&printed, &wanted)),
+        }
+    }
+
+    /// How it ends when nobody reads what it prints, with the signal of a closed pipe as a
+    /// shell leaves it.
+    pub fn end_unread(&self, input: &[u8]) -> ExitStatus {
+        unread(self.start(), input)
+    }
+
+    /// The same, with that signal ignored, so that the write fails instead.
+    pub fn end_unread_without_signal(&self, input: &[u8]) -> ExitStatus {
+        let mut shell = Command::new("sh");
+        let shell = shell.args(["-c", "trap '' PIPE; exec \"$0\""]).arg(&self.0);
+        unread(Program::started(shell), input)
+    }
+}
+
+/// Writes the input in pieces. A program may end before it has read all of it.
+fn feed(mut stdin: ChildStdin, input: &[u8], size: usize) {
+    for piece in input.chunks(size) {
+        if stdin.write_all(piece).and_then(|()| stdin.flush()).is_err() {
+            return;
+        }
+    }
+}
+
+/// Closes the output before the input comes.
+fn unread(mut child: Child, input: &[u8]) -> ExitStatus {
+    drop(child.stdout.take());
+    let stdin = child.stdin.take().expect("its input is piped");
+    feed(stdin, input, input.len().max(1));
+    let begin = Instant::now();
+    while begin.elapsed() < LIMIT {
+        if let Some(status) = child.try_wait().expect("its status can be asked") {
+            return status;
+        }
+        thread::sleep(Duration::from_millis(1));
+    }
+    child.kill().expect("it can be ended");
+    panic!("the program does not end when nobody reads what it prints");
+}
+
+/// Whether a signal ended it that is not the one of a closed pipe.
+pub fn crashed(status: ExitStatus) -> bool {
+    status.signal().map_or(false, |signal| signal != SIGPIPE)
+}
+
+/// The first line in which two listings differ.
+fn difference(printed: &str, wanted: &str) -> String {
+    let (mut one, mut two) = (printed.lines(), wanted.lines());
+    for number in 1.. {
+        match (one.next(), two.next()) {
+            (None, None) => break,
+            (a, b) if a != b => return format!("line {number}: {a:?}, and wanted is {b:?}"),
+            _ => {}
+        }
+    }
+    "the ends of lines differ".to_string()
+}
