@@ -146,7 +146,7 @@ uint64_t bivamolune_setpoint(const uint8_t *image, size_t image_size, uint32_t t
 
 /* The parts of setpoint's answer: the code, and the value, which is 0 beside a refusal. */
 static inline uint32_t bivamolune_setpoint_code(uint64_t answer) { return (uint32_t)(answer % 256u); }
-static inline int32_t bivamolune_setpoint_value(uint64_t answer) { return bivamolune_signed((uint32_t)(answer >> 32)); }
+static inline int32_t bivamolune_setpoint_value(uint64_t answer) { return bivamolune_signed((uint32_t)(answer / 4294967296u)); }
 
 /* Finds the message at a place of the log, counted from 0, in an image, which is judged first. */
 uint64_t bivamolune_log_message(const uint8_t *image, size_t image_size, uint32_t place);
@@ -154,8 +154,8 @@ uint64_t bivamolune_log_message(const uint8_t *image, size_t image_size, uint32_
 /* The parts of log message's answer: the code, and where in the image the message begins and how long it is. Beside a
  * refusal both are 0. */
 static inline uint32_t bivamolune_log_message_code(uint64_t answer) { return (uint32_t)(answer % 256u); }
-static inline size_t bivamolune_log_message_length(uint64_t answer) { return (size_t)(answer % 4294967296u / 256u); }
-static inline size_t bivamolune_log_message_offset(uint64_t answer) { return (size_t)(answer >> 32); }
+static inline size_t bivamolune_log_message_length(uint64_t answer) { return (size_t)(answer / 256u % 16777216u); }
+static inline size_t bivamolune_log_message_offset(uint64_t answer) { return (size_t)(answer / 4294967296u); }
 
 /* What stands in an image. These look at BIVAMOLUNE_IMAGE_SIZE bytes and judge nothing: hand them what empty or deliver
  * accepted. */
