@@ -1,5 +1,5 @@
-pub mod Line
-pub mod LineLaws
+pub mod Numbers
+pub mod NumberLaws
 pub mod GroupLaws
 pub mod BlockLaws
 pub mod Drafting

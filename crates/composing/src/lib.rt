@@ -2,5 +2,4 @@
 pub mod block;
 pub mod drafting;
 pub mod group;
-pub mod line;
 pub mod number;

@@ -12,7 +12,7 @@ ghost use Rattle.model.specs.Compose.{newNumber};
 ghost use Rattle.sequence.specs.Sequence.{sequenceNumber};
 ghost use Rattle.table.specs.Table.{deltasOf, deltasAt};
 ghost use Rattle.image.specs.LogPlaces.{TablePlaces};
-ghost use Rattle.composing.specs.Line.{numberOn};
+ghost use Rattle.composing.specs.Numbers.{numberOn};
 
 // The number of a sequence that is on a line; 0 of any other.
 fn number_on(s: Sequence, line: Sequence) -> u32

@@ -12,7 +12,7 @@ use Rattle.model.specs.Message.{Message, groupOf}
 use Rattle.table.specs.Table.{deltasOf, deltasAt}
 use Rattle.table.specs.PlaceLaws.{entry-long}
 use Rattle.image.specs.LogPlaceLaws.{place-inside, place-passes}
-use Rattle.composing.specs.LineLaws.{greatest-next, greatest-last}
+use Rattle.composing.specs.NumberLaws.{greatest-next, greatest-last}
 use Rattle.composing.specs.GroupLaws.{group-small}
 use Rattle.composing.proofs.group.highest_group.Statement.{statement}
 use Rattle.composing.proofs.group.highest_group.Tie as tie

@@ -12,8 +12,8 @@ use Rattle.model.specs.Message.{Message, sequenceOf, lineOf}
 use Rattle.sequence.specs.Sequence.{sequenceNumber}
 use Rattle.table.specs.Table.{deltasOf, deltasAt}
 use Rattle.image.specs.LogPlaceLaws.{place-inside}
-use Rattle.composing.specs.Line.{numberOn}
-use Rattle.composing.specs.LineLaws.{greatest-next, greatest-last, number-small}
+use Rattle.composing.specs.Numbers.{numberOn}
+use Rattle.composing.specs.NumberLaws.{greatest-next, greatest-last, number-small}
 use Rattle.composing.proofs.number.new_number.Statement.{statement}
 use Rattle.composing.proofs.number.new_number.Tie as tie
 

@@ -2,10 +2,10 @@
 use mathlib.Core.Path.{_∙_, ap₂}
 use Prim.Native.Nat.{ℕ, _+_, _*_}
 use Rattle.model.specs.Layout.{numbersOfLine}
-use Rattle.composing.specs.LineLaws.{line-number}
+use Rattle.held_line.specs.LineLaws.{line-number}
 use borrow.Author.Needs.{needs}
-use Rattle.composing.proofs.line.read_line.Statement.{statement}
-use Rattle.composing.proofs.line.read_line.Tie as tie
+use Rattle.held_line.proofs.read_line.Statement.{statement}
+use Rattle.held_line.proofs.read_line.Tie as tie
 
 get-u64-requires : tie.Need-get-u64-requires
 get-u64-requires c κs = search needs

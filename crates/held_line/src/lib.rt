@@ -1,4 +1,4 @@
-// The line of a new delta, and whether a held delta is on it.
+// The line of a new delta: read, and no held delta on it.
 use buffer::get_u16;
 use buffer::get_u64;
 use image::held::held_places;
@@ -19,7 +19,7 @@ ghost use Rattle.sequence.specs.Sequence.{sequenceNumber};
 ghost use Rattle.message.specs.Check.{right};
 ghost use Rattle.table.specs.Table.{deltasOf, deltasAt, setIn};
 ghost use Rattle.image.specs.LogPlaces.{TablePlaces, LogPlaces};
-ghost use Rattle.composing.specs.Line.{someOn};
+ghost use Rattle.held_line.specs.Line.{someOn};
 
 // A line as the sequence of its number 0000.
 pub fn read_line(line: &[u8]) -> Sequence

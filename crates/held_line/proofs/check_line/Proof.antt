@@ -15,10 +15,10 @@ use Rattle.table.specs.Table.{deltasOf, deltasAt, setIn}
 use Rattle.image.specs.LogPlaces.{TablePlaces}
 use Rattle.image.specs.LogPlaceLaws.{table-count}
 use Rattle.image.specs.HeldLaws.{others-inside, others-length}
-use Rattle.composing.specs.Line.{someOn}
-use Rattle.composing.specs.LineLaws.{held-on}
-use Rattle.composing.proofs.line.check_line.Statement.{statement}
-use Rattle.composing.proofs.line.check_line.Tie as tie
+use Rattle.held_line.specs.Line.{someOn}
+use Rattle.held_line.specs.LineLaws.{held-on}
+use Rattle.held_line.proofs.check_line.Statement.{statement}
+use Rattle.held_line.proofs.check_line.Tie as tie
 
 -- where the call began, from where the held ones are found; and that from where they are looked at
 abbrev began : tie.After-held-places → tie.Start

@@ -10,10 +10,10 @@ use Rattle.model.specs.Message.{lineOf}
 use Rattle.sequence.specs.Sequence.{sequenceNumber}
 use Rattle.table.specs.Table.{deltasOf, deltasAt}
 use Rattle.image.specs.LogPlaceLaws.{place-inside}
-use Rattle.composing.specs.Line.{someOn}
-use Rattle.composing.specs.LineLaws.{some-next, some-none}
-use Rattle.composing.proofs.line.some_on.Statement.{statement}
-use Rattle.composing.proofs.line.some_on.Tie as tie
+use Rattle.held_line.specs.Line.{someOn}
+use Rattle.held_line.specs.LineLaws.{some-next, some-none}
+use Rattle.held_line.proofs.some_on.Statement.{statement}
+use Rattle.held_line.proofs.some_on.Tie as tie
 
 abbrev Inv-loop : tie.InvT-loop
 Inv-loop pool starts places line k₀ k =

@@ -1,23 +1,22 @@
 -- A line's number; and deltas at places, one after the other.
-use mathlib.Core.Path.{_≡_, sym, _∙_, ap}
-use mathlib.Core.Bool.{Bool, true, false, cond, _||_}
+use mathlib.Core.Path.{_≡_, ap}
+use mathlib.Core.Bool.{false, _||_}
 use mathlib.Core.List.{List, []}
-use Prim.Native.Nat.{ℕ, _+_, _*_, _≤_, _<_, max}
+use Prim.Native.Nat.{ℕ, _+_, _*_, _≤_, _<_}
 use native.Mathlib.Omega.{arith}
 use lib.ListN.{length, getD, drop}
 use lib.Seq.{take-all}
 use lib.Dec.{eqb}
-use Rattle.model.specs.Lists.{greatest}
 use Rattle.model.specs.Bytes.{number, field}
 use Rattle.model.specs.Layout.{lineSize, numbersOfLine}
-use Rattle.model.specs.Message.{Message, sequenceOf, lineOf, numberOf}
+use Rattle.model.specs.Message.{Message, sequenceOf, lineOf}
 use Rattle.model.specs.Codes.{heldOn}
 use Rattle.buffer.specs.FieldLaws.{field-split}
 use Rattle.table.specs.Table.{deltasOf, deltasAt, setIn}
 use Rattle.image.specs.LogPlaces.{othersBelow, LogPlaces}
 use Rattle.image.specs.LogPlaceLaws.{next-message, no-message}
 use Rattle.image.specs.HeldLaws.{others-held}
-use Rattle.composing.specs.Line.{someOn, numberOn}
+use Rattle.held_line.specs.Line.{someOn}
 
 -- ---- the number of a line's ten bytes, from its first eight and its last two
 pub line-number : (line : List ℕ) → length line ≡ lineSize → field line 0 8 * 4294967296 + field line 8 2 * numbersOfLine ≡ number line * numbersOfLine
@@ -39,28 +38,6 @@ module _ (l : List Message) (places : List ℕ) (k : ℕ) where
 
   pub some-none : (line : ℕ) → length places ≤ k → someOn line (deltasAt l (drop k places)) ≡ false
   some-none line h = ap (someOn line) (no-message l places k h)
-
-  -- the greatest so far, and that of those that are left
-  pub greatest-next : (f : Message → ℕ) (n m so : ℕ) → k < length places → n ≡ max so (greatest f (deltasAt l (drop k places))) → m ≡ max so (f here) → n ≡ max m (greatest f rest)
-  greatest-next f n m so h e q =
-      let step : greatest f (deltasAt l (drop k places)) ≡ max (f here) (greatest f rest) = ap (greatest f) (next-message l places k h) in
-      e ∙ ap (max so) step ∙ regroup so (f here) (greatest f rest) ∙ ap (λ (x : ℕ). max x (greatest f rest)) (sym q)
-    where
-      regroup : (a b c : ℕ) → max a (max b c) ≡ max (max a b) c
-      regroup a b c = omega arith
-
-  pub greatest-last : (f : Message → ℕ) (n so : ℕ) → length places ≤ k → n ≡ max so (greatest f (deltasAt l (drop k places))) → so ≡ n
-  greatest-last f n so h e =
-      let none : greatest f (deltasAt l (drop k places)) ≡ 0 = ap (greatest f) (no-message l places k h) in
-      omega arith
-
--- ---- a number on a line is a number
-pub number-small : (line s : ℕ) → numberOn line s < numbersOfLine
-number-small line s = go (eqb (lineOf s) line)
-  where
-    go : (b : Bool) → cond b (numberOf s) 0 < numbersOfLine
-    go true = omega arith
-    go false = omega arith
 
 -- ---- the held ones
 pub held-on : (pool starts places : List ℕ) → LogPlaces pool starts places → (line : ℕ)
