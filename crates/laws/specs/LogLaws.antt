@@ -99,9 +99,6 @@ module _ (S : State) (ascends : Ascending (S .deltas)) where
         (∈-keep others (r .0) (not-T (has (sequenceOf m) (sequencesOf (logOf S))) (λ t. r .1 (log-named m (r .0) (has→∈ (sequenceOf m) (sequencesOf (logOf S)) t))))),
   )
 
-  pub held-not-executable : (m : Message) → m ∈ heldOf S → ¬ (Executable S m)
-  held-not-executable m k e = let r = held-is m .0 k in r .1 (log-executable m (r .0) .1 e)
-
   -- each delta is in the log or held
   pub log-held : Same (logOf S ++ heldOf S) (S .deltas)
   log-held = λ m. (

@@ -1,6 +1,6 @@
 -- A complete listing is the first exactly if no item stands behind a greater key at or after the place where it became ready.
 use mathlib.Core.Path.{_≡_, refl, sym, _∙_, ap, subst}
-use mathlib.Core.Logic.{_⊎_, ⊎-elim, _↔_}
+use mathlib.Core.Logic.{_⊎_, ⊎-elim}
 use mathlib.Core.Bool.{Bool, not}
 use mathlib.Core.List.{List, [], _∷_, List·Memᴰ·head, List·Memᴰ·tail, List·Memᴰ·not-nil, List·Memᴰ·cases-cons, Memᴰ·cast}
 use Prim.Native.Nat.{ℕ, zero, suc, _≤_, _<_, zero-le, suc-le-suc}
@@ -15,7 +15,7 @@ use Rattle.order.specs.TestLaws.{decide, ∈→has, hasAll→∈}
 use Rattle.order.specs.KeyOrder.{Total}
 use Rattle.order.specs.ListingLaws.{Stuck, stuck-placed, Next, grow-ind, ready-fresh, ready-needs, after-keeps, after-from, listing-length}
 use Rattle.order.specs.Extension.{grow-next}
-use Rattle.order.specs.ListingPlaces.{listing-at, Apart, Finds, readyFrom, ready-from}
+use Rattle.order.specs.ListingPlaces.{listing-at}
 
 module _ {A : Type 0} (name : A → ℕ) (needs : A → List ℕ) (d : A) {K : Type 0} (key : A → K) (less : K → K → Bool) where
   -- the same of a listing that goes on after the names `done`
@@ -25,14 +25,6 @@ module _ {A : Type 0} (name : A → ℕ) (needs : A → List ℕ) (d : A) {K : T
   -- An item that was ready at a place below its own has a greater key than the item there.
   abbrev pub InPlace : List A → Type 0
   InPlace l = InPlaceAfter [] l
-
-  -- by a table of places
-  pub in-place-from : (place : ℕ → ℕ) (l : List A) → Apart name d l → ((k : ℕ) → k < length l → (s : ℕ) → s ∈ needs (getD l k d) → Finds name d place l s)
-      → InPlace l ↔ ((i k : ℕ) → i < k → k < length l → readyFrom needs place (getD l k d) ≤ i → T (less (key (getD l i d)) (key (getD l k d))))
-  in-place-from place l apart f = (
-    λ h i k p q t. h i k p q (ready-from name needs d place l apart i k (omega arith) q (f k q) .1 t),
-    λ h i k p q t. h i k p q (ready-from name needs d place l apart i k (omega arith) q (f k q) .0 t),
-  )
 
   module _ (tot : Total less) (S : List A) (keys : (a b : A) → a ∈ S → b ∈ S → key a ≡ key b → a ≡ b) where
     -- what holds of the rest of the first listing, after the names `done`

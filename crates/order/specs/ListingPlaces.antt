@@ -1,6 +1,5 @@
--- Lists and listings by places, as code with a table of places sees them: which names stand below a place, and from which
--- place on an item is ready.
-use mathlib.Core.Path.{_≡_, refl, sym, _∙_, ap}
+-- Listings by places: which names stand below a place, and what is ready there.
+use mathlib.Core.Path.{_≡_, sym, _∙_, ap}
 use mathlib.Core.Logic.{⊎-elim, _↔_}
 use mathlib.Core.Bool.{not}
 use mathlib.Core.List.{List, [], _∷_, List·Memᴰ·not-nil, Memᴰ·cast}
@@ -10,24 +9,16 @@ use native.Mathlib.Nat.{le-of-suc-le-suc}
 use lib.ListN.{length, take, getD, length-take}
 use lib.Seq.{getD-take}
 use lib.Dec.{T, T-not, not-T}
-use Rattle.model.specs.Lists.{_∈_, has, hasAll, greatest}
+use Rattle.model.specs.Lists.{_∈_, has, hasAll}
 use Rattle.model.specs.Listing.{after, ready, Listing}
-use Rattle.order.specs.ListLaws.{getD-∈, ∈-getD, greatest-≤}
-use Rattle.order.specs.TestLaws.{and-i, has→∈, ∈→has, hasAll→∈, ∈→hasAll, greatest-≥}
+use Rattle.order.specs.ListLaws.{getD-∈, ∈-getD}
+use Rattle.order.specs.TestLaws.{and-i, has→∈, ∈→has, hasAll→∈, ∈→hasAll}
 use Rattle.order.specs.ListingLaws.{ready-fresh, ready-needs, after-has, after-from}
 
 -- ---- listings; d is read past the end
 -- no name stands at two places
 abbrev pub Apart : {A : Type 0} → (A → ℕ) → A → List A → Type 0
 Apart name d l = (i k : ℕ) → i < k → k < length l → name (getD l i d) ≡ name (getD l k d) → ⊥
-
--- `place` gives the place of the name s, and no place of l where s stands at none
-abbrev pub Finds : {A : Type 0} → (A → ℕ) → A → (ℕ → ℕ) → List A → ℕ → Type 0
-Finds name d place l s = (j : ℕ) → j < length l → (place s ≡ j) ↔ (name (getD l j d) ≡ s)
-
--- one more than the greatest place of a need, 0 without needs
-abbrev pub readyFrom : {A : Type 0} → (A → List ℕ) → (ℕ → ℕ) → A → ℕ
-readyFrom needs place a = greatest (λ s. suc (place s)) (needs a)
 
 module _ {A : Type 0} (name : A → ℕ) where
   -- the names at the places below i
@@ -77,17 +68,3 @@ module _ {A : Type 0} (name : A → ℕ) (needs : A → List ℕ) (d : A) where
       not-yet : T (not (has (name (getD l k d)) (below name l i)))
       not-yet = not-T (has (name (getD l k d)) (below name l i))
           (λ t. let r = after-take l i (name (getD l k d)) .0 (has→∈ (name (getD l k d)) (below name l i) t) in apart (r .0) k (omega arith) q (r .3))
-
-  pub below-place : (place : ℕ → ℕ) (l : List A) (i s : ℕ) → i ≤ length l → Finds name d place l s → s ∈ below name l i ↔ (place s < i)
-  below-place place l i s p f = (
-    λ m. let r = after-take l i s .0 m in let e : place s ≡ r .0 = f (r .0) (r .2) .1 (r .3) in omega arith,
-    λ h. let q : place s < length l = omega arith in after-take l i s .1 (place s, h, q, f (place s) q .0 refl),
-  )
-
-  pub ready-from : (place : ℕ → ℕ) (l : List A) → Apart name d l → (i k : ℕ) → i ≤ k → k < length l → ((s : ℕ) → s ∈ needs (getD l k d) → Finds name d place l s)
-      → T (ready name needs (below name l i) (getD l k d)) ↔ (readyFrom needs place (getD l k d) ≤ i)
-  ready-from place l apart i k p q f = (
-    λ t. greatest-≤ (λ s. suc (place s)) (needs (getD l k d)) i (λ s m. below-place place l i s (omega arith) (f s m) .0 (ready-at l apart i k p q .0 t s m)),
-    λ h. ready-at l apart i k p q .1
-        (λ s m. below-place place l i s (omega arith) (f s m) .1 (omega (arith, greatest-≥ (λ s. suc (place s)) (needs (getD l k d)) s m))),
-  )

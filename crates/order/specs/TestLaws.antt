@@ -223,6 +223,3 @@ keep-loses p q f (List·Memᴰ·tail {x} {xs} m) hp hq = go (p x) (q x) (f x) (k
 -- the same elements
 abbrev pub Same : {A : Type 0} → List A → List A → Type 0
 Same {A} S R = (a : A) → (a ∈ S → a ∈ R) × (a ∈ R → a ∈ S)
-
-pub same-sym : {A : Type 0} {S R : List A} → Same S R → Same R S
-same-sym f = λ a. (f a .1, f a .0)
