@@ -84,9 +84,9 @@ enum bivamolune_result {
     BIVAMOLUNE_WRONG_CONTENT = 6,      /* group, block, priority, compose's flag, operation, tag, zeros or value */
     BIVAMOLUNE_CONFLICT = 7,           /* the sequence is present with other bytes */
     BIVAMOLUNE_FULL = 8,               /* 64 deltas are present and this one is new */
-    BIVAMOLUNE_LINE_HELD = 9,          /* compose: the line has a held delta */
-    BIVAMOLUNE_LIMIT = 10,             /* compose: number, group or block would pass its limit */
-    BIVAMOLUNE_CROWDED = 11,           /* compose: over eight dependencies */
+    BIVAMOLUNE_HELD_LINE = 9,          /* compose: the line has a held delta */
+    BIVAMOLUNE_PAST_LIMIT = 10,        /* compose: number, group or block would pass its limit */
+    BIVAMOLUNE_MANY_DEPENDENCIES = 11, /* compose: over eight dependencies */
     BIVAMOLUNE_NOT_THERE = 12          /* a place that the log has not, or a tag above 63 */
 };
 
@@ -102,9 +102,9 @@ static inline const char *bivamolune_code_name(uint32_t code) {
     case BIVAMOLUNE_WRONG_CONTENT: return "wrong content";
     case BIVAMOLUNE_CONFLICT: return "conflict";
     case BIVAMOLUNE_FULL: return "full";
-    case BIVAMOLUNE_LINE_HELD: return "line held";
-    case BIVAMOLUNE_LIMIT: return "limit";
-    case BIVAMOLUNE_CROWDED: return "crowded";
+    case BIVAMOLUNE_HELD_LINE: return "held line";
+    case BIVAMOLUNE_PAST_LIMIT: return "past limit";
+    case BIVAMOLUNE_MANY_DEPENDENCIES: return "many dependencies";
     case BIVAMOLUNE_NOT_THERE: return "not there";
     default: return "no code";
     }

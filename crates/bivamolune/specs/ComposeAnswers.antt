@@ -12,7 +12,7 @@ use Rattle.bivamolune.specs.Packing.{codeIn}
 abbrev pub numberOf : ℕ → ℕ → ℕ
 numberOf code size = code + 256 * size
 
--- bivamolune_length of include/bivamolune.h
+-- bivamolune_composed_length of include/bivamolune.h
 abbrev pub lengthIn : ℕ → ℕ
 lengthIn answer = answer / 256
 
