@@ -41,6 +41,17 @@ field-split b at n k h =
     ∙ numberFrom-append 0 (take n (drop at b)) (take k (drop (at + n) b)) ∙ numberFrom-is (field b at n) (take k (drop (at + n) b))
     ∙ ap (λ (p : ℕ). field b at n * 256 ^ p + field b (at + n) k) (length-take-le k (drop (at + n) b) (omega (arith, length-drop (at + n) b)))
 
+-- eight bytes from four fields of two
+pub field-quarters : (b : List ℕ) (at : ℕ) {w x y z : ℕ} → at + 8 ≤ length b
+    → w ≡ field b at 2 → x ≡ field b (at + 2) 2 → y ≡ field b (at + 4) 2 → z ≡ field b (at + 6) 2
+    → w * 281474976710656 + x * 4294967296 + (y * 65536 + z) ≡ field b at 8
+field-quarters b at h e f g i =
+    let halves = field-split b at 4 4 h in
+    let first = field-split b at 2 2 (omega arith) in
+    let second = field-split b (at + 4) 2 2 (omega arith) in
+    let last = ap (λ (k : ℕ). field b k 2) {x = at + 4 + 2} {y = at + 6} (omega arith) in
+    omega arith
+
 -- ---- the bytes of a number: those of its high part, and then those of its low part
 pub bytes-split : (n k v : ℕ) → bytes (n + k) v ≡ bytes n (v / 256 ^ k) ++ bytes k v
 bytes-split zero k v = ap (λ (x : ℕ). bytes x v) (zero-add k)

@@ -31,14 +31,18 @@ pub fn get_u32(s: &[u8], at: usize) -> u32
     get_u16(s, at) * 65536 + get_u16(s, at + 2)
 }
 
-// The big-endian number of eight bytes.
+// The big-endian number of eight bytes. In two sums of two, which the compiler turns into one load.
 pub fn get_u64(s: &[u8], at: usize) -> u64
     requires { ⌜ at + 8 ≤ length (now s) ⌝ }
     ensures { λ r. ⌜ r ≡ field (now (s .entry)) at 8 ⌝ }
 {
-    let high = get_u32(s, at);
-    let low = get_u32(s, at + 4);
-    (high as u64) * 4294967296 + (low as u64)
+    let a = get_u16(s, at) as u64;
+    let b = get_u16(s, at + 2) as u64;
+    let c = get_u16(s, at + 4) as u64;
+    let d = get_u16(s, at + 6) as u64;
+    let high = a * 281474976710656 + b * 4294967296;
+    let low = c * 65536 + d;
+    high + low
 }
 
 // Writes the low two bytes of a number, big-endian.
