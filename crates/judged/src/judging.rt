@@ -1,7 +1,7 @@
 // An image read and judged: code 2.
+use crate::comparing::equals_copy;
 use crate::places::read_places;
 use buffer::get_u16;
-use buffer::same;
 use image::write_used;
 use key::KEYS;
 use layout::CAPACITY;
@@ -15,10 +15,9 @@ use table::reading::read_table;
 ghost use mathlib.Core.Path.{_≡_};
 ghost use lib.ListN.{length};
 ghost use Rattle.model.specs.Layout.{imageSize};
-ghost use Rattle.model.specs.Image.{usedOf};
-ghost use Rattle.model.specs.Calls.{written};
 ghost use Rattle.table.specs.Table.{startsOf, setIn};
 ghost use Rattle.table.specs.Reading.{IsTable};
+ghost use Rattle.image.specs.Pieces.{UsedWritten};
 ghost use Rattle.log_check.specs.Checking.{ChecksLog};
 ghost use Rattle.judged.specs.Judging.{ListsLog, Rewritable, placesIn, Blank, Judges, Copies};
 
@@ -62,17 +61,17 @@ fn check_listed(b: &[u8], listed: Station) -> Check
     check_log(b, &starts[..count], needed, &keys, &places[..logged])
 }
 
-// Writes the used bytes of the image of a set whose log is listed.
-fn rewrite(out: &mut [u8], b: &[u8], listed: Station)
+// Writes the used bytes of the image of a set whose log is listed, and answers how many they are.
+fn rewrite(out: &mut [u8], b: &[u8], listed: Station) -> usize
     requires { ⌜ Rewritable (now out) (now b) listed ⌝ }
-    ensures { λ _. ⌜ now (out .exit) ≡ written (usedOf (setIn (now (b .entry)) (startsOf (listed .table)))) (now (out .entry)) ⌝ }
+    ensures { λ r. ⌜ UsedWritten (setIn (now (b .entry)) (startsOf (listed .table))) (now (out .entry)) (now (out .exit)) r ⌝ }
 {
     let table = listed.table;
     let starts = table.starts;
     let count = table.count;
     let places = listed.places;
     let logged = listed.logged;
-    write_used(out, b, &starts[..count], &places[..logged]);
+    write_used(out, b, &starts[..count], &places[..logged])
 }
 
 // Judges a buffer whose messages were read: its log has to be that of their set, and it has to be their image, byte for byte. That
@@ -86,8 +85,8 @@ fn judge(b: &[u8], table: Table, copy: &mut [u8]) -> Station
     let Check::Right = checked else {
         return listed;
     };
-    rewrite(copy, b, listed);
-    if !same(&copy[..IMAGE_SIZE], b) {
+    let used = rewrite(copy, b, listed);
+    if !equals_copy(&copy[..IMAGE_SIZE], used, b) {
         return listed;
     }
     let places = listed.places;

@@ -2,9 +2,9 @@
 use mathlib.Core.Path.{_≡_, refl, sym, _∙_, ap, subst}
 use mathlib.Core.Bool.{Bool, false}
 use mathlib.Core.List.{List, _++_}
-use Prim.Native.Nat.{ℕ, _≤_}
+use Prim.Native.Nat.{ℕ, _-_, _≤_}
 use native.Mathlib.Omega.{arith}
-use lib.ListN.{length, take, drop, length-replicate}
+use lib.ListN.{length, take, drop, replicate, length-replicate}
 use lib.Seq.{length-take-le}
 use lib.Dec.{T}
 use borrow.Author.Needs.{needs}
@@ -23,7 +23,7 @@ use Rattle.table.specs.Reading.{IsTable}
 use Rattle.log_check.specs.Checking.{ChecksLog}
 use Rattle.judged.specs.LogRead.{ReadsLog}
 use Rattle.judged.specs.Judging.{placesIn, Judges, Copies}
-use Rattle.judged.specs.JudgingLaws.{judged, other-log, unjudged}
+use Rattle.judged.specs.JudgingLaws.{judged, past-used, other-log, unjudged}
 use Rattle.judged.proofs.judging.judge.Statement.{statement}
 use Rattle.judged.proofs.judging.judge.Tie as tie
 
@@ -99,34 +99,42 @@ image-is w =
     let l = listed (known w) in
     let blank = start l .pre .2 in
     let S = setIn (start l .args .b .now) (startsOf (l .list .result .table)) in
-    ap (take imageSize) (w .rewrite .ensures ∙ ap (λ (x : List ℕ). usedOf S ++ drop (length (usedOf S)) x) (blank .zeros))
+    ap (take imageSize) (w .rewrite .ensures .bytes ∙ ap (λ (x : List ℕ). usedOf S ++ drop (length (usedOf S)) x) (blank .zeros))
     ∙ over-zeros S (blank .count) (blank .room) (used-fits S (is-table l .holds))
 
-slice-reshare-prefix-same : tie.Need-slice-reshare-prefix-same
-slice-reshare-prefix-same c = still-large (c .before .before)
+slice-reshare-prefix-equals-copy : tie.Need-slice-reshare-prefix-equals-copy
+slice-reshare-prefix-equals-copy c = still-large (c .before .before)
 
-slice-aggregate-same : tie.Need-slice-aggregate-same
-slice-aggregate-same c = let w = c .before .before .before in sym (length-take-le imageSize (w .rewrite .last .0) (still-large w))
+slice-aggregate-equals-copy : tie.Need-slice-aggregate-equals-copy
+slice-aggregate-equals-copy c = let w = c .before .before .before in sym (length-take-le imageSize (w .rewrite .last .0) (still-large w))
 
-same-requires : tie.Need-same-requires
-same-requires c κs = search needs
+equals-copy-requires : tie.Need-equals-copy-requires
+equals-copy-requires c κs =
+    let w = c .before .before .before in
+    let l = listed (known w) in
+    let S = setIn (start l .args .b .now) (startsOf (l .list .result .table)) in
+    let used = w .rewrite .result in (
+      length-take-le imageSize (w .rewrite .last .0) (still-large w) ∙ sym (start l .pre .0),
+      omega (arith, w .rewrite .ensures .end, used-fits S (is-table l .holds), start l .pre .0),
+      ap (drop used) (image-is w) ∙ past-used S used (w .rewrite .ensures .end) ∙ ap (λ (n : ℕ). replicate (n - used) 0) (sym (start l .pre .0)),
+    )
 
 -- where the image of the set was compared, and where it was written
-abbrev written : tie.After-same → tie.After-rewrite
+abbrev written : tie.After-equals-copy → tie.After-rewrite
 written c = c .before .before .before .before
 
 -- whether the buffer is an image is what the comparison says
-compared : (c : tie.After-same) (t : Bool) → c .same .result ≡ t → isImage (start (listed (known (written c))) .args .b .now) ≡ t
+compared : (c : tie.After-equals-copy) (t : Bool) → c .equals-copy .result ≡ t → isImage (start (listed (known (written c))) .args .b .now) ≡ t
 compared c t e =
     let l = listed (known (written c)) in
     let b = start l .args .b .now in
-    judged b (l .list .result .table) (is-table l) ∙ ap (λ (i : List ℕ). same i b) (sym (image-is (written c))) ∙ sym (c .same .ensures) ∙ e
+    judged b (l .list .result .table) (is-table l) ∙ ap (λ (i : List ℕ). same i b) (sym (image-is (written c))) ∙ sym (c .equals-copy .ensures) ∙ e
 
 same-length : tie.Need-same-length
 same-length c = written (c .before) .rewrite .kept .0
 
 returns-2 : tie.Need-returns-2
-returns-2 c = let a = c .before in refused (listed (known (written a))) (compared a _ (not-true (a .same .result) (c .if1 .taken))) _
+returns-2 c = let a = c .before in refused (listed (known (written a))) (compared a _ (not-true (a .equals-copy .result) (c .if1 .taken))) _
 
 same-length-2 : tie.Need-same-length-2
 same-length-2 c = written (c .before .before) .rewrite .kept .0
@@ -138,7 +146,7 @@ returns-3 c =
     let e = known w in
     let l = listed e in
     let b = start l .args .b .now in
-    let equal = not-false (a .same .result) (c .before .if1 .left) in (
+    let equal = not-false (a .equals-copy .result) (c .before .if1 .left) in (
       record {
         image = subst T (sym (compared a _ equal)) tt;
         table = start l .pre .1;
@@ -146,7 +154,7 @@ returns-3 c =
         inside = l .list .ensures .log .inside;
         fits = l .list .ensures .fits;
       },
-      same→eq (take imageSize (w .rewrite .last .0)) b (subst T (sym equal ∙ a .same .ensures) tt),
+      same→eq (take imageSize (w .rewrite .last .0)) b (subst T (sym equal ∙ a .equals-copy .ensures) tt),
     )
 
 pub judge-spec : {M : Type 1} → statement M
@@ -159,9 +167,9 @@ judge-spec =
     enum-told-2
     returns
     rewrite-requires
-    slice-reshare-prefix-same
-    slice-aggregate-same
-    same-requires
+    slice-reshare-prefix-equals-copy
+    slice-aggregate-equals-copy
+    equals-copy-requires
     same-length
     returns-2
     same-length-2

@@ -43,7 +43,7 @@ same-length : tie.Need-same-length
 same-length c = search needs
 
 returns : tie.Need-returns
-returns c = c .before .before .write-used .ensures .bytes
+returns c = c .before .before .write-used .ensures
 
 pub rewrite-spec : {M : Type 1} → statement M
 rewrite-spec =
