@@ -4,6 +4,7 @@ use key::KEYS;
 use layout::CAPACITY;
 use log::listing::order;
 use log_order::LogOrder;
+use needs::rows::ROWS;
 use prepared::prepare;
 use steps::write_steps;
 use table::Table;
@@ -25,9 +26,11 @@ pub fn order_table(pool: &[u8], table: Table, old: [u8; CAPACITY], old_count: us
     let starts = table.starts;
     let count = table.count;
     let begun = LogOrder::begin(old, old_count);
+    let mut rows = [0u8; ROWS];
+    let mut counts = [0u8; CAPACITY];
     let mut keys = [0u64; KEYS];
-    let needed = prepare(&mut keys, pool, &starts[..count]);
-    order(pool, &starts[..count], needed, &keys, begun)
+    prepare(&mut rows, &mut counts, &mut keys, pool, &starts[..count]);
+    order(pool, &starts[..count], &rows, &counts, &keys, begun)
 }
 
 // Writes the used bytes of the image of a table's set, whose log is at the given places.

@@ -8,7 +8,6 @@ use Rattle.model.specs.Lists.{_∈_}
 use Rattle.model.specs.Layout.{capacity}
 use Rattle.model.specs.Order.{State, placedBy}
 use Rattle.table.specs.Table.{deltasAt}
-use Rattle.closure.specs.declared.closing.Closure.{Closure}
 use Rattle.closure.specs.Ready.{readyIn, Placing, Blocks}
 
 -- The first `count` of `order` are placed.
@@ -37,7 +36,8 @@ pub record Passed (S : State) (rows counts : List ℕ) (count : ℕ) (placed blo
   pub grows : count ≤ next
   pub idle : next ≡ count → (i : ℕ) → i < length (S .deltas) → readyIn rows counts placed i ≡ false
 
--- None is ready any more.
-pub record Closed (S : State) (rows counts : List ℕ) (r : Closure) : Type 0 where
-  pub closing : Closing S (r .placed) (r .blocks) (r .order) (r .count)
-  pub idle : (i : ℕ) → i < length (S .deltas) → readyIn rows counts (r .placed) i ≡ false
+-- None is ready any more, by the marks of what is placed.
+pub record Closed (S : State) (rows counts blocks order : List ℕ) (count : ℕ) : Type 0 where
+  pub placed : List ℕ
+  pub closing : Closing S placed blocks order count
+  pub idle : (i : ℕ) → i < length (S .deltas) → readyIn rows counts placed i ≡ false

@@ -24,7 +24,6 @@ use Rattle.needs.specs.Names.{missing, indexOf}
 use Rattle.needs.specs.IndexLaws.{index-here}
 use Rattle.needs.specs.NameLaws.{sequence-at, set-ascends}
 use Rattle.needs.specs.Rows.{RowsRight}
-use Rattle.closure.specs.declared.closing.Closure.{Closure}
 use Rattle.closure.specs.Ready.{marksSize, isPlaced, readyIn, effectiveIn, Marks, Placing, Blocks}
 use Rattle.closure.specs.ReadyLaws.{ready-is, block-is, idle-stuck}
 use Rattle.closure.specs.Closing.{Closing, Tried, Passing, Passed, Closed}
@@ -102,13 +101,13 @@ placing-none S right = record {
 }
 
 module _ (S : State) (right : RightSet (S .deltas)) where
-  pub closing-none : Closing S (replicate marksSize 0) (replicate marksSize 0) (replicate capacity 0) 0
-  closing-none = record {
-    size = length-replicate {A = ℕ} capacity 0;
+  pub closing-none : (blocks order : List ℕ) → length blocks ≡ marksSize → length order ≡ capacity → Closing S (replicate marksSize 0) blocks order 0
+  closing-none blocks order p q = record {
+    size = q;
     few = omega arith;
     inside = λ i k. absurd (List·Memᴰ·not-nil k);
     placing = placing-none S right;
-    effective = record { size = length-replicate {A = ℕ} marksSize 0; here = λ i h k. absurd (List·Memᴰ·not-nil k) };
+    effective = record { size = p; here = λ i h k. absurd (List·Memᴰ·not-nil k) };
   }
 
   module _ (placed blocks order : List ℕ) (count : ℕ) (c : Closing S placed blocks order count) where
@@ -162,22 +161,22 @@ module _ (S : State) (right : RightSet (S .deltas)) where
           is-ready = subst T (sym r ∙ ready-is S placed so-far (c .placing) rows counts rr i inside) tt
 
   -- ---- where none is ready, all executable deltas are placed, with their effective blocks
-  module _ (rows counts : List ℕ) (rr : RowsRight S rows counts) (r : Closure) (c : Closed S rows counts r) (i : ℕ) (h : i < length (S .deltas)) (ex : Executable S (getD (S .deltas) i [])) where
+  module _ (rows counts : List ℕ) (rr : RowsRight S rows counts) (blocks order : List ℕ) (count : ℕ) (c : Closed S rows counts blocks order count) (i : ℕ) (h : i < length (S .deltas)) (ex : Executable S (getD (S .deltas) i [])) where
     abbrev placed-deltas : List Message
-    placed-deltas = deltasAt (S .deltas) (take (r .count) (r .order))
+    placed-deltas = deltasAt (S .deltas) (take count order)
 
     listed : getD (S .deltas) i [] ∈ placed-deltas
     listed = stuck-complete sequenceOf (needs S) (S .deltas) (ascending-names (S .deltas) (right .ascends)) placed-deltas (c .closing .placing .listing) (c .closing .placing .received)
-        (idle-stuck S (r .placed) placed-deltas (c .closing .placing) rows counts rr (c .idle)) .complete (getD (S .deltas) i []) (getD-∈ (S .deltas) i [] h) ex
+        (idle-stuck S (c .placed) placed-deltas (c .closing .placing) rows counts rr (c .idle)) .complete (getD (S .deltas) i []) (getD-∈ (S .deltas) i [] h) ex
 
-    pub closed-block : getD (r .blocks) i 0 ≡ effectiveBlock S (getD (S .deltas) i [])
+    pub closed-block : getD blocks i 0 ≡ effectiveBlock S (getD (S .deltas) i [])
     closed-block = c .closing .effective .here i h (subst (λ (s : ℕ). s ∈ placedBy placed-deltas) (sym (sequence-at (S .deltas) i)) (after-has sequenceOf placed-deltas [] listed))
 
     -- it is one of those in the closure's order
-    pub closed-placed : i ∈ take (r .count) (r .order)
+    pub closed-placed : i ∈ take count order
     closed-placed =
-        let m = Memᴰ·of-map (λ j. getD (S .deltas) j []) (take (r .count) (r .order)) listed in
-        subst (λ (j : ℕ). j ∈ take (r .count) (r .order)) (index (m .0) (c .closing .inside (m .0) (m .1)) (ap sequenceOf (m .2)) ∙ sym (index i h refl)) (m .1)
+        let m = Memᴰ·of-map (λ j. getD (S .deltas) j []) (take count order) listed in
+        subst (λ (j : ℕ). j ∈ take count order) (index (m .0) (c .closing .inside (m .0) (m .1)) (ap sequenceOf (m .2)) ∙ sym (index i h refl)) (m .1)
       where
         index : (j : ℕ) → j < length (S .deltas) → sequenceOf (getD (S .deltas) j []) ≡ sequenceOf (getD (S .deltas) i []) → j ≡ indexOf (sequencesOf (S .deltas)) (sequenceOf (getD (S .deltas) i []))
         index j q e = index-here (sequencesOf (S .deltas)) (set-ascends (S .deltas) (right .ascends)) (sequenceOf (getD (S .deltas) i [])) j (omega (arith, length-map (S .deltas) sequenceOf)) (sequence-at (S .deltas) j ∙ e)

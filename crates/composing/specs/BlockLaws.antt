@@ -15,7 +15,6 @@ use Rattle.laws.specs.LogLaws.{log-executable}
 use Rattle.table.specs.Table.{deltasAt}
 use Rattle.table.specs.Places.{AllBelow}
 use Rattle.needs.specs.Rows.{RowsRight}
-use Rattle.closure.specs.declared.closing.Closure.{Closure}
 use Rattle.closure.specs.Closing.{Closed}
 use Rattle.closure.specs.ClosingLaws.{closed-block}
 use Rattle.composing.specs.GroupLaws.{block-small}
@@ -27,14 +26,14 @@ greatest-places f g l (p ∷ places) h = ap₂ max (h p (List·Memᴰ·head refl
 
 module _ (S : State) (right : RightSet (S .deltas)) (places : List ℕ) (below : AllBelow (length (S .deltas)) places) (log : deltasAt (S .deltas) places ≡ logOf S) where
   -- each place's block is its delta's effective block, since what is logged is executable
-  pub highest-effective : (rows counts : List ℕ) → RowsRight S rows counts → (r : Closure) → Closed S rows counts r
-      → greatest (λ i. getD (r .blocks) i 0) places ≡ greatest (effectiveBlock S) (logOf S)
-  highest-effective rows counts filled r closed = greatest-places (λ i. getD (r .blocks) i 0) (effectiveBlock S) (S .deltas) places each ∙ ap (greatest (effectiveBlock S)) log
+  pub highest-effective : (rows counts : List ℕ) → RowsRight S rows counts → (blocks order : List ℕ) (count : ℕ) → Closed S rows counts blocks order count
+      → greatest (λ i. getD blocks i 0) places ≡ greatest (effectiveBlock S) (logOf S)
+  highest-effective rows counts filled blocks order count closed = greatest-places (λ i. getD blocks i 0) (effectiveBlock S) (S .deltas) places each ∙ ap (greatest (effectiveBlock S)) log
     where
-      each : (i : ℕ) → i ∈ places → getD (r .blocks) i 0 ≡ effectiveBlock S (getD (S .deltas) i [])
+      each : (i : ℕ) → i ∈ places → getD blocks i 0 ≡ effectiveBlock S (getD (S .deltas) i [])
       each i k =
           let logged : getD (S .deltas) i [] ∈ logOf S = subst (λ (l : List Message). getD (S .deltas) i [] ∈ l) log (Memᴰ·map (λ (j : ℕ). getD (S .deltas) j []) k) in
-          closed-block S right rows counts filled r closed i (below i k) (log-executable S (right .ascends) (getD (S .deltas) i []) (getD-∈ (S .deltas) i [] (below i k)) .0 logged)
+          closed-block S right rows counts filled blocks order count closed i (below i k) (log-executable S (right .ascends) (getD (S .deltas) i []) (getD-∈ (S .deltas) i [] (below i k)) .0 logged)
 
 -- ---- the limit
 module _ (S : State) (right : RightSet (S .deltas)) where

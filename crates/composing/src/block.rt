@@ -1,6 +1,9 @@
 // The block of a new delta.
 use closure::closing::close;
+use closure::ready::MARKS;
 use closure::ready::greater;
+use layout::CAPACITY;
+use needs::rows::ROWS;
 use needs::rows::fill_rows;
 ghost use mathlib.Core.Path.{_≡_};
 ghost use lib.ListN.{length, getD};
@@ -34,10 +37,11 @@ pub fn new_block(pool: &[u8], starts: &[u16], places: &[u8], flag: u32) -> u32
     if flag != 1 {
         return 0;
     }
-    let filled = fill_rows(pool, starts);
-    let rows = filled.rows;
-    let counts = filled.counts;
-    let closed = close(pool, starts, &rows, &counts);
-    let blocks = closed.blocks;
+    let mut rows = [0u8; ROWS];
+    let mut counts = [0u8; CAPACITY];
+    fill_rows(&mut rows, &mut counts, pool, starts);
+    let mut blocks = [0u32; MARKS];
+    let mut order = [0u8; CAPACITY];
+    close(&mut blocks, &mut order, pool, starts, &rows, &counts);
     highest_block(&blocks, places) + 1
 }

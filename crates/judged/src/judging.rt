@@ -9,6 +9,7 @@ use layout::IMAGE_SIZE;
 use layout::LOG_COUNT_AT;
 use log_check::check_log;
 use message::checks::Check;
+use needs::rows::ROWS;
 use prepared::prepare;
 use table::Table;
 use table::reading::read_table;
@@ -56,9 +57,18 @@ fn check_listed(b: &[u8], listed: Station) -> Check
     let count = table.count;
     let places = listed.places;
     let logged = listed.logged;
+    let mut rows = [0u8; ROWS];
+    let mut counts = [0u8; CAPACITY];
     let mut keys = [0u64; KEYS];
-    let needed = prepare(&mut keys, b, &starts[..count]);
-    check_log(b, &starts[..count], needed, &keys, &places[..logged])
+    prepare(&mut rows, &mut counts, &mut keys, b, &starts[..count]);
+    check_log(
+        b,
+        &starts[..count],
+        &rows,
+        &counts,
+        &keys,
+        &places[..logged],
+    )
 }
 
 // Writes the used bytes of the image of a set whose log is listed, and answers how many they are.

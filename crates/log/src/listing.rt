@@ -5,7 +5,6 @@ use crate::next::skip_placed;
 use crate::sorting::sort_by_key;
 use closure::ready::MARKS;
 use log_order::LogOrder;
-use needs::rows::Rows;
 ghost use mathlib.Core.Path.{_≡_};
 ghost use mathlib.Core.List.{[]};
 ghost use Rattle.table.specs.Table.{setIn, Holds};
@@ -14,12 +13,17 @@ ghost use Rattle.prepared.specs.Keys.{PreparedRight};
 ghost use Rattle.log.specs.Ordered.{Ordered};
 
 // Of all deltas that are ready it places the one of the lowest key, again and again, until none is.
-pub fn order(pool: &[u8], starts: &[u16], needed: Rows, keys: &[u64], begun: LogOrder) -> LogOrder
-    requires { ⌜ Holds (now pool) (now starts) × PreparedRight (setIn (now pool) (now starts)) needed (now keys) × OrderRight begun × (placesOf begun ≡ []) ⌝ }
+pub fn order(
+    pool: &[u8],
+    starts: &[u16],
+    rows: &[u8],
+    counts: &[u8],
+    keys: &[u64],
+    begun: LogOrder,
+) -> LogOrder
+    requires { ⌜ Holds (now pool) (now starts) × PreparedRight (setIn (now pool) (now starts)) (now rows) (now counts) (now keys) × OrderRight begun × (placesOf begun ≡ []) ⌝ }
     ensures { λ r. ⌜ Ordered (setIn (now (pool .entry)) (now (starts .entry))) begun r ⌝ }
 {
-    let rows = needed.rows;
-    let counts = needed.counts;
     let used = starts.len();
     let sorted = sort_by_key(keys, used);
     let mut placed = [0u8; MARKS];
@@ -28,7 +32,7 @@ pub fn order(pool: &[u8], starts: &[u16], needed: Rows, keys: &[u64], begun: Log
     let mut k = 0;
     while k < used {
         first = skip_placed(&sorted[..used], &placed, first);
-        let found = first_ready(&rows, &counts, &sorted[..used], &placed, first);
+        let found = first_ready(rows, counts, &sorted[..used], &placed, first);
         let Next::At(i) = found else {
             return log;
         };

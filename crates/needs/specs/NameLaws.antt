@@ -13,7 +13,6 @@ use Rattle.model.specs.Message.{Message, sequenceOf}
 use Rattle.model.specs.Order.{Ascending, RightSet, sequencesOf}
 use Rattle.order.specs.TestLaws.{decide, not-eqb}
 use Rattle.table.specs.PlaceLaws.{ascending-at}
-use Rattle.needs.specs.declared.sequences.Sequences.{Sequences}
 use Rattle.needs.specs.Names.{nameOf, namesIn, Ascends, Searchable, SequencesRight}
 
 -- ---- of two arrays
@@ -73,12 +72,12 @@ module _ (l : List Message) (high low : List ℕ) (fits : length l ≤ length hi
       ∙ f k inside ∙ sym (sequence-at l k))
 
 -- such a part of the arrays can be searched
-module _ (l : List Message) (r : Sequences) (right : RightSet l) (read : SequencesRight l r) (n : ℕ) (all : n ≡ length l) where
-  pub names-read : namesIn (take n (r .high)) (take n (r .low)) ≡ sequencesOf l
-  names-read = ap (λ (k : ℕ). namesIn (take k (r .high)) (take k (r .low))) all ∙ read .names
+module _ (l : List Message) (high low : List ℕ) (right : RightSet l) (read : SequencesRight l high low) (n : ℕ) (all : n ≡ length l) where
+  pub names-read : namesIn (take n high) (take n low) ≡ sequencesOf l
+  names-read = ap (λ (k : ℕ). namesIn (take k high) (take k low)) all ∙ read .names
 
-  pub set-searchable : Searchable (take n (r .high)) (take n (r .low))
+  pub set-searchable : Searchable (take n high) (take n low)
   set-searchable =
-      let high : length (take n (r .high)) ≡ n = length-take-le n (r .high) (omega (arith, right .fits, read .high-size)) in
-      let low : length (take n (r .low)) ≡ n = length-take-le n (r .low) (omega (arith, right .fits, read .low-size)) in
-      record { paired = high ∙ sym low; few = omega (arith, right .fits); ascends = subst Ascends (sym names-read) (set-ascends l (right .ascends)) }
+      let highs : length (take n high) ≡ n = length-take-le n high (omega (arith, right .fits, read .high-size)) in
+      let lows : length (take n low) ≡ n = length-take-le n low (omega (arith, right .fits, read .low-size)) in
+      record { paired = highs ∙ sym lows; few = omega (arith, right .fits); ascends = subst Ascends (sym names-read) (set-ascends l (right .ascends)) }

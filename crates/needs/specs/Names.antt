@@ -9,7 +9,6 @@ use Rattle.model.specs.Layout.{capacity}
 use Rattle.model.specs.Message.{Message}
 use Rattle.model.specs.Order.{sequencesOf}
 use Rattle.sequence.specs.Sequence.{sequenceNumber}
-use Rattle.needs.specs.declared.sequences.Sequences.{Sequences}
 
 -- The sequence of a high and a low part.
 abbrev pub nameOf : ℕ → ℕ → ℕ
@@ -43,7 +42,7 @@ unfoldable pub indexOf : List ℕ → ℕ → ℕ
 indexOf names s = indexFrom 0 names s
 
 -- The first of the arrays are the deltas' sequences.
-pub record SequencesRight (l : List Message) (r : Sequences) : Type 0 where
-  pub high-size : length (r .high) ≡ capacity
-  pub low-size : length (r .low) ≡ capacity
-  pub names : namesIn (take (length l) (r .high)) (take (length l) (r .low)) ≡ sequencesOf l
+pub record SequencesRight (l : List Message) (high low : List ℕ) : Type 0 where
+  pub high-size : length high ≡ capacity
+  pub low-size : length low ≡ capacity
+  pub names : namesIn (take (length l) high) (take (length l) low) ≡ sequencesOf l

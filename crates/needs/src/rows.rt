@@ -6,9 +6,11 @@ use crate::wanted::need_of;
 use layout::CAPACITY;
 use layout::MOST_DEPENDENCIES;
 use table::entry::message_at;
-ghost use Prim.Native.Nat.{_+_, _≤_};
+ghost use mathlib.Core.Path.{_≡_};
+ghost use Prim.Native.Nat.{_+_, _*_, _≤_};
 ghost use lib.Dec.{T};
 ghost use lib.ListN.{length};
+ghost use Rattle.model.specs.Layout.{capacity};
 ghost use Rattle.model.specs.Message.{passes};
 ghost use Rattle.table.specs.Table.{setIn, Holds};
 ghost use Rattle.needs.specs.Names.{namesIn, Searchable};
@@ -18,12 +20,6 @@ ghost use Rattle.needs.specs.Rows.{rowSize, RowFilled, RowsRight};
 pub const ROW: usize = MOST_DEPENDENCIES + 1;
 
 pub const ROWS: usize = ROW * CAPACITY;
-
-// All rows, and how long each is.
-pub struct Rows {
-    pub rows: [u8; ROWS],
-    pub counts: [u8; CAPACITY],
-}
 
 // Writes the row of a message from a place on, and answers how long it is.
 fn fill_row(rows: &mut [u8], at: usize, m: &[u8], high: &[u64], low: &[u32]) -> usize
@@ -39,23 +35,20 @@ fn fill_row(rows: &mut [u8], at: usize, m: &[u8], high: &[u64], low: &[u32]) -> 
     count
 }
 
-// The rows of all deltas of a table.
-pub fn fill_rows(pool: &[u8], starts: &[u16]) -> Rows
-    requires { ⌜ Holds (now pool) (now starts) ⌝ }
-    ensures { λ r. ⌜ RowsRight (setIn (now (pool .entry)) (now (starts .entry))) (r .rows) (r .counts) ⌝ }
+// Writes the rows of all deltas of a table, and how long each is.
+pub fn fill_rows(rows: &mut [u8], counts: &mut [u8], pool: &[u8], starts: &[u16])
+    requires { ⌜ (length (now rows) ≡ rowSize * capacity) × (length (now counts) ≡ capacity) × Holds (now pool) (now starts) ⌝ }
+    ensures { λ _. ⌜ RowsRight (setIn (now (pool .entry)) (now (starts .entry))) (now (rows .exit)) (now (counts .exit)) ⌝ }
 {
-    let sequences = read_sequences(pool, starts);
-    let high = sequences.high;
-    let low = sequences.low;
+    let mut high = [0u64; CAPACITY];
+    let mut low = [0u32; CAPACITY];
+    read_sequences(&mut high, &mut low, pool, starts);
     let used = starts.len();
-    let mut rows = [0u8; ROWS];
-    let mut counts = [0u8; CAPACITY];
     let mut i = 0;
     while i < used {
         let m = message_at(pool, starts, i);
-        let count = fill_row(&mut rows, ROW * i, m, &high[..used], &low[..used]);
+        let count = fill_row(rows, ROW * i, m, &high[..used], &low[..used]);
         counts[i] = count as u8;
         i += 1;
     }
-    Rows { rows, counts }
 }

@@ -5,6 +5,8 @@ use sequence::equal;
 use sequence::less;
 use table::entry::sequence_at;
 ghost use mathlib.Core.Path.{_≡_};
+ghost use lib.ListN.{length};
+ghost use Rattle.model.specs.Layout.{capacity};
 ghost use Rattle.sequence.specs.Sequence.{sequenceNumber};
 ghost use Rattle.table.specs.Table.{deltasOf, Holds};
 ghost use Rattle.needs.specs.Names.{namesIn, Searchable, indexOf, SequencesRight};
@@ -12,19 +14,11 @@ ghost use Rattle.needs.specs.Names.{namesIn, Searchable, indexOf, Sequen
 // Stands for a sequence that is not there.
 pub const MISSING: u8 = CAPACITY as u8;
 
-// The high and low parts of the sequences, by index of the table.
-pub struct Sequences {
-    pub high: [u64; CAPACITY],
-    pub low: [u32; CAPACITY],
-}
-
-// Reads the sequences of all messages of a table.
-pub fn read_sequences(pool: &[u8], starts: &[u16]) -> Sequences
-    requires { ⌜ Holds (now pool) (now starts) ⌝ }
-    ensures { λ r. ⌜ SequencesRight (deltasOf (now (pool .entry)) (now (starts .entry))) r ⌝ }
+// Writes the high and low parts of the sequences of all messages of a table, by index.
+pub fn read_sequences(high: &mut [u64], low: &mut [u32], pool: &[u8], starts: &[u16])
+    requires { ⌜ (length (now high) ≡ capacity) × (length (now low) ≡ capacity) × Holds (now pool) (now starts) ⌝ }
+    ensures { λ _. ⌜ SequencesRight (deltasOf (now (pool .entry)) (now (starts .entry))) (now (high .exit)) (now (low .exit)) ⌝ }
 {
-    let mut high = [0u64; CAPACITY];
-    let mut low = [0u32; CAPACITY];
     let mut i = 0;
     while i < starts.len() {
         let s = sequence_at(pool, starts, i);
@@ -32,7 +26,6 @@ pub fn read_sequences(pool: &[u8], starts: &[u16]) -> Sequences
         low[i] = s.low;
         i += 1;
     }
-    Sequences { high, low }
 }
 
 // The index of a sequence among ascending ones, or that it is missing: halves what is left.

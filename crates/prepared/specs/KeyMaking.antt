@@ -19,7 +19,6 @@ use Rattle.message.specs.Header.{headerOf}
 use Rattle.key.specs.Key.{keySize, headerKey, keyIn}
 use Rattle.key.specs.KeyLaws.{put-here, put-other, key-says}
 use Rattle.needs.specs.Rows.{RowsRight}
-use Rattle.closure.specs.declared.closing.Closure.{Closure}
 use Rattle.closure.specs.Closing.{Closed}
 use Rattle.closure.specs.ClosingLaws.{closed-block, closed-placed}
 use Rattle.prepared.specs.Keys.{Keyed, KeysMade, KeysRight}
@@ -53,14 +52,14 @@ pub keys-all : (l : List Message) (blocks indices keys : List ℕ) (n : ℕ) →
 keys-all l blocks indices keys n h m = subst (λ (x : List ℕ). KeysMade l blocks x keys) (take-all n indices h) m
 
 -- with the order and the blocks of a closure they say of executable deltas what the definitions' keys say
-pub keys-closed : (S : State) → RightSet (S .deltas) → (rows counts : List ℕ) → RowsRight S rows counts → (r : Closure) → Closed S rows counts r
-    → (keys : List ℕ) → KeysMade (S .deltas) (r .blocks) (take (r .count) (r .order)) keys → KeysRight S keys
-keys-closed S right rows counts rr r c keys made = record {
+pub keys-closed : (S : State) → RightSet (S .deltas) → (rows counts : List ℕ) → RowsRight S rows counts → (blocks order : List ℕ) (count : ℕ) → Closed S rows counts blocks order count
+    → (keys : List ℕ) → KeysMade (S .deltas) blocks (take count order) keys → KeysRight S keys
+keys-closed S right rows counts rr blocks order count c keys made = record {
   size = made .size;
   compared = λ i j p q x y.
-      ap₂ less (made .made i (closed-placed S right rows counts rr r c i p x)) (made .made j (closed-placed S right rows counts rr r c j q y))
-      ∙ key-says (getD (r .blocks) i 0) (getD (r .blocks) j 0) (getD (S .deltas) i []) (getD (S .deltas) j []) (passing i p) (passing j q)
-      ∙ ap₂ (λ (a b : ℕ). less (keyWith a (getD (S .deltas) i [])) (keyWith b (getD (S .deltas) j []))) (closed-block S right rows counts rr r c i p x) (closed-block S right rows counts rr r c j q y);
+      ap₂ less (made .made i (closed-placed S right rows counts rr blocks order count c i p x)) (made .made j (closed-placed S right rows counts rr blocks order count c j q y))
+      ∙ key-says (getD blocks i 0) (getD blocks j 0) (getD (S .deltas) i []) (getD (S .deltas) j []) (passing i p) (passing j q)
+      ∙ ap₂ (λ (a b : ℕ). less (keyWith a (getD (S .deltas) i [])) (keyWith b (getD (S .deltas) j []))) (closed-block S right rows counts rr blocks order count c i p x) (closed-block S right rows counts rr blocks order count c j q y);
 }
   where
     passing : (i : ℕ) → i < length (S .deltas) → T (passes (getD (S .deltas) i []))

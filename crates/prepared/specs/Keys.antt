@@ -10,7 +10,6 @@ use Rattle.model.specs.Order.{State, Executable, keyOf, less}
 use Rattle.message.specs.Header.{headerOf}
 use Rattle.key.specs.Key.{keySize, headerKey, keyIn}
 use Rattle.needs.specs.Rows.{RowsRight}
-use Rattle.needs.specs.declared.rows.Rows.{Rows}
 
 abbrev pub Keyed : List ℕ → Type 0
 Keyed keys = length keys ≡ keySize * capacity
@@ -30,6 +29,6 @@ pub record KeysRight (S : State) (keys : List ℕ) : Type 0 where
   pub compared : (i j : ℕ) → i < length (S .deltas) → j < length (S .deltas) → Executable S (getD (S .deltas) i []) → Executable S (getD (S .deltas) j [])
       → less (keyIn keys i) (keyIn keys j) ≡ less (keyOf S (getD (S .deltas) i [])) (keyOf S (getD (S .deltas) j []))
 
-pub record PreparedRight (S : State) (needed : Rows) (keys : List ℕ) : Type 0 where
-  pub needs : RowsRight S (needed .rows) (needed .counts)
+pub record PreparedRight (S : State) (rows counts keys : List ℕ) : Type 0 where
+  pub needs : RowsRight S rows counts
   pub keyed : KeysRight S keys

@@ -3,23 +3,25 @@ pub mod keys;
 
 use crate::keys::fill_keys;
 use closure::closing::close;
-use needs::rows::Rows;
+use closure::ready::MARKS;
+use layout::CAPACITY;
 use needs::rows::fill_rows;
+ghost use mathlib.Core.Path.{_≡_};
+ghost use Prim.Native.Nat.{_*_};
+ghost use lib.ListN.{length};
+ghost use Rattle.model.specs.Layout.{capacity};
 ghost use Rattle.table.specs.Table.{setIn, Holds};
+ghost use Rattle.needs.specs.Rows.{rowSize};
 ghost use Rattle.prepared.specs.Keys.{Keyed, PreparedRight};
 
-// Finds the needs of all deltas, closes them for what is executable and the effective blocks, and writes the keys.
-pub fn prepare(keys: &mut [u64], pool: &[u8], starts: &[u16]) -> Rows
-    requires { ⌜ Keyed (now keys) × Holds (now pool) (now starts) ⌝ }
-    ensures { λ r. ⌜ PreparedRight (setIn (now (pool .entry)) (now (starts .entry))) r (now (keys .exit)) ⌝ }
+// Writes the needs of all deltas, closes them for what is executable and the effective blocks, and writes the keys.
+pub fn prepare(rows: &mut [u8], counts: &mut [u8], keys: &mut [u64], pool: &[u8], starts: &[u16])
+    requires { ⌜ (length (now rows) ≡ rowSize * capacity) × (length (now counts) ≡ capacity) × Keyed (now keys) × Holds (now pool) (now starts) ⌝ }
+    ensures { λ _. ⌜ PreparedRight (setIn (now (pool .entry)) (now (starts .entry))) (now (rows .exit)) (now (counts .exit)) (now (keys .exit)) ⌝ }
 {
-    let needed = fill_rows(pool, starts);
-    let rows = needed.rows;
-    let counts = needed.counts;
-    let closed = close(pool, starts, &rows, &counts);
-    let blocks = closed.blocks;
-    let executable = closed.order;
-    let count = closed.count;
+    fill_rows(rows, counts, pool, starts);
+    let mut blocks = [0u32; MARKS];
+    let mut executable = [0u8; CAPACITY];
+    let count = close(&mut blocks, &mut executable, pool, starts, rows, counts);
     fill_keys(keys, pool, starts, &blocks, &executable[..count]);
-    needed
 }

@@ -5,6 +5,7 @@ use crate::marks::mark;
 use crate::marks::mark_needs;
 use closure::ready::MARKS;
 use layout::CAPACITY;
+use needs::rows::ROWS;
 use needs::rows::fill_rows;
 use sequence::Predecessor;
 use sequence::Sequence;
@@ -39,9 +40,9 @@ fn mark_uses(pool: &[u8], starts: &[u16], places: &[u8]) -> Uses
     requires { ⌜ LogPlaces (now pool) (now starts) (now places) ⌝ }
     ensures { λ r. ⌜ UsesRight (setIn (now (pool .entry)) (now (starts .entry))) r ⌝ }
 {
-    let filled = fill_rows(pool, starts);
-    let rows = filled.rows;
-    let counts = filled.counts;
+    let mut rows = [0u8; ROWS];
+    let mut counts = [0u8; CAPACITY];
+    fill_rows(&mut rows, &mut counts, pool, starts);
     let mut logged = [0u8; MARKS];
     mark(&mut logged, places);
     let mut needed = [0u8; MARKS];

@@ -19,20 +19,20 @@ use Rattle.log_check.proofs.check_log.Statement.{statement}
 use Rattle.log_check.proofs.check_log.Tie as tie
 
 abbrev Inv-loop : tie.InvT-loop
-Inv-loop pool starts keys places rows counts placed₀ ends₀ froms₀ k₀ placed ends froms k = Checking (setIn pool starts) keys places placed ends froms k
+Inv-loop pool starts rows counts keys places placed₀ ends₀ froms₀ k₀ placed ends froms k = Checking (setIn pool starts) keys places placed ends froms k
 
 abbrev μ-loop : tie.MeasureT-loop
-μ-loop pool starts keys places rows counts placed₀ ends₀ froms₀ k₀ placed ends froms k = length places - k
+μ-loop pool starts rows counts keys places placed₀ ends₀ froms₀ k₀ placed ends froms k = length places - k
 
 -- where the loop is entered, where a turn of it begins, and where the delta is known to be ready
 abbrev entry : tie.At-loop Inv-loop μ-loop → tie.Start Inv-loop μ-loop
 entry c = c .before .before .before .before .before .before .before
 
 abbrev turn : tie.After-ready Inv-loop μ-loop → tie.In-loop Inv-loop μ-loop
-turn c = c .before .before .before .before .before
+turn c = c .before .before .before
 
 abbrev looked : tie.After-ends Inv-loop μ-loop → tie.After-ready Inv-loop μ-loop
-looked c = c .before .before .before .before
+looked c = c .before .before
 
 abbrev known : tie.After-froms Inv-loop μ-loop → tie.After-effective Inv-loop μ-loop
 known c = c .before
@@ -52,7 +52,7 @@ small s k h = s .pre .2 .small (getD (s .args .places .now) k 0) (getD-∈ (s .a
 loop-holds : tie.Need-loop-holds Inv-loop μ-loop
 loop-holds c =
     let s = c .before .before .before .before .before .before in
-    checking-none (setIn (s .args .pool .now) (s .args .starts .now)) (s .pre .0) (s .args .places .now) (s .pre .2) (s .args .needed .rows) (s .args .needed .counts) (s .pre .1 .needs) (s .args .keys .now) (s .pre .1 .keyed)
+    checking-none (setIn (s .args .pool .now) (s .args .starts .now)) (s .pre .0) (s .args .places .now) (s .pre .2) (s .args .rows .now) (s .args .counts .now) (s .pre .1 .needs) (s .args .keys .now) (s .pre .1 .keyed)
 
 shared-slice-read-i : tie.Need-shared-slice-read-i Inv-loop μ-loop
 shared-slice-read-i c = omega arith
@@ -61,17 +61,11 @@ cast-i : tie.Need-cast-i Inv-loop μ-loop
 cast-i c = let l = c .before .before in let s = entry l in omega (arith, small s (l .loop .k) (omega arith), s .pre .0 .fits)
 
 slice-aggregate-ready : tie.Need-slice-aggregate-ready Inv-loop μ-loop
-slice-aggregate-ready c = let s = entry (c .before .before .before) in omega (arith, s .pre .1 .needs .size)
-
-slice-aggregate-ready-2 : tie.Need-slice-aggregate-ready-2 Inv-loop μ-loop
-slice-aggregate-ready-2 c = let s = entry (c .before .before .before .before) in omega (arith, s .pre .1 .needs .counted)
-
-slice-aggregate-ready-3 : tie.Need-slice-aggregate-ready-3 Inv-loop μ-loop
-slice-aggregate-ready-3 c = omega (arith, c .before .before .before .before .before .loop .inv .placing .marks .size)
+slice-aggregate-ready c = omega (arith, c .before .before .before .loop .inv .placing .marks .size)
 
 ready-requires : tie.Need-ready-requires Inv-loop μ-loop
 ready-requires c κs =
-    let l = c .before .before .before .before .before in
+    let l = c .before .before .before in
     let s = entry l in
     let h = small s (l .loop .k) (omega arith) in
     (rows-fit (setIn (s .args .pool .now) (s .args .starts .now)) (s .pre .0) (s .pre .1 .needs) _ h, l .loop .inv .placing .marks .size, omega (arith, s .pre .0 .fits))
@@ -81,17 +75,11 @@ returns c =
     let a = c .before in
     let l = turn a .before in
     let s = entry l in
-    not-ready (setIn (s .args .pool .now) (s .args .starts .now)) (s .pre .0) (s .args .places .now) (s .pre .2) (s .args .needed .rows) (s .args .needed .counts) (s .pre .1 .needs) (s .args .keys .now) (s .pre .1 .keyed)
+    not-ready (setIn (s .args .pool .now) (s .args .starts .now)) (s .pre .0) (s .args .places .now) (s .pre .2) (s .args .rows .now) (s .args .counts .now) (s .pre .1 .needs) (s .args .keys .now) (s .pre .1 .keyed)
     (l .loop .placed) (l .loop .ends) (l .loop .froms) (l .loop .k) (l .loop .inv) (omega arith) (sym (a .ready .ensures) ∙ not-true (a .ready .result) (c .if1 .taken))
 
 slice-aggregate-effective : tie.Need-slice-aggregate-effective Inv-loop μ-loop
-slice-aggregate-effective c = let s = entry (turn (c .before .before) .before) in omega (arith, s .pre .1 .needs .size)
-
-slice-aggregate-effective-2 : tie.Need-slice-aggregate-effective-2 Inv-loop μ-loop
-slice-aggregate-effective-2 c = let s = entry (turn (c .before .before .before) .before) in omega (arith, s .pre .1 .needs .counted)
-
-slice-aggregate-effective-3 : tie.Need-slice-aggregate-effective-3 Inv-loop μ-loop
-slice-aggregate-effective-3 c = omega (arith, turn (looked c) .before .loop .inv .ends-size)
+slice-aggregate-effective c = omega (arith, turn (looked c) .before .loop .inv .ends-size)
 
 effective-requires : tie.Need-effective-requires Inv-loop μ-loop
 effective-requires c κs =
@@ -104,8 +92,8 @@ slice-aggregate-above c = omega (arith, turn (looked (begun c)) .before .loop .i
 
 -- the delta is ready, and was so from a place on that is not behind its own
 yes : (c : tie.After-ends Inv-loop μ-loop) → let l = turn (looked c) .before in let s = entry l in
-    readyIn (s .args .needed .rows) (s .args .needed .counts) (l .loop .placed) (getD (s .args .places .now) (l .loop .k) 0) ≡ true
-yes c = let a = looked c in sym (a .ready .ensures) ∙ not-false (a .ready .result) (c .before .before .before .if1 .left)
+    readyIn (s .args .rows .now) (s .args .counts .now) (l .loop .placed) (getD (s .args .places .now) (l .loop .k) 0) ≡ true
+yes c = let a = looked c in sym (a .ready .ensures) ∙ not-false (a .ready .result) (c .before .if1 .left)
 
 early : (c : tie.After-effective Inv-loop μ-loop) → c .effective .result ≤ turn (looked (c .before)) .before .loop .k
 early c =
@@ -116,8 +104,8 @@ early c =
     omega (
       arith,
       c .effective .ensures,
-      start-small (setIn (s .args .pool .now) (s .args .starts .now)) (s .pre .0) (s .args .places .now) (s .pre .2) (s .args .needed .rows) (s .args .needed .counts) (s .pre .1 .needs) (s .args .keys .now) (s .pre .1 .keyed) (l .loop .placed) (l .loop .ends) (l .loop .froms) (l .loop .k) (l .loop .inv) k
-          (now-ready (setIn (s .args .pool .now) (s .args .starts .now)) (s .pre .0) (s .args .places .now) (s .pre .2) (s .args .needed .rows) (s .args .needed .counts) (s .pre .1 .needs) (s .args .keys .now) (s .pre .1 .keyed) (l .loop .placed) (l .loop .ends) (l .loop .froms) (l .loop .k) (l .loop .inv) k (yes e)),
+      start-small (setIn (s .args .pool .now) (s .args .starts .now)) (s .pre .0) (s .args .places .now) (s .pre .2) (s .args .rows .now) (s .args .counts .now) (s .pre .1 .needs) (s .args .keys .now) (s .pre .1 .keyed) (l .loop .placed) (l .loop .ends) (l .loop .froms) (l .loop .k) (l .loop .inv) k
+          (now-ready (setIn (s .args .pool .now) (s .args .starts .now)) (s .pre .0) (s .args .places .now) (s .pre .2) (s .args .rows .now) (s .args .counts .now) (s .pre .1 .needs) (s .args .keys .now) (s .pre .1 .keyed) (l .loop .placed) (l .loop .ends) (l .loop .froms) (l .loop .k) (l .loop .inv) k (yes e)),
     )
 
 cast-above : tie.Need-cast-above Inv-loop μ-loop
@@ -127,11 +115,11 @@ above-requires : tie.Need-above-requires Inv-loop μ-loop
 above-requires c κs =
     let l = turn (looked (begun c)) .before in
     let s = entry l in
-    comparable (setIn (s .args .pool .now) (s .args .starts .now)) (s .pre .0) (s .args .places .now) (s .pre .2) (s .args .needed .rows) (s .args .needed .counts) (s .pre .1 .needs) (s .args .keys .now) (s .pre .1 .keyed) (l .loop .placed) (l .loop .ends) (l .loop .froms) (l .loop .k) (l .loop .inv) (room (turn (looked (begun c))))
+    comparable (setIn (s .args .pool .now) (s .args .starts .now)) (s .pre .0) (s .args .places .now) (s .pre .2) (s .args .rows .now) (s .args .counts .now) (s .pre .1 .needs) (s .args .keys .now) (s .pre .1 .keyed) (l .loop .placed) (l .loop .ends) (l .loop .froms) (l .loop .k) (l .loop .inv) (room (turn (looked (begun c))))
 
 -- what the comparison says, from where the delta was ready
 compared : (c : tie.After-above Inv-loop μ-loop) (t : Bool) → c .above .result ≡ t → let e = begun (c .before) in let l = turn (looked e) .before in let s = entry l in
-    Above (s .args .keys .now) (s .args .places .now) (effectiveIn (s .args .needed .rows) (s .args .needed .counts) (l .loop .ends) (getD (s .args .places .now) (l .loop .k) 0) 0) (l .loop .k) t
+    Above (s .args .keys .now) (s .args .places .now) (effectiveIn (s .args .rows .now) (s .args .counts .now) (l .loop .ends) (getD (s .args .places .now) (l .loop .k) 0) 0) (l .loop .k) t
 compared c t q =
     let l = turn (looked (begun (c .before))) .before in
     let s = entry l in
@@ -144,7 +132,7 @@ returns-2 c =
     let e = begun (a .before) in
     let l = turn (looked e) .before in
     let s = entry l in
-    not-above (setIn (s .args .pool .now) (s .args .starts .now)) (s .pre .0) (s .args .places .now) (s .pre .2) (s .args .needed .rows) (s .args .needed .counts) (s .pre .1 .needs) (s .args .keys .now) (s .pre .1 .keyed)
+    not-above (setIn (s .args .pool .now) (s .args .starts .now)) (s .pre .0) (s .args .places .now) (s .pre .2) (s .args .rows .now) (s .args .counts .now) (s .pre .1 .needs) (s .args .keys .now) (s .pre .1 .keyed)
     (l .loop .placed) (l .loop .ends) (l .loop .froms) (l .loop .k) (l .loop .inv) (room (turn (looked e))) (yes e) (compared a false (not-true (a .above .result) (c .if2 .taken)))
 
 -- where a turn ends: its beginning
@@ -186,21 +174,15 @@ loop-again c =
     let s = entry l in
     let i : ℕ = getD (s .args .places .now) (l .loop .k) 0 in
     subst (λ (x : ℕ). Checking (setIn (s .args .pool .now) (s .args .starts .now)) (s .args .keys .now) (s .args .places .now) (set (l .loop .placed) i 1) (set (l .loop .ends) i (l .loop .k + 1)) (set (l .loop .froms) (l .loop .k) x) (l .loop .k + 1)) (sym (known (a .before) .effective .ensures))
-    (checking-more (setIn (s .args .pool .now) (s .args .starts .now)) (s .pre .0) (s .args .places .now) (s .pre .2) (s .args .needed .rows) (s .args .needed .counts) (s .pre .1 .needs) (s .args .keys .now) (s .pre .1 .keyed)
+    (checking-more (setIn (s .args .pool .now) (s .args .starts .now)) (s .pre .0) (s .args .places .now) (s .pre .2) (s .args .rows .now) (s .args .counts .now) (s .pre .1 .needs) (s .args .keys .now) (s .pre .1 .keyed)
     (l .loop .placed) (l .loop .ends) (l .loop .froms) (l .loop .k) (l .loop .inv) (room (turn (looked e))) (yes e) (compared a true (not-false (a .above .result) (c .if2 .left))))
-
-slice-aggregate-any-ready : tie.Need-slice-aggregate-any-ready Inv-loop μ-loop
-slice-aggregate-any-ready c = let s = entry (c .before .before) in omega (arith, s .pre .1 .needs .size)
-
-slice-aggregate-any-ready-2 : tie.Need-slice-aggregate-any-ready-2 Inv-loop μ-loop
-slice-aggregate-any-ready-2 c = let s = entry (c .before .before .before) in omega (arith, s .pre .1 .needs .counted)
 
 -- where all places were looked at
 abbrev done : tie.After-placed2 Inv-loop μ-loop → tie.After-loop Inv-loop μ-loop
-done c = c .before .before .before
+done c = c .before
 
-slice-aggregate-any-ready-3 : tie.Need-slice-aggregate-any-ready-3 Inv-loop μ-loop
-slice-aggregate-any-ready-3 c = omega (arith, done c .before .loop .inv .placing .marks .size)
+slice-aggregate-any-ready : tie.Need-slice-aggregate-any-ready Inv-loop μ-loop
+slice-aggregate-any-ready c = omega (arith, done c .before .loop .inv .placing .marks .size)
 
 size : (s : tie.Start Inv-loop μ-loop) → length (s .args .starts .now) ≡ length (setIn (s .args .pool .now) (s .args .starts .now) .deltas)
 size s = let e = length-map (s .args .starts .now) (messageFrom (s .args .pool .now)) in omega arith
@@ -213,19 +195,19 @@ any-ready-requires c κs =
 
 -- whether one of the deltas is ready in the end
 waiting : (c : tie.After-any-ready Inv-loop μ-loop) (t : Bool) → c .any-ready .result ≡ t → let l = done (c .before) .before in let s = entry l in
-    AnyReady (s .args .needed .rows) (s .args .needed .counts) (l .loop .placed) (length (setIn (s .args .pool .now) (s .args .starts .now) .deltas)) t
+    AnyReady (s .args .rows .now) (s .args .counts .now) (l .loop .placed) (length (setIn (s .args .pool .now) (s .args .starts .now) .deltas)) t
 waiting c t q =
     let l = done (c .before) .before in
     let s = entry l in
-    subst (λ (n : ℕ). AnyReady (s .args .needed .rows) (s .args .needed .counts) (l .loop .placed) n t) (size s)
-    (subst (AnyReady (s .args .needed .rows) (s .args .needed .counts) (l .loop .placed) (length (s .args .starts .now))) q (c .any-ready .ensures))
+    subst (λ (n : ℕ). AnyReady (s .args .rows .now) (s .args .counts .now) (l .loop .placed) n t) (size s)
+    (subst (AnyReady (s .args .rows .now) (s .args .counts .now) (l .loop .placed) (length (s .args .starts .now))) q (c .any-ready .ensures))
 
 returns-3 : tie.Need-returns-3 Inv-loop μ-loop
 returns-3 c =
     let a = c .before in
     let l = done (a .before) .before in
     let s = entry l in
-    not-whole (setIn (s .args .pool .now) (s .args .starts .now)) (s .pre .0) (s .args .places .now) (s .pre .2) (s .args .needed .rows) (s .args .needed .counts) (s .pre .1 .needs) (s .args .keys .now) (s .pre .1 .keyed)
+    not-whole (setIn (s .args .pool .now) (s .args .starts .now)) (s .pre .0) (s .args .places .now) (s .pre .2) (s .args .rows .now) (s .args .counts .now) (s .pre .1 .needs) (s .args .keys .now) (s .pre .1 .keyed)
     (l .loop .placed) (l .loop .ends) (l .loop .froms) (l .loop .k) (l .loop .inv) (omega arith) (waiting a true (c .if3 .taken))
 
 returns-4 : tie.Need-returns-4 Inv-loop μ-loop
@@ -233,7 +215,7 @@ returns-4 c =
     let a = c .before in
     let l = done (a .before) .before in
     let s = entry l in
-    is-log (setIn (s .args .pool .now) (s .args .starts .now)) (s .pre .0) (s .args .places .now) (s .pre .2) (s .args .needed .rows) (s .args .needed .counts) (s .pre .1 .needs) (s .args .keys .now) (s .pre .1 .keyed)
+    is-log (setIn (s .args .pool .now) (s .args .starts .now)) (s .pre .0) (s .args .places .now) (s .pre .2) (s .args .rows .now) (s .args .counts .now) (s .pre .1 .needs) (s .args .keys .now) (s .pre .1 .keyed)
     (l .loop .placed) (l .loop .ends) (l .loop .froms) (l .loop .k) (l .loop .inv) (omega arith) (waiting a false (c .if3 .left))
 
 pub check-log-spec : {M : Type 1} → statement M
@@ -246,13 +228,9 @@ check-log-spec =
     shared-slice-read-i
     cast-i
     slice-aggregate-ready
-    slice-aggregate-ready-2
-    slice-aggregate-ready-3
     ready-requires
     returns
     slice-aggregate-effective
-    slice-aggregate-effective-2
-    slice-aggregate-effective-3
     effective-requires
     slice-aggregate-above
     cast-above
@@ -268,8 +246,6 @@ check-log-spec =
     loop-less
     loop-again
     slice-aggregate-any-ready
-    slice-aggregate-any-ready-2
-    slice-aggregate-any-ready-3
     any-ready-requires
     returns-3
     returns-4)

@@ -20,7 +20,7 @@ use Rattle.unneeded.proofs.mark_uses.Tie as tie
 
 -- where the call began, from where the rows are there; and that from where the log is marked
 abbrev began : tie.After-fill-rows → tie.Start
-began c = c .before .before .before .before
+began c = c .before .before .before .before .before .before
 
 abbrev filled : tie.After-mark → tie.After-fill-rows
 filled c = c .before .before .before .before
@@ -31,6 +31,12 @@ set s = setIn (s .args .pool .now) (s .args .starts .now)
 -- the places are the set's
 below : (s : tie.Start) → AllBelow (length (set s .deltas)) (s .args .places .now)
 below s i k = omega (arith, length-map (s .args .starts .now) (messageFrom (s .args .pool .now)), log-inside (s .args .pool .now) (s .args .starts .now) (s .args .places .now) (s .pre) .inside i k)
+
+slice-aggregate-fill-rows : tie.Need-slice-aggregate-fill-rows
+slice-aggregate-fill-rows c = refl
+
+slice-aggregate-fill-rows-2 : tie.Need-slice-aggregate-fill-rows-2
+slice-aggregate-fill-rows-2 c = refl
 
 fill-rows-requires : tie.Need-fill-rows-requires
 fill-rows-requires c κs = search needs
@@ -69,14 +75,16 @@ returns c =
           ap (λ (m : List ℕ). isPlaced m i) (logged .mark .ensures) ∙ fresh-marked (a .places .now) i (small i h)
           ∙ logged-is (set s) (s .pre .holds) i h (a .places .now) (below s) (s .pre .log);
       needed = λ i h.
-          ap (λ (m : List ℕ). isPlaced m i) (needed .mark-needs .ensures) ∙ fresh-marked (join (map (rowIn (f .fill-rows .result .rows) (f .fill-rows .result .counts)) (a .places .now))) i (small i h)
-          ∙ needed-is (set s) (s .pre .holds) i h (f .fill-rows .result .rows) (f .fill-rows .result .counts) (f .fill-rows .ensures) (a .places .now) (below s) (s .pre .log);
+          ap (λ (m : List ℕ). isPlaced m i) (needed .mark-needs .ensures) ∙ fresh-marked (join (map (rowIn (f .fill-rows .last .0) (f .fill-rows .last .1 .0)) (a .places .now))) i (small i h)
+          ∙ needed-is (set s) (s .pre .holds) i h (f .fill-rows .last .0) (f .fill-rows .last .1 .0) (f .fill-rows .ensures) (a .places .now) (below s) (s .pre .log);
     }
 
 pub mark-uses-spec : {M : Type 1} → statement M
 mark-uses-spec =
     tie.close
     (tie.spec
+    slice-aggregate-fill-rows
+    slice-aggregate-fill-rows-2
     fill-rows-requires
     slice-aggregate-mark
     mark-requires

@@ -20,42 +20,38 @@ abbrev Idle : Bool → List ℕ → List ℕ → List ℕ → List ℕ → List 
 Idle settled pool starts rows counts placed = settled ≡ true → (i : ℕ) → i < length (deltasOf pool starts) → readyIn rows counts placed i ≡ false
 
 abbrev Inv-loop : tie.InvT-loop
-Inv-loop pool starts rows counts placed₀ blocks₀ order₀ count₀ settled₀ placed blocks order count settled =
+Inv-loop blocks₀ order₀ pool starts rows counts placed₀ count₀ settled₀ blocks order placed count settled =
     Closing (setIn pool starts) placed blocks order count × Idle settled pool starts rows counts placed
 
 abbrev μ-loop : tie.MeasureT-loop
-μ-loop pool starts rows counts placed₀ blocks₀ order₀ count₀ settled₀ placed blocks order count settled =
+μ-loop blocks₀ order₀ pool starts rows counts placed₀ count₀ settled₀ blocks order placed count settled =
     2 * (length starts - count) + cond settled 0 1
 
 -- where the loop is entered, and where a turn of it begins
 abbrev entry : tie.At-loop Inv-loop μ-loop → tie.Start Inv-loop μ-loop
-entry c = c .before .before .before .before .before
+entry c = c .before .before .before .before .before .before .before
 
-abbrev turn : tie.After-order Inv-loop μ-loop → tie.In-loop Inv-loop μ-loop
+abbrev turn : tie.After-pass-arg2 Inv-loop μ-loop → tie.In-loop Inv-loop μ-loop
 turn c = c .before .before .before
 
-abbrev passed : tie.After-order2 Inv-loop μ-loop → tie.After-pass Inv-loop μ-loop
-passed c = c .before .before .before
+abbrev passed : tie.After-slice-known4 Inv-loop μ-loop → tie.After-pass Inv-loop μ-loop
+passed c = c .before .before .before .before .before
 
 loop-holds : tie.Need-loop-holds Inv-loop μ-loop
 loop-holds c =
-    let s = c .before .before .before .before in
-    (closing-none (setIn (s .args .pool .now) (s .args .starts .now)) (s .pre .0), λ e. let z : _≡_ {A = ℕ} 0 1 = cc in absurd (let y : ⊥ = omega arith in y))
+    let s = c .before .before .before .before .before .before in (
+      closing-none (setIn (s .args .pool .now) (s .args .starts .now)) (s .pre .2) (s .args .blocks .now) (s .args .order .now) (s .pre .0) (s .pre .1),
+      λ e. let z : _≡_ {A = ℕ} 0 1 = cc in absurd (let y : ⊥ = omega arith in y),
+    )
 
 slice-aggregate-pass : tie.Need-slice-aggregate-pass Inv-loop μ-loop
 slice-aggregate-pass c = omega (arith, c .before .before .loop .inv .0 .placing .marks .size)
-
-slice-aggregate-pass-2 : tie.Need-slice-aggregate-pass-2 Inv-loop μ-loop
-slice-aggregate-pass-2 c = omega (arith, c .before .before .before .loop .inv .0 .effective .size)
-
-slice-aggregate-pass-3 : tie.Need-slice-aggregate-pass-3 Inv-loop μ-loop
-slice-aggregate-pass-3 c = omega (arith, turn c .before .loop .inv .0 .size)
 
 pass-requires : tie.Need-pass-requires Inv-loop μ-loop
 pass-requires c κs =
     let l = turn c .before in
     let s = entry l in
-    (s .pre .0, s .pre .1, l .loop .inv .0)
+    (s .pre .2, s .pre .3, l .loop .inv .0)
 
 -- a pass that settles nothing has placed one more
 fewer : (n count next : ℕ) (settled : Bool) → settled ≡ false → count ≤ next → next ≤ n → 2 * (n - next) + cond (eqb next count) 0 1 < 2 * (n - count) + cond settled 0 1
@@ -76,8 +72,14 @@ loop-less c =
 loop-again : tie.Need-loop-again Inv-loop μ-loop
 loop-again c = let a = passed c in (a .pass .ensures .closing, λ e. a .pass .ensures .idle (eqb-true _ _ e))
 
+same-length : tie.Need-same-length Inv-loop μ-loop
+same-length c = let l = c .before in omega (arith, l .loop .inv .0 .effective .size, entry l .pre .0)
+
+same-length-2 : tie.Need-same-length-2 Inv-loop μ-loop
+same-length-2 c = let l = c .before in omega (arith, l .loop .inv .0 .size, entry l .pre .1)
+
 returns : tie.Need-returns Inv-loop μ-loop
-returns c = let l = c .before in record { closing = l .loop .inv .0; idle = l .loop .inv .1 (not-false (l .loop .settled) (c .loop-test .left)) }
+returns c = let l = c .before in record { placed = l .loop .placed; closing = l .loop .inv .0; idle = l .loop .inv .1 (not-false (l .loop .settled) (c .loop-test .left)) }
 
 pub close-spec : {M : Type 1} → statement M
 close-spec =
@@ -87,9 +89,9 @@ close-spec =
     μ-loop
     loop-holds
     slice-aggregate-pass
-    slice-aggregate-pass-2
-    slice-aggregate-pass-3
     pass-requires
     loop-less
     loop-again
+    same-length
+    same-length-2
     returns)

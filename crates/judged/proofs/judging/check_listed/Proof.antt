@@ -16,15 +16,18 @@ starts-size s = search needs
 places-size : (s : tie.Start) → length (s .args .listed .places) ≡ capacity
 places-size s = search needs
 
--- where the call began, from where the keys are lent to be written; and where they were, from where they are lent again
+-- where the call began, from where the arrays are lent to be written; and where they were, from where they are lent again
 abbrev taken : tie.After-keys → tie.Start
-taken c = c .before .before .before .before .before
+taken c = c .before .before .before .before .before .before .before
 
-abbrev prepared : tie.After-keys3 → tie.After-prepare
+abbrev prepared : tie.After-keys2 → tie.After-prepare
 prepared c = c .before .before .before
 
 abbrev lent : tie.After-prepare → tie.After-keys
 lent c = c .before .before
+
+abbrev again : tie.After-keys3 → tie.After-keys2
+again c = c .before .before .before .before
 
 -- the log as it was read
 read : (s : tie.Start) → ReadsLog (s .args .b .now) (startsOf (s .args .listed .table)) (s .args .listed .logged) (s .args .listed .places)
@@ -37,36 +40,48 @@ own-starts s = let t = s .args .listed .table in sym (length-take-le (t .count) 
 slice-aggregate-prepare : tie.Need-slice-aggregate-prepare
 slice-aggregate-prepare c = refl
 
+slice-aggregate-prepare-2 : tie.Need-slice-aggregate-prepare-2
+slice-aggregate-prepare-2 c = refl
+
+slice-aggregate-prepare-3 : tie.Need-slice-aggregate-prepare-3
+slice-aggregate-prepare-3 c = refl
+
 array-share-prefix-starts : tie.Need-array-share-prefix-starts
 array-share-prefix-starts c = let s = taken c in omega (arith, starts-size s, s .pre .1 .fits)
 
-slice-aggregate-prepare-2 : tie.Need-slice-aggregate-prepare-2
-slice-aggregate-prepare-2 c = own-starts (taken (c .before))
+slice-aggregate-prepare-4 : tie.Need-slice-aggregate-prepare-4
+slice-aggregate-prepare-4 c = own-starts (taken (c .before))
 
 prepare-requires : tie.Need-prepare-requires
-prepare-requires c κs = (refl, taken (c .before) .pre .1 .holds)
+prepare-requires c κs = (refl, refl, refl, taken (c .before) .pre .1 .holds)
 
 array-share-prefix-starts-2 : tie.Need-array-share-prefix-starts-2
-array-share-prefix-starts-2 c = let s = taken (lent (c .before)) in omega (arith, starts-size s, s .pre .1 .fits)
+array-share-prefix-starts-2 c = let s = taken (lent (prepared c)) in omega (arith, starts-size s, s .pre .1 .fits)
 
 slice-aggregate-check-log : tie.Need-slice-aggregate-check-log
-slice-aggregate-check-log c = own-starts (taken (lent (c .before .before)))
+slice-aggregate-check-log c = own-starts (taken (lent (prepared (c .before))))
 
 slice-aggregate-check-log-2 : tie.Need-slice-aggregate-check-log-2
-slice-aggregate-check-log-2 c = omega (arith, prepared c .prepare .kept .0)
-
-array-share-prefix-places : tie.Need-array-share-prefix-places
-array-share-prefix-places c = let s = taken (lent (prepared c)) in omega (arith, places-size s, s .pre .2 .fits)
+slice-aggregate-check-log-2 c = omega (arith, prepared (c .before .before) .prepare .ensures .needs .size)
 
 slice-aggregate-check-log-3 : tie.Need-slice-aggregate-check-log-3
-slice-aggregate-check-log-3 c =
-    let s = taken (lent (prepared (c .before))) in
+slice-aggregate-check-log-3 c = omega (arith, prepared (c .before .before .before) .prepare .ensures .needs .counted)
+
+slice-aggregate-check-log-4 : tie.Need-slice-aggregate-check-log-4
+slice-aggregate-check-log-4 c = omega (arith, prepared (again c) .prepare .ensures .keyed .size)
+
+array-share-prefix-places : tie.Need-array-share-prefix-places
+array-share-prefix-places c = let s = taken (lent (prepared (again c))) in omega (arith, places-size s, s .pre .2 .fits)
+
+slice-aggregate-check-log-5 : tie.Need-slice-aggregate-check-log-5
+slice-aggregate-check-log-5 c =
+    let s = taken (lent (prepared (again (c .before)))) in
     let l = s .args .listed in
     sym (length-take-le (l .logged) (l .places) (omega (arith, places-size s, s .pre .2 .fits)))
 
 check-log-requires : tie.Need-check-log-requires
 check-log-requires c κs =
-    let p = prepared (c .before) in
+    let p = prepared (again (c .before)) in
     let s = taken (lent p) in
     let l = s .args .listed in (
       s .pre .1 .holds,
@@ -85,13 +100,17 @@ check-listed-spec =
     tie.close
     (tie.spec
     slice-aggregate-prepare
-    array-share-prefix-starts
     slice-aggregate-prepare-2
+    slice-aggregate-prepare-3
+    array-share-prefix-starts
+    slice-aggregate-prepare-4
     prepare-requires
     array-share-prefix-starts-2
     slice-aggregate-check-log
     slice-aggregate-check-log-2
-    array-share-prefix-places
     slice-aggregate-check-log-3
+    slice-aggregate-check-log-4
+    array-share-prefix-places
+    slice-aggregate-check-log-5
     check-log-requires
     returns)

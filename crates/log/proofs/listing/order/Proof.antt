@@ -21,10 +21,10 @@ use Rattle.log.proofs.listing.order.Statement.{statement}
 use Rattle.log.proofs.listing.order.Tie as tie
 
 abbrev Inv-loop : tie.InvT-loop
-Inv-loop pool starts keys rows counts used sorted placed₀ log₀ first₀ k₀ placed log first k = Growing (setIn pool starts) log₀ placed log k × Skips (take used sorted) placed 0 first
+Inv-loop pool starts rows counts keys used sorted placed₀ log₀ first₀ k₀ placed log first k = Growing (setIn pool starts) log₀ placed log k × Skips (take used sorted) placed 0 first
 
 abbrev μ-loop : tie.MeasureT-loop
-μ-loop pool starts keys rows counts used sorted placed₀ log₀ first₀ k₀ placed log first k = used - k
+μ-loop pool starts rows counts keys used sorted placed₀ log₀ first₀ k₀ placed log first k = used - k
 
 -- where the deltas are sorted, where the call began, and where a turn skips and looks
 abbrev sorting : tie.At-loop Inv-loop μ-loop → tie.After-sort-by-key Inv-loop μ-loop
@@ -40,7 +40,7 @@ abbrev turn : tie.After-skip-placed Inv-loop μ-loop → tie.In-loop Inv-loop μ
 turn c = c .before .before .before
 
 abbrev skipped : tie.After-first-ready Inv-loop μ-loop → tie.After-skip-placed Inv-loop μ-loop
-skipped c = c .before .before .before .before .before
+skipped c = c .before .before .before
 
 abbrev found : tie.After-known-told Inv-loop μ-loop → tie.After-found Inv-loop μ-loop
 found c = c .before
@@ -72,7 +72,7 @@ is-sorted c =
 small : (c : tie.After-sort-by-key Inv-loop μ-loop) (q : ℕ) → q < length (by-key c) → getD (by-key c) q 0 < length (setOf (begun c) .deltas)
 small c q h = is-sorted c .inside q (omega (arith, all c, size (begun c)))
 
-lookable : (c : tie.After-sort-by-key Inv-loop μ-loop) → Lookable (begun c .args .needed .rows) (begun c .args .needed .counts) (by-key c)
+lookable : (c : tie.After-sort-by-key Inv-loop μ-loop) → Lookable (begun c .args .rows .now) (begun c .args .counts .now) (by-key c)
 lookable c =
     let s = begun c in
     record {
@@ -88,7 +88,7 @@ comes-next : (c : tie.After-first-ready Inv-loop μ-loop) → let l = turn (skip
 comes-next c =
     let l = turn (skipped c) .before in
     let s = entry l in
-    next-right (setOf s) (s .pre .0) (s .args .needed .rows) (s .args .needed .counts) (s .args .keys .now) (by-key (sorting l)) (l .loop .placed) (s .pre .1 .needs) (s .pre .1 .keyed) (all (sorting l) ∙ size s) (is-sorted (sorting l))
+    next-right (setOf s) (s .pre .0) (s .args .rows .now) (s .args .counts .now) (s .args .keys .now) (by-key (sorting l)) (l .loop .placed) (s .pre .1 .needs) (s .pre .1 .keyed) (all (sorting l) ∙ size s) (is-sorted (sorting l))
     (skipped c .skip-placed .result) (passed (skipped c)) (c .first-ready .result) (c .first-ready .ensures)
 
 sort-by-key-requires : tie.Need-sort-by-key-requires Inv-loop μ-loop
@@ -114,23 +114,17 @@ slice-aggregate-skip-placed-2 c = omega (arith, c .before .before .before .loop 
 skip-placed-requires : tie.Need-skip-placed-requires Inv-loop μ-loop
 skip-placed-requires c κs = let l = c .before .before .before in (l .loop .inv .0 .grows .placing .marks .size, lookable (sorting l) .marked)
 
+array-share-prefix-sorted-2 : tie.Need-array-share-prefix-sorted-2 Inv-loop μ-loop
+array-share-prefix-sorted-2 c = let l = turn c .before in let s = entry l in omega (arith, sorted-size (sorting l), size s, s .pre .0 .fits)
+
 slice-aggregate-first-ready : tie.Need-slice-aggregate-first-ready Inv-loop μ-loop
-slice-aggregate-first-ready c = omega (arith, entry (turn (c .before) .before) .pre .1 .needs .size)
+slice-aggregate-first-ready c = sym (all (sorting (turn (c .before) .before)))
 
 slice-aggregate-first-ready-2 : tie.Need-slice-aggregate-first-ready-2 Inv-loop μ-loop
-slice-aggregate-first-ready-2 c = omega (arith, entry (turn (c .before .before) .before) .pre .1 .needs .counted)
-
-array-share-prefix-sorted-2 : tie.Need-array-share-prefix-sorted-2 Inv-loop μ-loop
-array-share-prefix-sorted-2 c = let l = turn (c .before .before) .before in let s = entry l in omega (arith, sorted-size (sorting l), size s, s .pre .0 .fits)
-
-slice-aggregate-first-ready-3 : tie.Need-slice-aggregate-first-ready-3 Inv-loop μ-loop
-slice-aggregate-first-ready-3 c = sym (all (sorting (turn (c .before .before .before) .before)))
-
-slice-aggregate-first-ready-4 : tie.Need-slice-aggregate-first-ready-4 Inv-loop μ-loop
-slice-aggregate-first-ready-4 c = omega (arith, turn (c .before .before .before .before) .before .loop .inv .0 .grows .placing .marks .size)
+slice-aggregate-first-ready-2 c = omega (arith, turn (c .before .before) .before .loop .inv .0 .grows .placing .marks .size)
 
 first-ready-requires : tie.Need-first-ready-requires Inv-loop μ-loop
-first-ready-requires c κs = let l = turn (c .before .before .before .before) .before in (lookable (sorting l), l .loop .inv .0 .grows .placing .marks .size)
+first-ready-requires c κs = let l = turn (c .before .before) .before in (lookable (sorting l), l .loop .inv .0 .grows .placing .marks .size)
 
 enum-known-found : tie.Need-enum-known-found Inv-loop μ-loop
 enum-known-found c = search needs
@@ -206,11 +200,9 @@ order-spec =
     slice-aggregate-skip-placed
     slice-aggregate-skip-placed-2
     skip-placed-requires
+    array-share-prefix-sorted-2
     slice-aggregate-first-ready
     slice-aggregate-first-ready-2
-    array-share-prefix-sorted-2
-    slice-aggregate-first-ready-3
-    slice-aggregate-first-ready-4
     first-ready-requires
     enum-known-found
     enum-told

@@ -24,25 +24,28 @@ abbrev row : List ℕ → List ℕ → ℕ → List ℕ
 row pool starts k = map (indexOf (sequencesOf (deltasOf pool starts))) (needsOf (getD (deltasOf pool starts) k []))
 
 abbrev Inv-loop : tie.InvT-loop
-Inv-loop pool starts high low used rows₀ counts₀ i₀ rows counts i =
+Inv-loop rows₀ counts₀ pool starts high low used i₀ rows counts i =
     (i ≤ used) × (length rows ≡ rowSize * capacity) × (length counts ≡ capacity) × ((k : ℕ) → k < i → RowIs rows counts k (row pool starts k))
 
 abbrev μ-loop : tie.MeasureT-loop
-μ-loop pool starts high low used rows₀ counts₀ i₀ rows counts i = used - i
+μ-loop rows₀ counts₀ pool starts high low used i₀ rows counts i = used - i
 
 -- the sequences that a turn looks in, and the start
 abbrev sequences : tie.At-loop Inv-loop μ-loop → tie.After-read-sequences Inv-loop μ-loop
 sequences a = a .before .before .before
 
 abbrev start : tie.At-loop Inv-loop μ-loop → tie.Start Inv-loop μ-loop
-start a = sequences a .before .before .before
+start a = sequences a .before .before .before .before .before .before .before
 
--- the turn of a loan of the rows, and the loan of a call that is done
-abbrev turn : tie.After-rows Inv-loop μ-loop → tie.At-loop Inv-loop μ-loop
+-- the turn of a loan of the rows; the call that is done, and its loan
+abbrev turn : tie.After-fill-row-arg Inv-loop μ-loop → tie.At-loop Inv-loop μ-loop
 turn c = c .before .before .before
 
-abbrev lent : tie.After-rows2 Inv-loop μ-loop → tie.After-rows Inv-loop μ-loop
-lent c = c .before .before .before .before
+abbrev called : tie.After-slice-known3 Inv-loop μ-loop → tie.After-fill-row Inv-loop μ-loop
+called c = c .before .before
+
+abbrev lent : tie.After-slice-known3 Inv-loop μ-loop → tie.After-fill-row-arg Inv-loop μ-loop
+lent c = called c .before .before .before
 
 abbrev deltas : tie.Start Inv-loop μ-loop → List Message
 deltas s = deltasOf (s .args .pool .now) (s .args .starts .now)
@@ -51,45 +54,50 @@ size : (s : tie.Start Inv-loop μ-loop) → length (s .args .starts .now) ≡ le
 size s = sym (length-map (s .args .starts .now) (messageFrom (s .args .pool .now)))
 
 few : (s : tie.Start Inv-loop μ-loop) → length (s .args .starts .now) ≤ capacity
-few s = omega (arith, size s, s .pre .fits)
+few s = omega (arith, size s, s .pre .2 .fits)
 
 searchable : (a : tie.At-loop Inv-loop μ-loop)
-    → Searchable (take (length (start a .args .starts .now)) (sequences a .read-sequences .result .high)) (take (length (start a .args .starts .now)) (sequences a .read-sequences .result .low))
+    → Searchable (take (length (start a .args .starts .now)) (sequences a .read-sequences .last .0)) (take (length (start a .args .starts .now)) (sequences a .read-sequences .last .1 .0))
 searchable a =
     let s = start a in
-    set-searchable (deltas s) (sequences a .read-sequences .result) (s .pre) (sequences a .read-sequences .ensures) (length (s .args .starts .now)) (size s)
+    set-searchable (deltas s) (sequences a .read-sequences .last .0) (sequences a .read-sequences .last .1 .0) (s .pre .2) (sequences a .read-sequences .ensures) (length (s .args .starts .now)) (size s)
 
 -- the message of a turn is its delta, which passes
-here : (c : tie.After-rows Inv-loop μ-loop) → now (c .before .message-at .result) ≡ getD (deltas (start (turn c))) (turn c .loop .i) []
+here : (c : tie.After-fill-row-arg Inv-loop μ-loop) → now (c .before .message-at .result) ≡ getD (deltas (start (turn c))) (turn c .loop .i) []
 here c = c .before .message-at .ensures
 
-pass : (c : tie.After-rows Inv-loop μ-loop) → T (passes (now (c .before .message-at .result)))
+pass : (c : tie.After-fill-row-arg Inv-loop μ-loop) → T (passes (now (c .before .message-at .result)))
 pass c =
     let s = start (turn c) in
     let m = getD (deltas s) (turn c .loop .i) [] in
-    subst (λ (b : Message). T (passes b)) (sym (here c)) (s .pre .pass m (getD-∈ (deltas s) (turn c .loop .i) [] (omega (arith, size s))))
+    subst (λ (b : Message). T (passes b)) (sym (here c)) (s .pre .2 .pass m (getD-∈ (deltas s) (turn c .loop .i) [] (omega (arith, size s))))
 
 -- what was written is the delta's row
-written : (c : tie.After-rows2 Inv-loop μ-loop)
-    → c .before .fill-row .last .0 ≡ paste (turn (lent c) .loop .rows) (rowSize * turn (lent c) .loop .i) (row (start (turn (lent c)) .args .pool .now) (start (turn (lent c)) .args .starts .now) (turn (lent c) .loop .i)) (c .before .fill-row .result)
+written : (c : tie.After-slice-known3 Inv-loop μ-loop)
+    → called c .fill-row .last .0 ≡ paste (turn (lent c) .loop .rows) (rowSize * turn (lent c) .loop .i) (row (start (turn (lent c)) .args .pool .now) (start (turn (lent c)) .args .starts .now) (turn (lent c) .loop .i)) (called c .fill-row .result)
 written c =
     let a = turn (lent c) in
     let s = start a in
-    let names = names-read (deltas s) (sequences a .read-sequences .result) (s .pre) (sequences a .read-sequences .ensures) (length (s .args .starts .now)) (size s) in
-    c .before .fill-row .ensures .row
-    ∙ ap₂ (λ (n : List ℕ) (m : Message). paste (a .loop .rows) (rowSize * a .loop .i) (map (indexOf n) (needsOf m)) (c .before .fill-row .result)) names (here (lent c))
+    let names = names-read (deltas s) (sequences a .read-sequences .last .0) (sequences a .read-sequences .last .1 .0) (s .pre .2) (sequences a .read-sequences .ensures) (length (s .args .starts .now)) (size s) in
+    called c .fill-row .ensures .row
+    ∙ ap₂ (λ (n : List ℕ) (m : Message). paste (a .loop .rows) (rowSize * a .loop .i) (map (indexOf n) (needsOf m)) (called c .fill-row .result)) names (here (lent c))
+
+slice-aggregate-read-sequences : tie.Need-slice-aggregate-read-sequences Inv-loop μ-loop
+slice-aggregate-read-sequences c = refl
+
+slice-aggregate-read-sequences-2 : tie.Need-slice-aggregate-read-sequences-2 Inv-loop μ-loop
+slice-aggregate-read-sequences-2 c = refl
 
 read-sequences-requires : tie.Need-read-sequences-requires Inv-loop μ-loop
-read-sequences-requires c κs = c .before .before .pre
+read-sequences-requires c κs = (refl, refl, c .before .before .before .before .before .before .pre .2)
 
 loop-holds : tie.Need-loop-holds Inv-loop μ-loop
-loop-holds c = (omega arith, refl, refl, λ k h. let z : ⊥ = omega arith in absurd z)
+loop-holds c =
+    let s = c .before .before .before .before .before .before .before .before .before in
+    (omega arith, s .pre .0, s .pre .1, λ k h. let z : ⊥ = omega arith in absurd z)
 
 message-at-requires : tie.Need-message-at-requires Inv-loop μ-loop
-message-at-requires c κs = (start (c .before) .pre, omega arith)
-
-slice-aggregate-fill-row : tie.Need-slice-aggregate-fill-row Inv-loop μ-loop
-slice-aggregate-fill-row c = sym (turn c .loop .inv .1)
+message-at-requires c κs = (start (c .before) .pre .2, omega arith)
 
 mul-fill-row : tie.Need-mul-fill-row Inv-loop μ-loop
 mul-fill-row c = omega (arith, few (start (turn c)))
@@ -97,18 +105,18 @@ mul-fill-row c = omega (arith, few (start (turn c)))
 array-share-prefix-high : tie.Need-array-share-prefix-high Inv-loop μ-loop
 array-share-prefix-high c = omega (arith, few (start (turn c)), sequences (turn c) .read-sequences .ensures .high-size)
 
-slice-aggregate-fill-row-2 : tie.Need-slice-aggregate-fill-row-2 Inv-loop μ-loop
-slice-aggregate-fill-row-2 c =
+slice-aggregate-fill-row : tie.Need-slice-aggregate-fill-row Inv-loop μ-loop
+slice-aggregate-fill-row c =
     let a = turn (c .before) in
-    sym (length-take-le (length (start a .args .starts .now)) (sequences a .read-sequences .result .high) (array-share-prefix-high (c .before)))
+    sym (length-take-le (length (start a .args .starts .now)) (sequences a .read-sequences .last .0) (array-share-prefix-high (c .before)))
 
 array-share-prefix-low : tie.Need-array-share-prefix-low Inv-loop μ-loop
 array-share-prefix-low c = omega (arith, few (start (turn (c .before))), sequences (turn (c .before)) .read-sequences .ensures .low-size)
 
-slice-aggregate-fill-row-3 : tie.Need-slice-aggregate-fill-row-3 Inv-loop μ-loop
-slice-aggregate-fill-row-3 c =
+slice-aggregate-fill-row-2 : tie.Need-slice-aggregate-fill-row-2 Inv-loop μ-loop
+slice-aggregate-fill-row-2 c =
     let a = turn (c .before .before) in
-    sym (length-take-le (length (start a .args .starts .now)) (sequences a .read-sequences .result .low) (array-share-prefix-low (c .before)))
+    sym (length-take-le (length (start a .args .starts .now)) (sequences a .read-sequences .last .1 .0) (array-share-prefix-low (c .before)))
 
 fill-row-requires : tie.Need-fill-row-requires Inv-loop μ-loop
 fill-row-requires c κs =
@@ -116,10 +124,10 @@ fill-row-requires c κs =
     (omega (arith, few (start (turn r)), turn r .loop .inv), pass r, searchable (turn r))
 
 cast-counts : tie.Need-cast-counts Inv-loop μ-loop
-cast-counts c = omega (arith, c .before .fill-row .ensures .short)
+cast-counts c = omega (arith, called c .fill-row .ensures .short)
 
-array-write-counts : tie.Need-array-write-counts Inv-loop μ-loop
-array-write-counts c = omega (arith, few (start (turn (lent c))))
+slice-write-counts : tie.Need-slice-write-counts Inv-loop μ-loop
+slice-write-counts c = omega (arith, few (start (turn (lent c))), turn (lent c) .loop .inv .2)
 
 add-i : tie.Need-add-i Inv-loop μ-loop
 add-i c = omega (arith, few (start (turn (lent c))))
@@ -132,18 +140,24 @@ loop-again c =
     let a = turn (lent c) in
     let s = start a in
     let l = a .loop in
-    let n = c .before .fill-row .result in
+    let n = called c .fill-row .result in
     let f = row (s .args .pool .now) (s .args .starts .now) in
     let long : n ≡ length (f (l .i)) =
-    c .before .fill-row .ensures .length-is ∙ ap (λ (m : Message). length (needsOf m)) (here (lent c))
+    called c .fill-row .ensures .length-is ∙ ap (λ (m : Message). length (needsOf m)) (here (lent c))
     ∙ sym (length-map (needsOf (getD (deltas s) (l .i) [])) (indexOf (sequencesOf (deltas s)))) in
     let room : rowSize * l .i + rowSize ≤ length (l .rows) = omega (arith, few s, l .inv) in (
       omega arith,
-      ap length (written c) ∙ length-paste (l .rows) (rowSize * l .i) (f (l .i)) n (omega (arith, c .before .fill-row .ensures .short)) (omega arith) ∙ l .inv .1,
+      ap length (written c) ∙ length-paste (l .rows) (rowSize * l .i) (f (l .i)) n (omega (arith, called c .fill-row .ensures .short)) (omega arith) ∙ l .inv .1,
       length-set (l .counts) (l .i) n ∙ l .inv .2,
       λ k h. subst (λ (x : List ℕ). RowIs x (set (l .counts) (l .i) n) k (f k)) (sym (written c))
-          (rows-more f (l .rows) (l .counts) (l .i) n room (omega (arith, few s)) long (c .before .fill-row .ensures .short) (l .inv .3) k h),
+          (rows-more f (l .rows) (l .counts) (l .i) n room (omega (arith, few s)) long (called c .fill-row .ensures .short) (l .inv .3) k h),
     )
+
+same-length : tie.Need-same-length Inv-loop μ-loop
+same-length c = let a = c .before in omega (arith, a .loop .inv .1, start a .pre .0)
+
+same-length-2 : tie.Need-same-length-2 Inv-loop μ-loop
+same-length-2 c = let a = c .before in omega (arith, a .loop .inv .2, start a .pre .1)
 
 returns : tie.Need-returns Inv-loop μ-loop
 returns c =
@@ -164,19 +178,22 @@ fill-rows-spec =
     (tie.spec
     Inv-loop
     μ-loop
+    slice-aggregate-read-sequences
+    slice-aggregate-read-sequences-2
     read-sequences-requires
     loop-holds
     message-at-requires
-    slice-aggregate-fill-row
     mul-fill-row
     array-share-prefix-high
-    slice-aggregate-fill-row-2
+    slice-aggregate-fill-row
     array-share-prefix-low
-    slice-aggregate-fill-row-3
+    slice-aggregate-fill-row-2
     fill-row-requires
     cast-counts
-    array-write-counts
+    slice-write-counts
     add-i
     loop-less
     loop-again
+    same-length
+    same-length-2
     returns)

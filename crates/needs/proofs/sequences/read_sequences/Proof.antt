@@ -1,6 +1,6 @@
 -- The parts that are read so far are those of the first messages' sequences.
 use Prim.Native.Nat.{ℕ, _-_, _≤_, _<_}
-use mathlib.Core.Path.{_≡_, refl, _∙_}
+use mathlib.Core.Path.{_≡_, _∙_}
 use lib.ListN.{length, getD, length-set, length-map}
 use native.Mathlib.Omega.{arith}
 use Rattle.model.specs.Layout.{capacity}
@@ -12,41 +12,41 @@ use Rattle.needs.proofs.sequences.read_sequences.Statement.{statement}
 use Rattle.needs.proofs.sequences.read_sequences.Tie as tie
 
 abbrev Inv-loop : tie.InvT-loop
-Inv-loop pool starts high₀ low₀ i₀ high low i =
+Inv-loop high₀ low₀ pool starts i₀ high low i =
     (i ≤ length starts) × (length high ≡ capacity) × (length low ≡ capacity)
     × ((k : ℕ) → k < i → nameOf (getD high k 0) (getD low k 0) ≡ sequenceIn pool starts k)
 
 abbrev μ-loop : tie.MeasureT-loop
-μ-loop pool starts high₀ low₀ i₀ high low i = length starts - i
+μ-loop high₀ low₀ pool starts i₀ high low i = length starts - i
 
 -- the start of a turn's call
 abbrev start : tie.At-loop Inv-loop μ-loop → tie.Start Inv-loop μ-loop
-start a = a .before .before .before
+start a = a .before .before .before .before .before
 
 size : (s : tie.Start Inv-loop μ-loop) → length (deltasOf (s .args .pool .now) (s .args .starts .now)) ≡ length (s .args .starts .now)
 size s = length-map (s .args .starts .now) (messageFrom (s .args .pool .now))
 
 -- a turn's index is one of the arrays
 inside : (t : tie.In-loop Inv-loop μ-loop) → t .before .loop .i < capacity
-inside t = omega (arith, size (start (t .before)), start (t .before) .pre .fits)
+inside t = omega (arith, size (start (t .before)), start (t .before) .pre .2 .fits)
 
 loop-holds : tie.Need-loop-holds Inv-loop μ-loop
-loop-holds c = (omega arith, refl, refl, λ k h. let z : ⊥ = omega arith in absurd z)
+loop-holds c = let s = c .before .before .before .before in (omega arith, s .pre .0, s .pre .1, λ k h. let z : ⊥ = omega arith in absurd z)
 
 sequence-at-requires : tie.Need-sequence-at-requires Inv-loop μ-loop
-sequence-at-requires c κs = (start (c .before) .pre, omega arith)
+sequence-at-requires c κs = (start (c .before) .pre .2, omega arith)
 
 mul-high : tie.Need-mul-high Inv-loop μ-loop
 mul-high c = omega (arith, inside (c .before))
 
-array-write-high : tie.Need-array-write-high Inv-loop μ-loop
-array-write-high c = inside (c .before)
+slice-write-high : tie.Need-slice-write-high Inv-loop μ-loop
+slice-write-high c = omega (arith, inside (c .before))
 
 mul-low : tie.Need-mul-low Inv-loop μ-loop
 mul-low c = omega (arith, inside (c .before))
 
-array-write-low : tie.Need-array-write-low Inv-loop μ-loop
-array-write-low c = inside (c .before)
+slice-write-low : tie.Need-slice-write-low Inv-loop μ-loop
+slice-write-low c = omega (arith, inside (c .before))
 
 add-i : tie.Need-add-i Inv-loop μ-loop
 add-i c = omega (arith, inside (c .before))
@@ -66,6 +66,12 @@ loop-again c =
       names-more (sequenceIn (s .args .pool .now) (s .args .starts .now)) (l .high) (l .low) (l .i) (r .high) (r .low) (omega (arith, inside (c .before))) (omega arith) (c .sequence-at .ensures) (l .inv .3),
     )
 
+same-length : tie.Need-same-length Inv-loop μ-loop
+same-length c = let l = c .before in omega (arith, l .loop .inv .1, start l .pre .0)
+
+same-length-2 : tie.Need-same-length-2 Inv-loop μ-loop
+same-length-2 c = let l = c .before in omega (arith, l .loop .inv .2, start l .pre .1)
+
 returns : tie.Need-returns Inv-loop μ-loop
 returns c =
     let s = start (c .before) in
@@ -74,7 +80,7 @@ returns c =
       high-size = l .inv .1;
       low-size = l .inv .2;
       names =
-          names-of-set (deltasOf (s .args .pool .now) (s .args .starts .now)) (l .high) (l .low) (omega (arith, s .pre .fits)) (omega arith)
+          names-of-set (deltasOf (s .args .pool .now) (s .args .starts .now)) (l .high) (l .low) (omega (arith, s .pre .2 .fits)) (omega arith)
           (λ k h. l .inv .3 k (omega (arith, size s)));
     }
 
@@ -87,10 +93,12 @@ read-sequences-spec =
     loop-holds
     sequence-at-requires
     mul-high
-    array-write-high
+    slice-write-high
     mul-low
-    array-write-low
+    slice-write-low
     add-i
     loop-less
     loop-again
+    same-length
+    same-length-2
     returns)
