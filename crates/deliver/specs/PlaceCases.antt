@@ -15,7 +15,7 @@ use Rattle.model.specs.Order.{State, add, find}
 use Rattle.model.specs.Image.{stateIn}
 use Rattle.model.specs.Codes.{wrongSize, smallSteps, present, conflicts, full}
 use Rattle.model.specs.Calls.{acceptedAnswer, deliver}
-use Rattle.parse.specs.ParsedLaws.{passes-code}
+use Rattle.parse.specs.VerdictLaws.{passes-code}
 use Rattle.table.specs.Table.{startsOf, messageFrom, setIn}
 use Rattle.table.specs.Places.{IsPresent, IsAbsent}
 use Rattle.table.specs.PlaceLaws.{delta-at}

@@ -44,16 +44,16 @@ fn read_priority(m: &[u8]) -> Priority
     Priority::Given { block, priority }
 }
 
-// The header of a message that has one.
+// The header of a message that has one. The priority, which branches, is read before the fields that can be read together.
 pub fn read_header(m: &[u8]) -> Header
     requires { ⌜ headerSize ≤ length (now m) ⌝ }
     ensures { λ r. ⌜ r ≡ headerOf (now (m .entry)) ⌝ }
 {
+    let priority = read_priority(m);
     let sequence = read_sequence(m, SEQUENCE_AT);
     let group = get_u32(m, GROUP_AT);
     let dependencies = byte(m, DEPENDENCY_COUNT_AT) as usize;
     let commands = byte(m, COMMAND_COUNT_AT) as usize;
-    let priority = read_priority(m);
     Header {
         sequence,
         group,

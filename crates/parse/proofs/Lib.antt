@@ -1,1 +1,2 @@
 pub mod ParsedTags
+pub mod VerdictTags

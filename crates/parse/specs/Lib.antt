@@ -1,4 +1,6 @@
 pub mod Content
 pub mod ContentLaws
+pub mod Verdict
+pub mod VerdictLaws
 pub mod Parsed
 pub mod ParsedLaws

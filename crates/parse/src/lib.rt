@@ -1,11 +1,9 @@
 // A message is checked, and its header handed back.
+pub mod checking;
 pub mod content;
 
-use crate::content::check_content;
-use message::checks::Check;
-use message::checks::check_layout;
-use message::dependencies::check_dependencies;
-use message::dependencies::check_numbers;
+use crate::checking::Verdict;
+use crate::checking::check_message;
 use message::header::Header;
 use message::header::read_header;
 ghost use Rattle.parse.specs.Parsed.{Parses};
@@ -19,25 +17,16 @@ pub enum Parsed {
     WrongContent,
 }
 
-// Checks any bytes in the order of the codes; each check's answer is opened by let else, which returns the refusal.
+// Checks any bytes, and reads the header of those that pass.
 pub fn parse(m: &[u8]) -> Parsed
     ensures { λ r. ⌜ Parses (now (m .entry)) r ⌝ }
 {
-    let layout = check_layout(m);
-    let Check::Right = layout else {
-        return Parsed::WrongLayout;
-    };
-    let numbers = check_numbers(m);
-    let Check::Right = numbers else {
-        return Parsed::WrongNumber;
-    };
-    let dependencies = check_dependencies(m);
-    let Check::Right = dependencies else {
-        return Parsed::WrongDependencies;
-    };
-    let content = check_content(m);
-    let Check::Right = content else {
-        return Parsed::WrongContent;
-    };
-    Parsed::Message(read_header(m))
+    let verdict = check_message(m);
+    match verdict {
+        Verdict::Passes => Parsed::Message(read_header(m)),
+        Verdict::WrongLayout => Parsed::WrongLayout,
+        Verdict::WrongNumber => Parsed::WrongNumber,
+        Verdict::WrongDependencies => Parsed::WrongDependencies,
+        Verdict::WrongContent => Parsed::WrongContent,
+    }
 }

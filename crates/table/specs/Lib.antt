@@ -8,6 +8,6 @@ pub mod Shifting
 pub mod ShiftingLaws
 pub mod PoolLaws
 pub mod Reading
-pub mod RefusalLaws
+pub mod SizeLaws
 pub mod ImageSetLaws
 pub mod ReadingLaws

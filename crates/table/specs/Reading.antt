@@ -1,6 +1,6 @@
 -- What reading an image's messages into a table answers.
 use mathlib.Core.Path.{_≡_}
-use mathlib.Core.Bool.{Bool, true, false}
+use mathlib.Core.Bool.{Bool, true, false, cond}
 use mathlib.Core.List.{List}
 use Prim.Native.Nat.{ℕ, _+_, _≤_}
 use lib.Dec.{T}
@@ -16,8 +16,6 @@ use Rattle.message.specs.declared.checks.Check.the-variants.{Right, Wrong}
 use Rattle.sequence.specs.declared.Sequence.{Sequence}
 use Rattle.sequence.specs.Sequence.{sequenceNumber}
 use Rattle.table.specs.declared.Table.{Table}
-use Rattle.table.specs.declared.reading.Cut.{Cut}
-use Rattle.table.specs.declared.reading.Cut.the-variants as cut
 use Rattle.table.specs.declared.reading.Reading.{Reading}
 use Rattle.table.specs.Table.{startsOf, messageFrom, deltasOf, setIn, Holds}
 
@@ -26,26 +24,22 @@ pub record IsMessage (b : List ℕ) (at : ℕ) (s : Sequence) : Type 0 where
   pub pass : T (passes (messageFrom b at))
   pub sequence : sequenceNumber s ≡ sequenceOf (messageFrom b at)
 
-abbrev pub Cuts : List ℕ → ℕ → Cut → Type 0
-Cuts b at (cut.Message s size) = IsMessage b at s × (size ≡ field b (at + lengthAt) 2)
-Cuts b at cut.Refused = passes (messageFrom b at) ≡ false
+-- its size, or 0 where nothing there passes 3 to 6
+abbrev pub sizeAt : List ℕ → ℕ → ℕ
+sizeAt b at = cond (passes (messageFrom b at)) (field b (at + lengthAt) 2) 0
 
--- ---- a message joins the table
-abbrev pub known : List ℕ → Table → ℕ → Bool
-known b t at = has (sequenceOf (messageFrom b at)) (sequencesOf (deltasOf b (startsOf t)))
+-- ---- a message's start joins the others
+abbrev pub known : List ℕ → List ℕ → ℕ → Bool
+known b starts at = has (sequenceOf (messageFrom b at)) (sequencesOf (deltasOf b starts))
 
-pub record IsTaken (b : List ℕ) (t : Table) (at : ℕ) (r : Table) : Type 0 where
-  pub new : known b t at ≡ false
-  pub holds : Holds b (startsOf r)
-  pub deltas : deltasOf b (startsOf r) ≡ insert (messageFrom b at) (deltasOf b (startsOf t))
-  pub count : r .count ≡ t .count + 1
+pub record IsTaken (b starts : List ℕ) (at : ℕ) (next : List ℕ) : Type 0 where
+  pub new : known b starts at ≡ false
+  pub holds : Holds b next
+  pub deltas : deltasOf b next ≡ insert (messageFrom b at) (deltasOf b starts)
 
-abbrev takenBy : List ℕ → Table → ℕ → Check → Table → Type 0
-takenBy b t at Right r = IsTaken b t at r
-takenBy b t at Wrong r = known b t at ≡ true
-
-abbrev pub TakesIn : List ℕ → Table → ℕ → Reading → Type 0
-TakesIn b t at r = takenBy b t at (r .check) (r .table)
+abbrev pub TakesIn : List ℕ → List ℕ → ℕ → Check → List ℕ → Type 0
+TakesIn b starts at Right next = IsTaken b starts at next
+TakesIn b starts at Wrong next = known b starts at ≡ true
 
 -- ---- all of an image's messages
 pub record IsTable (b : List ℕ) (t : Table) : Type 0 where

@@ -19,10 +19,9 @@ use Rattle.order.specs.TestLaws.{Same, false-of, true-T, has→∈, ∈→has}
 use Rattle.laws.specs.SetLaws.{insert-from, insert-keeps, insert-has, setOf-same}
 use Rattle.laws.specs.ImageLaws.{start-inside}
 use Rattle.message.specs.declared.checks.Check.{Check}
-use Rattle.message.specs.declared.checks.Check.the-variants.{Right, Wrong}
-use Rattle.table.specs.declared.Table.{Table}
+use Rattle.message.specs.declared.checks.Check.the-variants.{Wrong}
 use Rattle.table.specs.declared.reading.Reading.{Reading}
-use Rattle.table.specs.Reading.{known, IsTaken, TakesIn, ReadsTable}
+use Rattle.table.specs.Reading.{ReadsTable}
 use Rattle.table.specs.Table.{messageFrom, deltasOf, setIn, Holds}
 use Rattle.table.specs.TableLaws.{passes-lies}
 use Rattle.table.specs.ImageSetLaws.{image-messages, distinct-places, length-cut}
@@ -140,12 +139,6 @@ module _ (b : List ℕ) (i at : ℕ) (starts : List ℕ) (w : Walked b i at star
     }
 
 -- ---- the answers by their checks
-pub taken-right : (b : List ℕ) (t : Table) (at : ℕ) (r : Reading) → r .check ≡ Right → TakesIn b t at r → IsTaken b t at (r .table)
-taken-right b t at r e h = subst (λ (k : Check). TakesIn b t at (record { check = k; table = r .table })) e h
-
-pub taken-wrong : (b : List ℕ) (t : Table) (at : ℕ) (r : Reading) → r .check ≡ Wrong → TakesIn b t at r → known b t at ≡ true
-taken-wrong b t at r e h = subst (λ (k : Check). TakesIn b t at (record { check = k; table = r .table })) e h
-
 pub wrong-reads : (b : List ℕ) (r : Reading) → r .check ≡ Wrong → isImage b ≡ false → ReadsTable b r
 wrong-reads b r e h = subst (λ (k : Check). ReadsTable b (record { check = k; table = r .table })) (sym e) h
 

@@ -1,10 +1,12 @@
 // A set of deltas in a run of bytes, the pool: where each message starts, by ascending sequence.
 pub mod entry;
+pub mod inserting;
 pub mod places;
 pub mod reading;
 pub mod shifting;
 pub mod start;
 
+use crate::inserting::insert_start;
 use layout::CAPACITY;
 ghost use mathlib.Core.Path.{_≡_};
 ghost use mathlib.Core.List.{[]};
@@ -36,12 +38,7 @@ impl Table {
     {
         let count = self.count;
         let mut starts = self.starts;
-        let mut i = count;
-        while p < i {
-            starts[i] = starts[i - 1];
-            i -= 1;
-        }
-        starts[p] = at;
+        insert_start(&mut starts, count, p, at);
         Table {
             starts,
             count: count + 1,

@@ -1,4 +1,5 @@
 // Where the message of a sequence stands in a table, or where it would.
+use crate::entry::sequence_at;
 use layout::SEQUENCE_AT;
 use sequence::Sequence;
 use sequence::equal;
@@ -35,4 +36,20 @@ pub fn find(pool: &[u8], starts: &[u16], s: Sequence) -> Place
         }
     }
     Place::Absent(low)
+}
+
+// The same, for sequences that mostly come one above the other: the last message is looked at before all others.
+pub fn find_from_end(pool: &[u8], starts: &[u16], s: Sequence) -> Place
+    requires { ⌜ Holds (now pool) (now starts) ⌝ }
+    ensures { λ r. ⌜ Finds (now (pool .entry)) (now (starts .entry)) (sequenceNumber s) r ⌝ }
+{
+    let count = starts.len();
+    if count == 0 {
+        return Place::Absent(0);
+    }
+    let last = sequence_at(pool, starts, count - 1);
+    if less(last, s) {
+        return Place::Absent(count);
+    }
+    find(pool, starts, s)
 }

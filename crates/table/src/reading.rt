@@ -1,7 +1,8 @@
 // The table of an image's messages.
 use crate::Table;
+use crate::inserting::insert_start;
 use crate::places::Place;
-use crate::places::find;
+use crate::places::find_from_end;
 use crate::start::messages_start;
 use buffer::get_u16;
 use layout::CAPACITY;
@@ -9,23 +10,20 @@ use layout::HEADER_SIZE;
 use layout::HELD_COUNT_AT;
 use layout::LENGTH_AT;
 use layout::LOG_COUNT_AT;
+use layout::SEQUENCE_AT;
 use message::checks::Check;
-use parse::Parsed;
-use parse::parse;
+use parse::checking::Verdict;
+use parse::checking::check_message;
 use sequence::Sequence;
+use sequence::read_sequence;
 ghost use mathlib.Core.Path.{_≡_};
 ghost use Prim.Native.Nat.{_+_, _≤_, _<_};
-ghost use lib.ListN.{length};
+ghost use lib.ListN.{length, take};
 ghost use Rattle.model.specs.Layout.{capacity, imageSize, setpointsOffsetAt};
 ghost use Rattle.model.specs.Image.{logCount, heldCount};
-ghost use Rattle.table.specs.Table.{startsOf, Holds};
-ghost use Rattle.table.specs.Reading.{Cuts, IsMessage, TakesIn, ReadsTable};
-
-// What stands at a place: a message's sequence and length, or nothing that passes 3 to 6.
-enum Cut {
-    Message(Sequence, usize),
-    Refused,
-}
+ghost use Rattle.message.specs.declared.checks.Check.the-variants.{Wrong};
+ghost use Rattle.table.specs.Table.{Holds};
+ghost use Rattle.table.specs.Reading.{sizeAt, IsMessage, TakesIn, ReadsTable};
 
 // Whether an image's messages were read, and their table.
 pub struct Reading {
@@ -43,46 +41,47 @@ fn count_messages(b: &[u8]) -> usize
     log + held
 }
 
-// The message that starts at a place, cut by its length field and checked.
-fn read_message(b: &[u8], at: usize) -> Cut
+// The size of the message that starts at a place, cut by its length field and checked; 0 where nothing there passes 3 to 6.
+fn read_message(b: &[u8], at: usize) -> usize
     requires { ⌜ at ≤ length (now b) ⌝ }
-    ensures { λ r. ⌜ Cuts (now (b .entry)) at r ⌝ }
+    ensures { λ r. ⌜ r ≡ sizeAt (now (b .entry)) at ⌝ }
 {
     let left = b.len() - at;
     if left < HEADER_SIZE {
-        return Cut::Refused;
+        return 0;
     }
     let size = get_u16(b, at + LENGTH_AT) as usize;
     if left < size {
-        return Cut::Refused;
+        return 0;
     }
     let end = at + size;
-    let parsed = parse(&b[at..end]);
-    let Parsed::Message(h) = parsed else {
-        return Cut::Refused;
+    let verdict = check_message(&b[at..end]);
+    let Verdict::Passes = verdict else {
+        return 0;
     };
-    let sequence = h.sequence;
-    Cut::Message(sequence, size)
+    size
 }
 
-// The table with a message more; refused where its sequence is there already.
-fn take_in(b: &[u8], table: Table, at: u16, s: Sequence) -> Reading
-    requires { ⌜ (Holds (now b) (startsOf table)) × (table .count < capacity) × IsMessage (now b) at s ⌝ }
-    ensures { λ r. ⌜ TakesIn (now (b .entry)) table at r ⌝ }
+// Puts a message's start in among the first count, by its sequence; refused where that is there already.
+fn take_in(b: &[u8], starts: &mut [u16], count: usize, at: u16, s: Sequence) -> Check
+    requires { ⌜ (length (now starts) ≡ capacity) × (count < capacity) × Holds (now b) (take count (now starts)) × IsMessage (now b) at s ⌝ }
+    ensures { λ r. ⌜ TakesIn (now (b .entry)) (take count (now (starts .entry))) at r (take (count + 1) (now (starts .exit))) ⌝ }
 {
-    let count = table.count;
-    let starts = table.starts;
-    let place = find(b, &starts[..count], s);
+    let place = find_from_end(b, &starts[..count], s);
     let Place::Absent(p) = place else {
-        return Reading {
-            check: Check::Wrong,
-            table,
-        };
+        return Check::Wrong;
     };
-    let next = table.insert(p, at);
+    insert_start(starts, count, p, at);
+    Check::Right
+}
+
+// No image can hold the messages: there is no table.
+fn refuse() -> Reading
+    ensures { λ r. ⌜ r .check ≡ Wrong ⌝ }
+{
     Reading {
-        check: Check::Right,
-        table: next,
+        check: Check::Wrong,
+        table: Table::new(),
     }
 }
 
@@ -92,35 +91,27 @@ pub fn read_table(b: &[u8]) -> Reading
     ensures { λ r. ⌜ ReadsTable (now (b .entry)) r ⌝ }
 {
     let total = count_messages(b);
-    let mut table = Table::new();
     if CAPACITY < total {
-        return Reading {
-            check: Check::Wrong,
-            table,
-        };
+        return refuse();
     }
+    let mut starts = [0u16; CAPACITY];
+    let mut count = 0;
     let mut at = messages_start();
-    let mut i = 0;
-    while i < total {
-        let cut = read_message(b, at);
-        let Cut::Message(s, size) = cut else {
-            return Reading {
-                check: Check::Wrong,
-                table,
-            };
-        };
-        let taken = take_in(b, table, at as u16, s);
-        let check = taken.check;
+    while count < total {
+        let size = read_message(b, at);
+        if size == 0 {
+            return refuse();
+        }
+        let s = read_sequence(b, at + SEQUENCE_AT);
+        let check = take_in(b, &mut starts, count, at as u16, s);
         let Check::Right = check else {
-            return taken;
+            return refuse();
         };
-        let next = taken.table;
-        table = next;
         at += size;
-        i += 1;
+        count += 1;
     }
     Reading {
         check: Check::Right,
-        table,
+        table: Table { starts, count },
     }
 }

@@ -1,54 +1,39 @@
--- Each check that is failed is the lowest, for those before it were passed; where all are passed the header is read.
+-- The code is the verdict's; where it is 0, the message has a header, which is read.
 use native.Mathlib.Omega.{arith}
 use mathlib.Core.Path.{_≡_, sym, _∙_, ap}
-use mathlib.Core.Bool.{true}
-use Rattle.model.specs.Message.{Message, layoutRight, numbersRight, dependenciesRight, contentRight}
-use Rattle.message.specs.Check.{right}
-use Rattle.parse.specs.ParsedLaws.{sized, wrong-layout, wrong-number, wrong-dependencies, wrong-content, all-right}
+use Rattle.model.specs.Message.{Message}
+use Rattle.model.specs.Codes.{lowestCode, messageConditions}
+use Rattle.wire_laws.specs.MessageLaws.{passes-sized}
+use Rattle.parse.specs.declared.checking.Verdict.{Verdict}
+use Rattle.parse.specs.declared.Parsed.the-variants as parsed
+use Rattle.parse.specs.Verdict.{verdictCode}
+use Rattle.parse.specs.VerdictLaws.{code-passes}
+use Rattle.parse.specs.ParsedLaws.{refused, with-header}
 use borrow.Author.Needs.{needs}
 use Rattle.parse.proofs.parse.Statement.{statement}
 use Rattle.parse.proofs.parse.Tie as tie
 
--- ---- what was passed, from one check back to the one before
-abbrev bytes : tie.After-enum-told → Message
-bytes c = c .before .before .before .before .args .m .now
+abbrev bytes : tie.After-check-message → Message
+bytes c = c .before .before .args .m .now
 
-abbrev laid : tie.After-enum-told3 → tie.After-enum-told
-laid c = c .before .before .before
+-- the code of the verdict that was given
+code : (c : tie.After-check-message) {v : Verdict} → c .check-message .result ≡ v → verdictCode v ≡ lowestCode (messageConditions (bytes c))
+code c e = sym (ap verdictCode e) ∙ c .check-message .ensures
 
-abbrev numbered : tie.After-enum-told5 → tie.After-enum-told3
-numbered c = c .before .before .before
-
-abbrev ordered : tie.After-enum-told7 → tie.After-enum-told5
-ordered c = c .before .before .before
-
-layout-right : (c : tie.After-enum-told) → true ≡ layoutRight (bytes c)
-layout-right c = sym (ap right (c .enum-told .given .1)) ∙ c .before .before .check-layout .ensures
-
-numbers-right : (c : tie.After-enum-told3) → true ≡ numbersRight (bytes (laid c))
-numbers-right c = sym (ap right (c .enum-told3 .given .1)) ∙ c .before .before .check-numbers .ensures
-
-dependencies-right : (c : tie.After-enum-told5) → true ≡ dependenciesRight (bytes (laid (numbered c)))
-dependencies-right c = sym (ap right (c .enum-told5 .given .1)) ∙ c .before .before .check-dependencies .ensures
-
-content-right : (c : tie.After-enum-told7) → true ≡ contentRight (bytes (laid (numbered (ordered c))))
-content-right c = sym (ap right (c .enum-told7 .given .1)) ∙ c .before .before .check-content .ensures
-
--- ---- the needs
-check-layout-requires : tie.Need-check-layout-requires
-check-layout-requires c κs = search needs
+check-message-requires : tie.Need-check-message-requires
+check-message-requires c κs = search needs
 
 enum-told : tie.Need-enum-told
 enum-told c = search needs
 
+read-header-requires : tie.Need-read-header-requires
+read-header-requires c κs =
+    let checked = c .before .before in
+    let s = passes-sized (bytes checked) (code-passes (bytes checked) (code checked (c .enum-told .given .1))) in
+    omega arith
+
 enum-told-2 : tie.Need-enum-told-2
 enum-told-2 c = search needs
-
-returns : tie.Need-returns
-returns c = let checked = c .before .before in wrong-layout (sym (ap right (c .enum-told2 .given .1)) ∙ checked .check-layout .ensures)
-
-check-numbers-requires : tie.Need-check-numbers-requires
-check-numbers-requires c κs = let s = sized (layout-right c) in omega arith
 
 enum-told-3 : tie.Need-enum-told-3
 enum-told-3 c = search needs
@@ -56,71 +41,37 @@ enum-told-3 c = search needs
 enum-told-4 : tie.Need-enum-told-4
 enum-told-4 c = search needs
 
-returns-2 : tie.Need-returns-2
-returns-2 c =
-    let checked = c .before .before in
-    wrong-number (layout-right (checked .before)) (sym (ap right (c .enum-told4 .given .1)) ∙ checked .check-numbers .ensures)
-
-check-dependencies-requires : tie.Need-check-dependencies-requires
-check-dependencies-requires c κs = let s = sized (layout-right (laid c)) in omega arith
-
 enum-told-5 : tie.Need-enum-told-5
 enum-told-5 c = search needs
 
-enum-told-6 : tie.Need-enum-told-6
-enum-told-6 c = search needs
+returns : tie.Need-returns
+returns c = with-header (c .read-header .result) (c .read-header .ensures) (code (c .before .before .before) (c .before .enum-told .given .1))
+
+returns-2 : tie.Need-returns-2
+returns-2 c = refused parsed.WrongLayout (λ z. omega arith) (code (c .before .before) (c .enum-told2 .given .1))
 
 returns-3 : tie.Need-returns-3
-returns-3 c =
-    let checked = c .before .before in
-    let n = checked .before in
-    wrong-dependencies (layout-right (laid n)) (numbers-right n) (sym (ap right (c .enum-told6 .given .1)) ∙ checked .check-dependencies .ensures)
-
-check-content-requires : tie.Need-check-content-requires
-check-content-requires c κs = sized (layout-right (laid (numbered c))) .total
-
-enum-told-7 : tie.Need-enum-told-7
-enum-told-7 c = search needs
-
-enum-told-8 : tie.Need-enum-told-8
-enum-told-8 c = search needs
+returns-3 c = refused parsed.WrongNumber (λ z. omega arith) (code (c .before .before) (c .enum-told3 .given .1))
 
 returns-4 : tie.Need-returns-4
-returns-4 c =
-    let checked = c .before .before in
-    let d = checked .before in
-    let n = numbered d in
-    wrong-content (layout-right (laid n)) (numbers-right n) (dependencies-right d) (sym (ap right (c .enum-told8 .given .1)) ∙ checked .check-content .ensures)
-
-read-header-requires : tie.Need-read-header-requires
-read-header-requires c κs = let s = sized (layout-right (laid (numbered (ordered c)))) in omega arith
+returns-4 c = refused parsed.WrongDependencies (λ z. omega arith) (code (c .before .before) (c .enum-told4 .given .1))
 
 returns-5 : tie.Need-returns-5
-returns-5 c =
-    let f = c .before in
-    let d = ordered f in
-    let n = numbered d in
-    all-right (layout-right (laid n)) (numbers-right n) (dependencies-right d) (content-right f) (c .read-header .result) (c .read-header .ensures)
+returns-5 c = refused parsed.WrongContent (λ z. omega arith) (code (c .before .before) (c .enum-told5 .given .1))
 
 pub parse-spec : {M : Type 1} → statement M
 parse-spec =
     tie.close
     (tie.spec
-    check-layout-requires
+    check-message-requires
     enum-told
+    read-header-requires
     enum-told-2
-    returns
-    check-numbers-requires
     enum-told-3
     enum-told-4
-    returns-2
-    check-dependencies-requires
     enum-told-5
-    enum-told-6
+    returns
+    returns-2
     returns-3
-    check-content-requires
-    enum-told-7
-    enum-told-8
     returns-4
-    read-header-requires
     returns-5)

@@ -10,8 +10,11 @@ use Rattle.message.proofs.header.read_header.Statement.{statement}
 use Rattle.message.proofs.header.read_header.Tie as tie
 
 -- the sequence read is that of its number
-own-is : (c : tie.After-read-sequence) → c .read-sequence .result ≡ sequenceFrom (sequenceOf (c .before .before .args .m .now))
+own-is : (c : tie.After-read-sequence) → c .read-sequence .result ≡ sequenceFrom (sequenceOf (c .before .before .before .args .m .now))
 own-is c = from-number (c .read-sequence .result) _ (omega arith) (c .read-sequence .ensures)
+
+read-priority-requires : tie.Need-read-priority-requires
+read-priority-requires c κs = search needs
 
 read-sequence-requires : tie.Need-read-sequence-requires
 read-sequence-requires c κs = search needs
@@ -31,25 +34,22 @@ byte-requires-2 c κs = search needs
 cast-commands : tie.Need-cast-commands
 cast-commands c = search needs
 
-read-priority-requires : tie.Need-read-priority-requires
-read-priority-requires c κs = search needs
-
 returns : tie.Need-returns
 returns c =
-    let commands = c .before in
-    let dependencies = commands .before in
+    let dependencies = c .before in
     let group = dependencies .before in
-    header-is _ (own-is (group .before)) (group .get-u32 .ensures) (dependencies .byte .ensures .0) (commands .byte2 .ensures .0) (c .read-priority .ensures)
+    let sequence = group .before in
+    header-is _ (own-is sequence) (group .get-u32 .ensures) (dependencies .byte .ensures .0) (c .byte2 .ensures .0) (sequence .before .read-priority .ensures)
 
 pub read-header-spec : {M : Type 1} → statement M
 read-header-spec =
     tie.close
     (tie.spec
+    read-priority-requires
     read-sequence-requires
     get-u32-requires
     byte-requires
     cast-dependencies
     byte-requires-2
     cast-commands
-    read-priority-requires
     returns)
