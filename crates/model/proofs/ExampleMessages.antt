@@ -1,7 +1,7 @@
 -- The deltas of the examples, and the buffers that their calls are given.
 use mathlib.Core.Bool.{true, false}
 use mathlib.Core.List.{List, [], _∷_, _++_}
-use Prim.Native.Nat.{ℕ, _+_, _*_, _^_}
+use Prim.Native.Nat.{ℕ, zero, suc, _+_, _*_, _-_, _^_}
 use lib.ListN.{replicate}
 use lib.IntN.{ℤ, pos, negsuc}
 use Rattle.model.specs.Bytes.{bytes, word}
@@ -25,6 +25,10 @@ C n = lineNumber 0xC * 65536 + n
 
 abbrev pub command : ℕ → ℕ → ℤ → List ℕ
 command operation tag v = operation ∷ tag ∷ 0 ∷ 0 ∷ bytes 4 (word v)
+
+-- commands that are right
+abbrev pub right : List ℕ
+right = command 1 3 (pos 5)
 
 -- "Group 1 and no dependency unless said."
 abbrev pub plain : ℕ → List ℕ → List ℕ → Message
@@ -67,6 +71,15 @@ a1-naming-b1 = plain (A 1) (B 1 ∷ []) (command 1 3 (pos 1500))
 
 abbrev pub b1-naming-a1 : Message
 b1-naming-a1 = plain (B 1) (A 1 ∷ []) (command 2 3 (negsuc 19))
+
+-- "A1 twice, values 1 and 2"
+abbrev pub a1-value : ℕ → Message
+a1-value v = plain (A 1) [] (command 1 3 (pos v))
+
+-- deltas of this number, each of a line of its own: of number 1 "lone lines", of number 2 held, since the predecessor is missing
+abbrev pub lines : ℕ → ℕ → List Message
+lines number zero = []
+lines number (suc n) = plain (lineNumber (100 - n) * 65536 + number) [] right ∷ lines number n
 
 -- ---- a step buffer as lent, and the image that empty writes
 abbrev pub stepBuffer : List ℕ

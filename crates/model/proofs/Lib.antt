@@ -1,5 +1,13 @@
 pub mod ExampleMessages
-pub mod Examples
-pub mod CodeExamples
-pub mod CodeLists
+pub mod MessageExamples
 pub mod GroundExamples
+pub mod StationExamples
+pub mod SetpointExamples
+pub mod ImageExamples
+pub mod WholeImageExamples
+pub mod StepExamples
+pub mod ComposeExamples
+pub mod CodeLists
+pub mod ConditionExamples
+pub mod AnswerExamples
+pub mod ProgramExamples

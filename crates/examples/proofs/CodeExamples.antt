@@ -7,32 +7,18 @@ use mathlib.Core.List.{List, [], _∷_, _++_, map}
 use Prim.Native.Nat.{ℕ, zero, suc, _+_, _*_, _-_}
 use lib.ListN.{take, drop, replicate}
 use lib.IntN.{ℤ, pos}
 use Rattle.model.specs.Lists.{same}
 use Rattle.model.specs.Bytes.{bytes}
 use Rattle.model.specs.Layout.{imageSize, stepSize, stepRoom, messageRoom, lineSize, fieldLimit}
 use Rattle.model.specs.Message.{Message, layoutRight, numbersRight, dependenciesRight, contentRight, commandRight, passes}
 use Rattle.model.specs.Order.{stateOf, needs, executablesOf, logOf, heldOf}
 use Rattle.model.specs.Setpoints.{startValues, stop, raise, operate, changeOf, apply, runCommand, runDelta, setpointsOf}
 use Rattle.model.specs.Image.{messagesStart, messagesOf, valuesOf, headerOf, sectionsOf, usedOf, imageOf, messagesStartIn, setOf, isImage}
 use Rattle.model.specs.Steps.{Step, undo, execute, readSteps}
 use Rattle.model.specs.Compose.{messageOf, newDependencies, composed}
 use Rattle.model.specs.Calls.{emptyState, Emptied, empty, Delivered, deliver, deliverCode, Composed, compose, composeCode, logMessage, logMessageCode, Setpoint, setpoint, Reader, start, next}
 use Rattle.model.specs.Program.{printedLine, lastLine, badCut, linesFrom, listing}
-use Rattle.model.proofs.ExampleMessages.{lineNumber, A, B, C, command, plain, urgent, a1, a2, b1, c2, b1-5}
-
--- ---- the deltas, beside those of the starred examples
--- "A1 twice, values 1 and 2"
-abbrev a1-value : ℕ → Message
-a1-value v = plain (A 1) [] (command 1 3 (pos v))
-
--- commands that are right
-abbrev right : List ℕ
-right = command 1 3 (pos 5)
-
--- deltas of this number, each of a line of its own: of number 1 "lone lines", of number 2 held, since the predecessor is missing
-abbrev lines : ℕ → ℕ → List Message
-lines number zero = []
-lines number (suc n) = plain (lineNumber (100 - n) * 65536 + number) [] right ∷ lines number n
+use Rattle.model.proofs.ExampleMessages.{lineNumber, A, B, C, command, plain, urgent, right, a1, a2, b1, c2, b1-5, a1-value, lines}
 
 -- ---- a buffer that is lent as an image
 data Buffer : Type 0 where

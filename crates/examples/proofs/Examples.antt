@@ -113,8 +113,3 @@ examples =
 examples-hold : map (λ e. outcomeOf (e .0)) examples ≡ map (λ e. e .1) examples
 unfolding examples empty deliver deliverCode compose composeCode setpoint composed newDependencies isImage imageOf usedOf sectionsOf headerOf valuesOf messagesOf messagesStart messagesStartIn setpointsOf startValues logOf heldOf executablesOf needs runDelta runCommand apply changeOf operate raise stop passes layoutRight numbersRight dependenciesRight contentRight commandRight
 examples-hold = refl
-
--- A change: 20 more on 999990 at tag 1, of which 10 are left by the stop.
-change-holds : changeOf (command 2 1 (pos 20)) (pos 5 ∷ pos 999990 ∷ []) ≡ record { tag = 1; before = pos 999990; after = pos 1000000 }
-unfolding changeOf operate stop
-change-holds = refl

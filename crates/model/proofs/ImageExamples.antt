@@ -1,0 +1,77 @@
+-- The station image: the header, the values and the messages of a state, and the messages read back from the bytes used.
+use mathlib.Core.Path.{_≡_, refl}
+use mathlib.Core.List.{List, [], _∷_, _++_, map}
+use Prim.Native.Nat.{ℕ}
+use lib.ListN.{take, drop}
+use Rattle.model.specs.Message.{Message}
+use Rattle.model.specs.Order.{State, stateOf, needs, executablesOf, logOf, heldOf}
+use Rattle.model.specs.Setpoints.{startValues, stop, raise, operate, changeOf, apply, runCommand, runDelta, setpointsOf}
+use Rattle.model.specs.Image.{messagesStart, messagesOf, valuesOf, headerOf, sectionsOf, usedOf, messagesStartIn, logIn, messagesIn, setOf}
+use Rattle.model.proofs.ExampleMessages.{a1, a2, b1, c2, b1-5, c1-7, a1-naming-b1, b1-naming-a1}
+
+abbrev holding : List Message → State
+holding l = stateOf (setOf l)
+
+-- ---- "log count L, held count H, offset of setpoints 16, offset of messages 272, bytes used, zero"
+headers : List (List Message × List ℕ)
+headers =
+    -- No deltas: L 0, H 0, used 272.
+    ([], 0 ∷ 0 ∷ 0 ∷ 0 ∷ 0 ∷ 16 ∷ 0x01 ∷ 0x10 ∷ 0x01 ∷ 0x10 ∷ 0 ∷ 0 ∷ 0 ∷ 0 ∷ 0 ∷ 0 ∷ [])
+    -- A1: L 1, used 320.
+    ∷ (a1 ∷ [], 0 ∷ 1 ∷ 0 ∷ 0 ∷ 0 ∷ 16 ∷ 0x01 ∷ 0x10 ∷ 0x01 ∷ 0x40 ∷ 0 ∷ 0 ∷ 0 ∷ 0 ∷ 0 ∷ 0 ∷ [])
+    -- A1 and B1 each naming the other: L 0, H 2, used 392.
+    ∷ (b1-naming-a1 ∷ a1-naming-b1 ∷ [], 0 ∷ 0 ∷ 0 ∷ 2 ∷ 0 ∷ 16 ∷ 0x01 ∷ 0x10 ∷ 0x01 ∷ 0x88 ∷ 0 ∷ 0 ∷ 0 ∷ 0 ∷ 0 ∷ 0 ∷ [])
+    -- A1, B1 and C2: L 2, H 1, used 416.
+    ∷ (a1 ∷ b1 ∷ c2 ∷ [], 0 ∷ 2 ∷ 0 ∷ 1 ∷ 0 ∷ 16 ∷ 0x01 ∷ 0x10 ∷ 0x01 ∷ 0xA0 ∷ 0 ∷ 0 ∷ 0 ∷ 0 ∷ 0 ∷ 0 ∷ [])
+    ∷ []
+
+headers-hold : map (λ e. take 16 (usedOf (holding (e .0)))) headers ≡ map (λ e. e .1) headers
+unfolding headers usedOf sectionsOf headerOf valuesOf messagesOf messagesStart logOf heldOf executablesOf needs
+headers-hold = refl
+
+-- ---- "Then 64 values of four bytes, as the log leaves them": tags 2 to 4
+values : List (List Message × List ℕ)
+values =
+    ([], 0 ∷ 0 ∷ 0 ∷ 0 ∷ 0 ∷ 0 ∷ 0 ∷ 0 ∷ 0 ∷ 0 ∷ 0 ∷ 0 ∷ [])
+    -- 1500
+    ∷ (a1 ∷ [], 0 ∷ 0 ∷ 0 ∷ 0 ∷ 0x00 ∷ 0x00 ∷ 0x05 ∷ 0xDC ∷ 0 ∷ 0 ∷ 0 ∷ 0 ∷ [])
+    -- -20
+    ∷ (b1 ∷ [], 0 ∷ 0 ∷ 0 ∷ 0 ∷ 0xFF ∷ 0xFF ∷ 0xFF ∷ 0xEC ∷ 0 ∷ 0 ∷ 0 ∷ 0 ∷ [])
+    -- 1480, and 20 at tag 4
+    ∷ (a1 ∷ b1 ∷ c1-7 ∷ [], 0 ∷ 0 ∷ 0 ∷ 0 ∷ 0x00 ∷ 0x00 ∷ 0x05 ∷ 0xC8 ∷ 0x00 ∷ 0x00 ∷ 0x00 ∷ 0x14 ∷ [])
+    ∷ []
+
+values-hold : map (λ e. take 12 (drop 24 (usedOf (holding (e .0))))) values ≡ map (λ e. e .1) values
+unfolding values usedOf sectionsOf headerOf valuesOf messagesOf messagesStart setpointsOf startValues runDelta runCommand apply changeOf operate raise stop logOf heldOf executablesOf needs
+values-hold = refl
+
+-- ---- "Then the log's messages in order, the held ones by ascending sequence"
+messages : List (List Message × List ℕ)
+messages =
+    ([], [])
+    ∷ (b1-5 ∷ c1-7 ∷ a1 ∷ [], a1 ++ c1-7 ++ b1-5)
+    -- A2 is held, and stands behind the log
+    ∷ (a2 ∷ b1 ∷ [], b1 ++ a2)
+    ∷ (c2 ∷ a2 ∷ b1 ∷ [], b1 ++ a2 ++ c2)
+    ∷ (b1-naming-a1 ∷ a1-naming-b1 ∷ [], a1-naming-b1 ++ b1-naming-a1)
+    ∷ []
+
+messages-hold : map (λ e. drop 272 (usedOf (holding (e .0)))) messages ≡ map (λ e. e .1) messages
+unfolding messages usedOf sectionsOf headerOf valuesOf messagesOf messagesStart setpointsOf startValues runDelta runCommand apply changeOf operate raise stop logOf heldOf executablesOf needs
+messages-hold = refl
+
+-- ---- read back from the bytes used: the log, and all messages
+readBack : List (List Message × (List Message × List Message))
+readBack =
+    ([], ([], []))
+    ∷ (b1 ∷ a1 ∷ [], (a1 ∷ b1 ∷ [], a1 ∷ b1 ∷ []))
+    ∷ (a2 ∷ b1 ∷ [], (b1 ∷ [], b1 ∷ a2 ∷ []))
+    ∷ (b1-naming-a1 ∷ a1-naming-b1 ∷ [], ([], a1-naming-b1 ∷ b1-naming-a1 ∷ []))
+    ∷ []
+
+abbrev readFrom : List ℕ → List Message × List Message
+readFrom b = (logIn b, messagesIn b)
+
+readBack-holds : map (λ e. readFrom (usedOf (holding (e .0)))) readBack ≡ map (λ e. e .1) readBack
+unfolding readBack messagesStartIn usedOf sectionsOf headerOf valuesOf messagesOf messagesStart setpointsOf startValues runDelta runCommand apply changeOf operate raise stop logOf heldOf executablesOf needs
+readBack-holds = refl
