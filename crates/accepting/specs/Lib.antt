@@ -1,4 +1,3 @@
-pub mod Ordering
 pub mod DeliveryPool
 pub mod Accepting
 pub mod AcceptLaws

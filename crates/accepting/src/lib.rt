@@ -1,13 +1,12 @@
 // A new message joins the station: its image becomes that of the larger set, and the steps lead to the new log.
-pub mod ordering;
 
-use crate::ordering::order_table;
-use crate::ordering::write_change;
-use crate::ordering::write_table;
-use buffer::copy_at;
+use buffer_writes::copy_at;
 use judged::judging::Station;
 use layout::CAPACITY;
 use layout::IMAGE_SIZE;
+use ordering::order_table;
+use ordering::write_change;
+use ordering::write_table;
 use table::Table;
 use table::shifting::shift_places;
 ghost use mathlib.Core.Path.{_≡_};

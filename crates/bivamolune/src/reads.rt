@@ -1,9 +1,9 @@
 // The calls that only read an image, for C. Each answers one number.
+use arithmetic::integers::to_word;
 use reading::answer::Located;
 use reading::answer::Reading;
 use reading::locating::locate;
 use reading::setpoint::setpoint;
-use setpoints::integers::to_word;
 ghost use mathlib.Core.Path.{_≡_};
 ghost use Rattle.bivamolune.specs.ReadAnswers.{PartSmall, partNumber, valueNumber, AnswersLogMessage, AnswersSetpoint};
 

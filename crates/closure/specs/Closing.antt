@@ -8,7 +8,7 @@ use Rattle.model.specs.Lists.{_∈_}
 use Rattle.model.specs.Layout.{capacity}
 use Rattle.model.specs.Order.{State, placedBy}
 use Rattle.table.specs.Table.{deltasAt}
-use Rattle.closure.specs.Ready.{readyIn, Placing, Blocks}
+use Rattle.ready.specs.Ready.{readyIn, Placing, Blocks}
 
 -- The first `count` of `order` are placed.
 pub record Closing (S : State) (placed blocks order : List ℕ) (count : ℕ) : Type 0 where

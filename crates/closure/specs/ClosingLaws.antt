@@ -24,8 +24,8 @@ use Rattle.needs.specs.Names.{missing, indexOf}
 use Rattle.needs.specs.IndexLaws.{index-here}
 use Rattle.needs.specs.NameLaws.{sequence-at, set-ascends}
 use Rattle.needs.specs.Rows.{RowsRight}
-use Rattle.closure.specs.Ready.{marksSize, isPlaced, readyIn, effectiveIn, Marks, Placing, Blocks}
-use Rattle.closure.specs.ReadyLaws.{ready-is, block-is, idle-stuck}
+use Rattle.ready.specs.Ready.{marksSize, isPlaced, readyIn, effectiveIn, Marks, Placing, Blocks}
+use Rattle.ready.specs.ReadyLaws.{ready-is, block-is, idle-stuck}
 use Rattle.closure.specs.Closing.{Closing, Tried, Passing, Passed, Closed}
 
 -- ---- marks and blocks with one more

@@ -1,4 +1,2 @@
-pub mod Ready
-pub mod ReadyLaws
 pub mod Closing
 pub mod ClosingLaws

@@ -1,12 +1,12 @@
 // All that is executable, with its effective block.
 use crate::passing::pass;
-use crate::ready::MARKS;
+use ready::MARKS;
 ghost use mathlib.Core.Path.{_≡_};
 ghost use lib.ListN.{length};
 ghost use Rattle.model.specs.Layout.{capacity};
 ghost use Rattle.table.specs.Table.{setIn, Holds};
 ghost use Rattle.needs.specs.Rows.{RowsRight};
-ghost use Rattle.closure.specs.Ready.{marksSize};
+ghost use Rattle.ready.specs.Ready.{marksSize};
 ghost use Rattle.closure.specs.Closing.{Closed};
 
 // Passes over the deltas until a pass places none. Writes the effective blocks of the executable deltas by index of the table, and the

@@ -2,4 +2,3 @@
 pub mod closing;
 pub mod passing;
 pub mod placing;
-pub mod ready;

@@ -1,8 +1,8 @@
 // A delta is placed where it is ready.
-use crate::ready::effective;
-use crate::ready::ready;
 use buffer::get_u32;
 use layout::BLOCK_AT;
+use ready::effective;
+use ready::ready;
 use table::entry::message_at;
 ghost use mathlib.Core.Path.{_≡_};
 ghost use mathlib.Core.List.{[]};

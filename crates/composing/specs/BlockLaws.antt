@@ -17,7 +17,7 @@ use Rattle.table.specs.Places.{AllBelow}
 use Rattle.needs.specs.Rows.{RowsRight}
 use Rattle.closure.specs.Closing.{Closed}
 use Rattle.closure.specs.ClosingLaws.{closed-block}
-use Rattle.composing.specs.GroupLaws.{block-small}
+use Rattle.numbering.specs.GroupLaws.{block-small}
 
 -- ---- by index and by delta
 greatest-places : (f : ℕ → ℕ) (g : Message → ℕ) (l : List Message) (places : List ℕ) → ((i : ℕ) → i ∈ places → f i ≡ g (getD l i [])) → greatest f places ≡ greatest g (deltasAt l places)

@@ -1,10 +1,10 @@
 // The block of a new delta.
 use closure::closing::close;
-use closure::ready::MARKS;
-use closure::ready::greater;
 use layout::CAPACITY;
 use needs::rows::ROWS;
 use needs::rows::fill_rows;
+use ready::MARKS;
+use ready::greater;
 ghost use mathlib.Core.Path.{_≡_};
 ghost use lib.ListN.{length, getD};
 ghost use lib.Dec.{eqb};
@@ -12,7 +12,7 @@ ghost use Rattle.model.specs.Lists.{greatest};
 ghost use Rattle.model.specs.Compose.{newBlock};
 ghost use Rattle.table.specs.Table.{setIn};
 ghost use Rattle.table.specs.Places.{AllBelow};
-ghost use Rattle.image.specs.LogPlaces.{LogPlaces};
+ghost use Rattle.image_sections.specs.LogPlaces.{LogPlaces};
 
 // The highest of the blocks at the given places.
 fn highest_block(blocks: &[u32], places: &[u8]) -> u32

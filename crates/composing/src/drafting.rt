@@ -1,17 +1,17 @@
 // A new delta's sequence, group and block, where none passes its limit.
 use crate::block::new_block;
-use crate::group::new_group;
-use crate::number::new_number;
 use layout::FIELD_LIMIT;
 use layout::NUMBERS_OF_LINE;
 use message::header::Priority;
+use numbering::group::new_group;
+use numbering::number::new_number;
 use sequence::Sequence;
 ghost use mathlib.Core.Path.{_≡_};
 ghost use lib.Dec.{eqb};
 ghost use Rattle.model.specs.Message.{lineOf, numberOf};
 ghost use Rattle.sequence.specs.Sequence.{sequenceNumber};
 ghost use Rattle.table.specs.Table.{setIn};
-ghost use Rattle.image.specs.LogPlaces.{LogPlaces};
+ghost use Rattle.image_sections.specs.LogPlaces.{LogPlaces};
 ghost use Rattle.composing.specs.Drafting.{priorityBy, Drafts};
 
 // What a new delta has from the log, and its priority.

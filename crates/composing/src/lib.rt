@@ -1,5 +1,3 @@
-// What a new delta has from the log: its number on its line, its group and its block.
+// What a new delta has from the log: its block, and a draft with its number and group.
 pub mod block;
 pub mod drafting;
-pub mod group;
-pub mod number;

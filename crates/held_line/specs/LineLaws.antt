@@ -13,9 +13,9 @@ use Rattle.model.specs.Message.{Message, sequenceOf, lineOf}
 use Rattle.model.specs.Codes.{heldOn}
 use Rattle.buffer.specs.FieldLaws.{field-split}
 use Rattle.table.specs.Table.{deltasOf, deltasAt, setIn}
-use Rattle.image.specs.LogPlaces.{othersBelow, LogPlaces}
-use Rattle.image.specs.LogPlaceLaws.{next-message, no-message}
-use Rattle.image.specs.HeldLaws.{others-held}
+use Rattle.image_sections.specs.LogPlaces.{othersBelow, LogPlaces}
+use Rattle.image_sections.specs.LogPlaceLaws.{next-message, no-message}
+use Rattle.image_sections.specs.HeldLaws.{others-held}
 use Rattle.held_line.specs.Line.{someOn}
 
 -- ---- the number of a line's ten bytes, from its first eight and its last two

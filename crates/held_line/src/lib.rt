@@ -1,7 +1,7 @@
 // The line of a new delta: read, and no held delta on it.
 use buffer::get_u16;
 use buffer::get_u64;
-use image::held::held_places;
+use image_sections::held::held_places;
 use layout::NUMBERS_OF_LINE;
 use message::checks::Check;
 use sequence::Sequence;
@@ -18,7 +18,7 @@ ghost use Rattle.model.specs.Codes.{heldOn};
 ghost use Rattle.sequence.specs.Sequence.{sequenceNumber};
 ghost use Rattle.message.specs.Check.{right};
 ghost use Rattle.table.specs.Table.{deltasOf, deltasAt, setIn};
-ghost use Rattle.image.specs.LogPlaces.{TablePlaces, LogPlaces};
+ghost use Rattle.image_sections.specs.LogPlaces.{TablePlaces, LogPlaces};
 ghost use Rattle.held_line.specs.Line.{someOn};
 
 // A line as the sequence of its number 0000.

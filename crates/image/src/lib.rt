@@ -1,14 +1,10 @@
-// The image of a set of deltas, written section by section from the places of its log.
-pub mod header;
-pub mod held;
-pub mod messages;
-pub mod running;
+// The image of a set of deltas, written from the places of its log: its used bytes, and that of no deltas whole.
 
-use crate::header::put_header;
-use crate::held::held_places;
-use crate::messages::put_messages;
-use crate::running::run_log;
-use buffer::clear_from;
+use buffer_writes::clear_from;
+use image_header::put_header;
+use image_sections::held::held_places;
+use image_sections::messages::put_messages;
+use image_sections::running::run_log;
 use layout::SETPOINTS_START;
 use setpoints::values::put_values;
 use table::start::messages_start;
@@ -18,8 +14,8 @@ ghost use Rattle.model.specs.Layout.{imageSize};
 ghost use Rattle.model.specs.Image.{imageOf};
 ghost use Rattle.model.specs.Calls.{emptyState};
 ghost use Rattle.table.specs.Table.{setIn};
-ghost use Rattle.image.specs.LogPlaces.{ImageInput};
-ghost use Rattle.image.specs.Pieces.{UsedWritten};
+ghost use Rattle.image_sections.specs.LogPlaces.{ImageInput};
+ghost use Rattle.image_header.specs.Pieces.{UsedWritten};
 
 // Writes the used bytes of the image of the set whose messages start at `starts` in the pool; `places` are the log's, in its order.
 // Returns how many these are. What stands behind them stays.

@@ -13,9 +13,9 @@ use Rattle.message.specs.declared.checks.Check.{Check}
 use Rattle.message.specs.declared.checks.Check.the-variants.{Right, Wrong}
 use Rattle.table.specs.declared.Table.{Table}
 use Rattle.table.specs.Table.{startsOf, deltasOf, deltasAt, setIn, Holds}
-use Rattle.table.specs.Reading.{IsTable}
+use Rattle.table_reading.specs.Reading.{IsTable}
 use Rattle.judged.specs.declared.judging.Station.{Station}
-use Rattle.judged.specs.LogRead.{ReadsLog}
+use Rattle.image_log.specs.LogRead.{ReadsLog}
 
 -- The places of the log.
 abbrev pub placesIn : Station → List ℕ

@@ -15,11 +15,11 @@ use Rattle.order.specs.TestLaws.{is-true, false-of, ∈-every}
 use Rattle.laws.specs.ImageLaws.{own-log}
 use Rattle.table.specs.Table.{startsOf, deltasOf, deltasAt, setIn}
 use Rattle.table.specs.declared.Table.{Table}
-use Rattle.table.specs.Reading.{IsTable, ReadsTable}
+use Rattle.table_reading.specs.Reading.{IsTable, ReadsTable}
 use Rattle.message.specs.declared.checks.Check.{Check}
 use Rattle.message.specs.declared.checks.Check.the-variants.{Right, Wrong}
 use Rattle.judged.specs.declared.judging.Station.{Station}
-use Rattle.judged.specs.LogRead.{ReadsLog}
+use Rattle.image_log.specs.LogRead.{ReadsLog}
 use Rattle.judged.specs.Judging.{IsStation, Judges}
 
 pub judged : (b : List ℕ) (t : Table) → IsTable b t → isImage b ≡ same (imageOf (setIn b (startsOf t))) b

@@ -1,4 +1,2 @@
-pub mod LogRead
-pub mod LogReadLaws
 pub mod Judging
 pub mod JudgingLaws

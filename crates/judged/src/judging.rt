@@ -1,8 +1,8 @@
 // An image read and judged: code 2.
 use crate::comparing::equals_copy;
-use crate::places::read_places;
 use buffer::get_u16;
 use image::write_used;
+use image_log::read_places;
 use key::KEYS;
 use layout::CAPACITY;
 use layout::IMAGE_SIZE;
@@ -12,13 +12,13 @@ use message::checks::Check;
 use needs::rows::ROWS;
 use prepared::prepare;
 use table::Table;
-use table::reading::read_table;
+use table_reading::read_table;
 ghost use mathlib.Core.Path.{_≡_};
 ghost use lib.ListN.{length};
 ghost use Rattle.model.specs.Layout.{imageSize};
 ghost use Rattle.table.specs.Table.{startsOf, setIn};
-ghost use Rattle.table.specs.Reading.{IsTable};
-ghost use Rattle.image.specs.Pieces.{UsedWritten};
+ghost use Rattle.table_reading.specs.Reading.{IsTable};
+ghost use Rattle.image_header.specs.Pieces.{UsedWritten};
 ghost use Rattle.log_check.specs.Checking.{ChecksLog};
 ghost use Rattle.judged.specs.Judging.{ListsLog, Rewritable, placesIn, Blank, Judges, Copies};
 

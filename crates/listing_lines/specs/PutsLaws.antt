@@ -7,7 +7,7 @@ use lib.ListN.{length, length-append}
 use lib.Seq.{paste}
 use Rattle.model.specs.Image.{logCount, heldCount}
 use Rattle.model.specs.Program.{printedLine, lastLine}
-use Rattle.buffer.specs.PasteLaws.{paste-paste}
+use Rattle.buffer_writes.specs.PasteLaws.{paste-paste}
 use Rattle.listing_lines.specs.Puts.{digitsRoom, lineRoom, lastRoom, numeral, Puts}
 
 pub puts-puts : {entry : List ℕ} {at : ℕ} {x y : List ℕ} {m k next r : ℕ} {middle exit : List ℕ} → at + m ≤ length entry

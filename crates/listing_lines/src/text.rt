@@ -1,5 +1,5 @@
 // Bytes put behind those that are printed already.
-use buffer::copy_at;
+use buffer_writes::copy_at;
 ghost use Prim.Native.Nat.{_+_, _≤_};
 ghost use lib.ListN.{length};
 ghost use Rattle.listing_lines.specs.Puts.{Puts};

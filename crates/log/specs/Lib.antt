@@ -1,5 +1,3 @@
-pub mod Sorted
-pub mod SortedLaws
 pub mod Next
 pub mod NextLaws
 pub mod Ordered

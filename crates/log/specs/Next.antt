@@ -10,7 +10,7 @@ use Rattle.model.specs.Message.{Message}
 use Rattle.model.specs.Listing as L
 use Rattle.model.specs.Order.{State, placedBy, ready, keyOf, less}
 use Rattle.needs.specs.Rows.{RowFits}
-use Rattle.closure.specs.Ready.{marksSize, isPlaced, readyIn, Placing}
+use Rattle.ready.specs.Ready.{marksSize, isPlaced, readyIn, Placing}
 use Rattle.log.specs.declared.next.Next.{Next}
 use Rattle.log.specs.declared.next.Next.the-variants.{At, Nothing}
 

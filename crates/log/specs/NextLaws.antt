@@ -20,12 +20,12 @@ use Rattle.order.specs.ListingLaws.{ready-executable, Stuck, Next?, next-is, no
 use Rattle.laws.specs.LogLaws.{keys-differ}
 use Rattle.key.specs.Key.{keyIn}
 use Rattle.needs.specs.Rows.{RowsRight}
-use Rattle.closure.specs.Ready.{isPlaced, readyIn, Placing}
-use Rattle.closure.specs.ReadyLaws.{ready-is, ready-marked}
+use Rattle.ready.specs.Ready.{isPlaced, readyIn, Placing}
+use Rattle.ready.specs.ReadyLaws.{ready-is, ready-marked}
 use Rattle.prepared.specs.Keys.{KeysRight}
 use Rattle.log.specs.declared.next.Next.{Next}
 use Rattle.log.specs.declared.next.Next.the-variants.{At, Nothing}
-use Rattle.log.specs.Sorted.{Sorted}
+use Rattle.sorting.specs.Sorted.{Sorted}
 use Rattle.log.specs.Next.{Skips, FirstReady, Picks, NextRight}
 
 -- what holds of all from a place on below k, and of k, holds below k + 1

@@ -14,7 +14,7 @@ use Rattle.model.specs.Order.{State, RightSet, needs, placedBy, ready, keyOf, l
 use Rattle.order.specs.KeyOrder.{less-total}
 use Rattle.order.specs.ListingLaws.{after-snoc, Next?, next-is}
 use Rattle.table.specs.Table.{deltasAt}
-use Rattle.closure.specs.Ready.{marksSize, Placing}
+use Rattle.ready.specs.Ready.{marksSize, Placing}
 use Rattle.closure.specs.ClosingLaws.{placing-none, placing-more}
 use Rattle.log_order.specs.declared.LogOrder.{LogOrder}
 use Rattle.log_order.specs.LogOrder.{placesOf, OrderRight, Placed}

@@ -6,7 +6,7 @@ use lib.ListN.{length}
 use Rattle.model.specs.Lists.{_∈_}
 use Rattle.model.specs.Order.{State, placedBy, logFrom, logOf}
 use Rattle.table.specs.Table.{deltasAt}
-use Rattle.closure.specs.Ready.{Placing}
+use Rattle.ready.specs.Ready.{Placing}
 use Rattle.log_order.specs.declared.LogOrder.{LogOrder}
 use Rattle.log_order.specs.LogOrder.{oldOf, placesOf, OrderRight}
 

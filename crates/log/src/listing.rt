@@ -2,9 +2,9 @@
 use crate::next::Next;
 use crate::next::first_ready;
 use crate::next::skip_placed;
-use crate::sorting::sort_by_key;
-use closure::ready::MARKS;
 use log_order::LogOrder;
+use ready::MARKS;
+use sorting::sort_by_key;
 ghost use mathlib.Core.Path.{_≡_};
 ghost use mathlib.Core.List.{[]};
 ghost use Rattle.table.specs.Table.{setIn, Holds};

@@ -10,7 +10,7 @@ use Rattle.model.specs.Order.{State, placedBy, ready, less, logOf}
 use Rattle.message.specs.declared.checks.Check.{Check}
 use Rattle.message.specs.declared.checks.Check.the-variants.{Right, Wrong}
 use Rattle.table.specs.Table.{deltasAt}
-use Rattle.closure.specs.Ready.{marksSize, Placing}
+use Rattle.ready.specs.Ready.{marksSize, Placing}
 use Rattle.log_check.specs.Above.{keyAt}
 
 -- Places of the table, at most as many as it has room for.

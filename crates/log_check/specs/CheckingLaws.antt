@@ -28,8 +28,8 @@ use Rattle.needs.specs.Names.{indexOf}
 use Rattle.needs.specs.IndexLaws.{index-here}
 use Rattle.needs.specs.NameLaws.{sequence-at, set-ascends}
 use Rattle.needs.specs.Rows.{rowIn, RowsRight}
-use Rattle.closure.specs.Ready.{marksSize, readyIn, effectiveIn, Placing}
-use Rattle.closure.specs.ReadyLaws.{ready-is, idle-stuck}
+use Rattle.ready.specs.Ready.{marksSize, readyIn, effectiveIn, Placing}
+use Rattle.ready.specs.ReadyLaws.{ready-is, idle-stuck}
 use Rattle.closure.specs.ClosingLaws.{placing-none, placing-more}
 use Rattle.prepared.specs.Keys.{KeysRight}
 use Rattle.log_check.specs.Above.{keyAt, Comparable, Above}

@@ -5,7 +5,7 @@ use mathlib.Core.List.{List}
 use Prim.Native.Nat.{ℕ, _≤_, _<_}
 use Rattle.model.specs.Layout.{capacity}
 use Rattle.needs.specs.Rows.{RowFits}
-use Rattle.closure.specs.Ready.{readyIn}
+use Rattle.ready.specs.Ready.{readyIn}
 
 pub record AllFit (rows counts : List ℕ) (count : ℕ) : Type 0 where
   pub few : count ≤ capacity

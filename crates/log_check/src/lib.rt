@@ -4,11 +4,11 @@ mod waiting;
 
 use crate::above::above;
 use crate::waiting::any_ready;
-use closure::ready::MARKS;
-use closure::ready::effective;
-use closure::ready::ready;
 use layout::CAPACITY;
 use message::checks::Check;
+use ready::MARKS;
+use ready::effective;
+use ready::ready;
 ghost use Rattle.table.specs.Table.{setIn, Holds};
 ghost use Rattle.prepared.specs.Keys.{PreparedRight};
 ghost use Rattle.log_check.specs.Checking.{Inside, ChecksLog};

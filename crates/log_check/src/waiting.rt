@@ -1,8 +1,8 @@
 // Whether something waits to be placed.
-use closure::ready::ready;
+use ready::ready;
 ghost use mathlib.Core.Path.{_≡_};
 ghost use lib.ListN.{length};
-ghost use Rattle.closure.specs.Ready.{marksSize};
+ghost use Rattle.ready.specs.Ready.{marksSize};
 ghost use Rattle.log_check.specs.Waiting.{AllFit, AnyReady};
 
 // Whether one of the first `count` deltas is ready.

@@ -3,7 +3,7 @@ use buffer::get_u16;
 use layout::LENGTH_AT;
 use layout::LOG_COUNT_AT;
 use message::checks::Check;
-use reading::checks::check_image;
+use reading_checks::check_image;
 use sizes::check_image_size;
 use table::start::messages_start;
 ghost use mathlib.Core.Path.{_≡_};

@@ -2,4 +2,3 @@ pub mod Check
 pub mod LayoutLaws
 pub mod Header
 pub mod HeaderLaws
-pub mod DependencyLaws

@@ -1,4 +1,3 @@
-// A delta on the wire: its layout, its header and its dependencies, and the checks of codes 3 to 5.
+// A delta on the wire: its layout, which is the check of code 3, and its header.
 pub mod checks;
-pub mod dependencies;
 pub mod header;

@@ -11,7 +11,7 @@ use Rattle.model.specs.Layout.{capacity}
 use Rattle.model.specs.Message.{Message, sequenceOf, needsOf}
 use Rattle.model.specs.Order.{State, RightSet, sequencesOf, needs}
 use Rattle.order.specs.TestLaws.{decide, not-eqb}
-use Rattle.buffer.specs.PasteLaws.{part-here, part-before}
+use Rattle.buffer_writes.specs.PasteLaws.{part-here, part-before}
 use Rattle.needs.specs.Names.{missing, indexOf}
 use Rattle.needs.specs.IndexLaws.{index-small}
 use Rattle.needs.specs.Rows.{rowSize, rowIn, RowIs, RowsRight, RowFits}

@@ -8,7 +8,7 @@ use lib.ListN.{length, length-append}
 use lib.Dec.{T, ltb}
 use Rattle.model.specs.Message.{Message, numberOf, sequenceOf, predecessorOf, dependencyCount, dependenciesOf, commandsStart, needsOf, passes}
 use Rattle.wire_laws.specs.MessageLaws.{passes-sized}
-use Rattle.message.specs.DependencyLaws.{length-dependencies}
+use Rattle.dependencies.specs.DependencyLaws.{length-dependencies}
 use Rattle.needs.specs.Rows.{rowSize}
 
 pub needs-by : (m : Message) {p : List ℕ} → p ≡ predecessorOf (sequenceOf m) → needsOf m ≡ p ++ dependenciesOf m

@@ -1,8 +1,8 @@
 // What a message needs, as sequences: its predecessor, where it has one, and then its dependencies.
 use buffer::byte;
+use dependencies::dependency;
 use layout::DEPENDENCY_COUNT_AT;
 use layout::SEQUENCE_AT;
-use message::dependencies::dependency;
 use sequence::Predecessor;
 use sequence::Sequence;
 use sequence::predecessor_of;

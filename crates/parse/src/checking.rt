@@ -1,9 +1,9 @@
 // A message checked by 3 to 6.
 use crate::content::check_content;
+use dependencies::check_dependencies;
+use dependencies::check_numbers;
 use message::checks::Check;
 use message::checks::check_layout;
-use message::dependencies::check_dependencies;
-use message::dependencies::check_numbers;
 ghost use mathlib.Core.Path.{_≡_};
 ghost use Rattle.model.specs.Codes.{lowestCode, messageConditions};
 ghost use Rattle.parse.specs.Verdict.{verdictCode};

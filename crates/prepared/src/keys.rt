@@ -6,7 +6,7 @@ use table::entry::message_at;
 ghost use mathlib.Core.Path.{_≡_};
 ghost use lib.ListN.{length};
 ghost use Rattle.table.specs.Table.{deltasOf, Holds};
-ghost use Rattle.closure.specs.Ready.{marksSize};
+ghost use Rattle.ready.specs.Ready.{marksSize};
 ghost use Rattle.prepared.specs.Keys.{Keyed, InTable, KeysMade};
 
 // Writes the keys of the deltas at these indices, each with its effective block.

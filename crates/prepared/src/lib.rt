@@ -3,9 +3,9 @@ pub mod keys;
 
 use crate::keys::fill_keys;
 use closure::closing::close;
-use closure::ready::MARKS;
 use layout::CAPACITY;
 use needs::rows::fill_rows;
+use ready::MARKS;
 ghost use mathlib.Core.Path.{_≡_};
 ghost use Prim.Native.Nat.{_*_};
 ghost use lib.ListN.{length};

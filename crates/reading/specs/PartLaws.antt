@@ -18,7 +18,7 @@ use Rattle.wire_laws.specs.BytesLaws.{field-append, section-at, join-append}
 use Rattle.wire_laws.specs.MessageLaws.{Sized, passes-sized, sized-range}
 use Rattle.laws.specs.LogLaws.{log-received}
 use Rattle.laws.specs.ImageLaws.{image-body, image-own, own-valid, own-log}
-use Rattle.table.specs.ImageSetLaws.{length-cut}
+use Rattle.table_reading.specs.ImageSetLaws.{length-cut}
 use Rattle.reading.specs.Parts.{logOffset}
 
 -- from where the messages start on stand those of the log, and then all else

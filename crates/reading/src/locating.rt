@@ -1,10 +1,10 @@
 // Where the log's messages lie in an image.
 use crate::answer::Located;
-use crate::checks::check_image;
-use crate::checks::check_place;
 use buffer::get_u16;
 use layout::LENGTH_AT;
 use message::checks::Check;
+use reading_checks::check_image;
+use reading_checks::check_place;
 use sizes::check_image_size;
 use table::start::messages_start;
 ghost use mathlib.Core.Path.{_≡_};

@@ -1,12 +1,12 @@
 // Setpoint: a tag's value, as the log leaves it.
 use crate::answer::Reading;
-use crate::checks::check_image;
-use crate::checks::check_tag;
+use arithmetic::integers::of_word;
 use buffer::get_u32;
 use layout::SETPOINTS_START;
 use layout::VALUE_SIZE;
 use message::checks::Check;
-use setpoints::integers::of_word;
+use reading_checks::check_image;
+use reading_checks::check_tag;
 use sizes::check_image_size;
 ghost use mathlib.Core.Path.{_≡_};
 ghost use Rattle.model.specs.Calls as model;

@@ -10,7 +10,7 @@ use lib.Seq.{paste, take-suc, length-take-le}
 use Rattle.model.specs.Bytes.{bytes, join, word}
 use Rattle.model.specs.Layout.{valueSize}
 use Rattle.wire_laws.specs.BytesLaws.{length-bytes}
-use Rattle.buffer.specs.PasteLaws.{paste-paste}
+use Rattle.buffer_writes.specs.PasteLaws.{paste-paste}
 
 abbrev pub wordsOf : List ℤ → List ℕ
 wordsOf values = join (map (λ v. bytes valueSize (word v)) values)

@@ -1,6 +1,6 @@
 // A command's change of the setpoints, as a value: made from the command and the values, then applied to them.
-use crate::integers::of_word;
-use crate::operations::operate;
+use arithmetic::integers::of_word;
+use arithmetic::operations::operate;
 use buffer::byte;
 use buffer::get_u32;
 use layout::OPERATION_AT;

@@ -1,7 +1,5 @@
 // The command runner: a delta's commands, run on 64 setpoints.
 pub mod changes;
-pub mod integers;
-pub mod operations;
 pub mod values;
 
 use crate::changes::apply;

@@ -1,6 +1,6 @@
 // The 64 values as a whole.
-use crate::integers::to_word;
-use buffer::put_u32;
+use arithmetic::integers::to_word;
+use buffer_writes::put_u32;
 use layout::TAG_COUNT;
 use layout::VALUE_SIZE;
 ghost use mathlib.Core.Path.{_≡_};

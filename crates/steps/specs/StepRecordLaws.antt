@@ -15,7 +15,7 @@ use Rattle.wire_laws.specs.StepBytesLaws.{length-steps-bytes}
 use Rattle.sequence.specs.declared.Sequence.{Sequence}
 use Rattle.sequence.specs.Sequence.{sequenceNumber}
 use Rattle.buffer.specs.FieldLaws.{bytes-split, bytes-low}
-use Rattle.buffer.specs.PasteLaws.{paste-paste}
+use Rattle.buffer_writes.specs.PasteLaws.{paste-paste}
 use Rattle.steps.specs.Room.{stepsAt}
 
 -- ---- the bytes of a sequence are its eight high ones and its four low ones

@@ -24,9 +24,9 @@ fn put_record(steps: &mut [u8], at: usize, kind: u32, s: Sequence)
     ensures { λ _. ⌜ now (steps .exit) ≡ paste (now (steps .entry)) at (bytes stepSequenceAt kind ++ bytes sequenceSize (sequenceNumber s)) stepSize ⌝ }
 {
     let from = at + layout::STEP_SEQUENCE_AT;
-    buffer::put_u32(steps, at, kind);
-    buffer::put_u64(steps, from, s.high);
-    buffer::put_u32(steps, from + limits::HIGH_SIZE, s.low);
+    buffer_writes::put_u32(steps, at, kind);
+    buffer_writes::put_u64(steps, from, s.high);
+    buffer_writes::put_u32(steps, from + limits::HIGH_SIZE, s.low);
 }
 
 // Writes a step.

@@ -7,7 +7,3 @@ pub mod InsertLaws
 pub mod Shifting
 pub mod ShiftingLaws
 pub mod PoolLaws
-pub mod Reading
-pub mod SizeLaws
-pub mod ImageSetLaws
-pub mod ReadingLaws

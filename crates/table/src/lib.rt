@@ -2,7 +2,6 @@
 pub mod entry;
 pub mod inserting;
 pub mod places;
-pub mod reading;
 pub mod shifting;
 pub mod start;
 

@@ -17,7 +17,7 @@ use Rattle.order.specs.TestLaws.{decide, not-eqb}
 use Rattle.table.specs.Places.{AllBelow}
 use Rattle.needs.specs.Rows.{rowSize, rowIn, RowFits}
 use Rattle.needs.specs.RowLaws.{row-length, row-at}
-use Rattle.closure.specs.Ready.{marksSize, isPlaced}
+use Rattle.ready.specs.Ready.{marksSize, isPlaced}
 use Rattle.unneeded.specs.Marks.{marked}
 
 pub length-marked : (marks l : List ℕ) → length (marked marks l) ≡ length marks

@@ -11,7 +11,7 @@ use Rattle.model.specs.Order.{State, sequencesOf, needs, logOf}
 use Rattle.model.specs.Compose.{unneeded, newDependencies}
 use Rattle.table.specs.Table.{deltasOf, setIn}
 use Rattle.table.specs.Places.{sequenceIn, AllBelow}
-use Rattle.closure.specs.Ready.{isPlaced}
+use Rattle.ready.specs.Ready.{isPlaced}
 use Rattle.unneeded.specs.declared.Uses.{Uses}
 use Rattle.unneeded.specs.declared.Dependencies.{Dependencies}
 

@@ -3,10 +3,10 @@ pub mod marks;
 
 use crate::marks::mark;
 use crate::marks::mark_needs;
-use closure::ready::MARKS;
 use layout::CAPACITY;
 use needs::rows::ROWS;
 use needs::rows::fill_rows;
+use ready::MARKS;
 use sequence::Predecessor;
 use sequence::Sequence;
 use sequence::equal;
@@ -20,7 +20,7 @@ ghost use Rattle.model.specs.Message.{predecessorOf};
 ghost use Rattle.sequence.specs.Sequence.{sequenceNumber};
 ghost use Rattle.table.specs.Table.{setIn, Holds};
 ghost use Rattle.table.specs.Places.{sequenceIn};
-ghost use Rattle.image.specs.LogPlaces.{LogPlaces};
+ghost use Rattle.image_sections.specs.LogPlaces.{LogPlaces};
 ghost use Rattle.unneeded.specs.Unneeded.{chosen, UsesRight, IsDependencies};
 
 // Marks by index of the table: what is in the log, and what a delta of the log needs.

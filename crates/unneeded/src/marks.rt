@@ -6,7 +6,7 @@ ghost use lib.ListN.{length};
 ghost use Rattle.model.specs.Bytes.{join};
 ghost use Rattle.table.specs.Places.{AllBelow};
 ghost use Rattle.needs.specs.Rows.{rowIn};
-ghost use Rattle.closure.specs.Ready.{marksSize};
+ghost use Rattle.ready.specs.Ready.{marksSize};
 ghost use Rattle.unneeded.specs.Marks.{marked, RowsFit};
 
 // Marks each of some indices.

@@ -14,7 +14,7 @@ use Rattle.message.specs.declared.header.Header.{Header}
 use Rattle.message.specs.declared.header.Priority.{Priority}
 use Rattle.message.specs.declared.header.Priority.the-variants.{Absent, Given}
 use Rattle.table.specs.Places.{sequenceIn}
-use Rattle.image.specs.LogPlaces.{TablePlaces}
+use Rattle.image_sections.specs.LogPlaces.{TablePlaces}
 
 -- no more dependencies and commands than a message may have
 pub record FewParts (dependencies commands : ℕ) : Type 0 where

@@ -19,9 +19,9 @@ use Rattle.message.specs.declared.header.Header.{Header}
 use Rattle.message.specs.declared.header.Priority.{Priority}
 use Rattle.message.specs.declared.header.Priority.the-variants.{Absent, Given}
 use Rattle.buffer.specs.FieldLaws.{bytes-low}
-use Rattle.buffer.specs.PasteLaws.{paste-halves}
-use Rattle.image.specs.Pieces.{pasted}
-use Rattle.image.specs.PieceLaws.{pasted-pasted, order-pasted}
+use Rattle.buffer_writes.specs.PasteLaws.{paste-halves}
+use Rattle.image_header.specs.Pieces.{pasted}
+use Rattle.image_header.specs.PieceLaws.{pasted-pasted, order-pasted}
 use Rattle.writing.specs.Writing.{countsBytes, offsetsBytes, fieldsBytes, headerBytes, headerWith, headerFor, sequencesBytes, messageWith, messageFor}
 
 -- ---- the header

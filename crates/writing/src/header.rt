@@ -1,7 +1,7 @@
 // The header of a message, from its value to its 40 bytes.
 use crate::sequences::put_sequence;
-use buffer::put_u16;
-use buffer::put_u32;
+use buffer_writes::put_u16;
+use buffer_writes::put_u32;
 use layout::BLOCK_AT;
 use layout::COMMAND_COUNT_AT;
 use layout::COMMAND_SIZE;
@@ -25,7 +25,7 @@ ghost use mathlib.Core.List.{[], _∷_};
 ghost use Prim.Native.Nat.{_<_, _≤_};
 ghost use lib.ListN.{length};
 ghost use Rattle.model.specs.Layout.{kindAt, lengthAt, groupAt, headerSize};
-ghost use Rattle.image.specs.Pieces.{pasted};
+ghost use Rattle.image_header.specs.Pieces.{pasted};
 ghost use Rattle.sequence.specs.Sequence.{sequenceNumber};
 ghost use Rattle.writing.specs.Writing.{FewParts, countsBytes, offsetsBytes, fieldsBytes, headerBytes, headerFor};
 

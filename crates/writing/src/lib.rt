@@ -4,7 +4,7 @@ pub mod sequences;
 
 use crate::header::put_header;
 use crate::sequences::put_sequences;
-use buffer::copy_at;
+use buffer_writes::copy_at;
 use layout::HEADER_SIZE;
 use layout::SEQUENCE_SIZE;
 use message::header::Header;

@@ -1,6 +1,6 @@
 // Sequences, written as twelve bytes each.
-use buffer::put_u32;
-use buffer::put_u64;
+use buffer_writes::put_u32;
+use buffer_writes::put_u64;
 use layout::SEQUENCE_SIZE;
 use sequence::Sequence;
 use table::entry::sequence_at;
@@ -9,8 +9,8 @@ ghost use Prim.Native.Nat.{_+_, _*_, _≤_};
 ghost use lib.ListN.{length};
 ghost use Rattle.model.specs.Bytes.{bytes};
 ghost use Rattle.model.specs.Layout.{sequenceSize};
-ghost use Rattle.image.specs.LogPlaces.{TablePlaces};
-ghost use Rattle.image.specs.Pieces.{pasted};
+ghost use Rattle.image_sections.specs.LogPlaces.{TablePlaces};
+ghost use Rattle.image_header.specs.Pieces.{pasted};
 ghost use Rattle.sequence.specs.Sequence.{sequenceNumber};
 ghost use Rattle.writing.specs.Writing.{namesAt, sequencesBytes};
 

@@ -12,9 +12,9 @@ use Rattle.model.specs.Message.{lineOf}
 use Rattle.model.specs.Codes.{heldOn}
 use Rattle.sequence.specs.Sequence.{sequenceNumber}
 use Rattle.table.specs.Table.{deltasOf, deltasAt, setIn}
-use Rattle.image.specs.LogPlaces.{TablePlaces}
-use Rattle.image.specs.LogPlaceLaws.{table-count}
-use Rattle.image.specs.HeldLaws.{others-inside, others-length}
+use Rattle.image_sections.specs.LogPlaces.{TablePlaces}
+use Rattle.image_sections.specs.LogPlaceLaws.{table-count}
+use Rattle.image_sections.specs.HeldLaws.{others-inside, others-length}
 use Rattle.held_line.specs.Line.{someOn}
 use Rattle.held_line.specs.LineLaws.{held-on}
 use Rattle.held_line.proofs.check_line.Statement.{statement}

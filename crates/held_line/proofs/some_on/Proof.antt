@@ -9,7 +9,7 @@ use lib.Dec.{eqb}
 use Rattle.model.specs.Message.{lineOf}
 use Rattle.sequence.specs.Sequence.{sequenceNumber}
 use Rattle.table.specs.Table.{deltasOf, deltasAt}
-use Rattle.image.specs.LogPlaceLaws.{place-inside}
+use Rattle.image_sections.specs.LogPlaceLaws.{place-inside}
 use Rattle.held_line.specs.Line.{someOn}
 use Rattle.held_line.specs.LineLaws.{some-next, some-none}
 use Rattle.held_line.proofs.some_on.Statement.{statement}

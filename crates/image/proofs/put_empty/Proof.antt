@@ -7,8 +7,8 @@ use Rattle.model.specs.Layout.{imageSize}
 use Rattle.model.specs.Image.{usedOf}
 use Rattle.model.specs.Calls.{emptyState}
 use Rattle.laws.specs.ImageLaws.{used-fits}
-use Rattle.image.specs.LogPlaceLaws.{empty-log}
-use Rattle.image.specs.SectionLaws.{used-cleared}
+use Rattle.image_sections.specs.LogPlaceLaws.{empty-log}
+use Rattle.image_sections.specs.SectionLaws.{used-cleared}
 use Rattle.image.proofs.put_empty.Statement.{statement}
 use Rattle.image.proofs.put_empty.Tie as tie
 

@@ -10,11 +10,11 @@ use Rattle.model.specs.Order.{State}
 use Rattle.model.specs.Image.{messagesStart, messagesOf}
 use Rattle.laws.specs.ImageLaws.{messages-room}
 use Rattle.table.specs.Table.{setIn}
-use Rattle.image.specs.LogPlaces.{othersBelow, LogPlaces}
-use Rattle.image.specs.LogPlaceLaws.{log-count, table-count, log-fits}
-use Rattle.image.specs.HeldLaws.{others-length, others-count}
-use Rattle.image.specs.Pieces.{pasted, Copied}
-use Rattle.image.specs.SectionLaws.{header-is, values-are, used-written}
+use Rattle.image_sections.specs.LogPlaces.{othersBelow, LogPlaces}
+use Rattle.image_sections.specs.LogPlaceLaws.{log-count, table-count, log-fits}
+use Rattle.image_sections.specs.HeldLaws.{others-length, others-count}
+use Rattle.image_header.specs.Pieces.{pasted, Copied}
+use Rattle.image_sections.specs.SectionLaws.{header-is, values-are, used-written}
 use Rattle.image.proofs.write_used.Statement.{statement}
 use Rattle.image.proofs.write_used.Tie as tie
 

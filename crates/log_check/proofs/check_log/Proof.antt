@@ -10,7 +10,7 @@ use borrow.Author.Tests.{not-true, not-false}
 use Rattle.order.specs.ListLaws.{getD-∈}
 use Rattle.table.specs.Table.{messageFrom, setIn}
 use Rattle.needs.specs.RowLaws.{rows-fit}
-use Rattle.closure.specs.Ready.{effectiveIn, readyIn}
+use Rattle.ready.specs.Ready.{effectiveIn, readyIn}
 use Rattle.log_check.specs.Above.{Above}
 use Rattle.log_check.specs.Waiting.{AnyReady}
 use Rattle.log_check.specs.Checking.{Checking}

@@ -12,7 +12,7 @@ use Rattle.sequence.specs.Sequence.{sequenceNumber}
 use Rattle.table.specs.Table.{messageFrom, setIn}
 use Rattle.table.specs.Places.{sequenceIn}
 use Rattle.needs.specs.NameLaws.{sequence-at}
-use Rattle.closure.specs.Ready.{isPlaced}
+use Rattle.ready.specs.Ready.{isPlaced}
 use Rattle.unneeded.specs.UnneededLaws.{not-logged, is-needed, not-needed}
 use borrow.Author.Needs.{needs}
 use Rattle.unneeded.proofs.is_dependency.Statement.{statement}

@@ -10,8 +10,8 @@ use Rattle.table.specs.Table.{messageFrom, setIn}
 use Rattle.table.specs.Places.{AllBelow}
 use Rattle.needs.specs.Rows.{rowIn}
 use Rattle.needs.specs.RowLaws.{rows-fit}
-use Rattle.closure.specs.Ready.{isPlaced}
-use Rattle.image.specs.LogPlaceLaws.{log-inside}
+use Rattle.ready.specs.Ready.{isPlaced}
+use Rattle.image_sections.specs.LogPlaceLaws.{log-inside}
 use Rattle.unneeded.specs.MarkLaws.{fresh-marked}
 use Rattle.unneeded.specs.UnneededLaws.{logged-is, needed-is}
 use borrow.Author.Needs.{needs}

@@ -6,7 +6,7 @@ use native.Mathlib.Omega.{arith}
 use lib.ListN.{length, length-map}
 use Rattle.model.specs.Layout.{headerSize, sequenceSize}
 use Rattle.table.specs.Places.{sequenceIn}
-use Rattle.image.specs.Pieces.{pasted}
+use Rattle.image_header.specs.Pieces.{pasted}
 use Rattle.writing.specs.Writing.{namesAt, sequencesBytes}
 use Rattle.writing.specs.WritingLaws.{length-sequences, message-written, message-length}
 use borrow.Author.Needs.{needs}

@@ -9,7 +9,7 @@ use native.Mathlib.Omega.{arith}
 use borrow.Author.Tests.{not-true, not-false, eqb-true}
 use Rattle.order.specs.TestLaws.{not-eqb}
 use Rattle.table.specs.Table.{messageFrom, deltasOf, setIn}
-use Rattle.closure.specs.Ready.{readyIn}
+use Rattle.ready.specs.Ready.{readyIn}
 use Rattle.closure.specs.Closing.{Closing}
 use Rattle.closure.specs.ClosingLaws.{closing-none}
 use Rattle.closure.proofs.closing.close.Statement.{statement}

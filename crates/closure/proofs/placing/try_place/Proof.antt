@@ -8,7 +8,7 @@ use borrow.Author.Tests.{not-true, not-false}
 use Rattle.table.specs.Table.{messageFrom, setIn}
 use Rattle.needs.specs.Rows.{RowFits}
 use Rattle.needs.specs.RowLaws.{rows-fit}
-use Rattle.closure.specs.Ready.{effectiveIn}
+use Rattle.ready.specs.Ready.{effectiveIn}
 use Rattle.closure.specs.Closing.{Tried}
 use Rattle.closure.specs.ClosingLaws.{tried-idle, tried-more}
 use Rattle.closure.proofs.placing.try_place.Statement.{statement}

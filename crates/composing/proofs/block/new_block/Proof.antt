@@ -10,7 +10,7 @@ use Rattle.model.specs.Order.{State, effectiveBlock, logOf}
 use Rattle.model.specs.Compose.{newBlock}
 use Rattle.table.specs.Table.{messageFrom, setIn}
 use Rattle.table.specs.Places.{AllBelow}
-use Rattle.image.specs.LogPlaceLaws.{log-inside}
+use Rattle.image_sections.specs.LogPlaceLaws.{log-inside}
 use Rattle.composing.specs.BlockLaws.{highest-effective, effective-small}
 use borrow.Author.Needs.{needs}
 use Rattle.composing.proofs.block.new_block.Statement.{statement}

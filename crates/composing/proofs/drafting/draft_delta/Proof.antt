@@ -11,7 +11,7 @@ use Rattle.model.specs.Order.{State, logOf}
 use Rattle.model.specs.Compose.{newNumber, newSequence, newGroup}
 use Rattle.sequence.specs.Sequence.{sequenceNumber}
 use Rattle.table.specs.Table.{setIn}
-use Rattle.image.specs.LogPlaceLaws.{log-inside}
+use Rattle.image_sections.specs.LogPlaceLaws.{log-inside}
 use Rattle.composing.specs.Drafting.{priorityBy}
 use Rattle.composing.specs.DraftingLaws.{numbered, past-number, past-group, past-block, past-none}
 use borrow.Author.Needs.{needs}

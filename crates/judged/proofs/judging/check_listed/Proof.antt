@@ -6,7 +6,7 @@ use native.Mathlib.Omega.{arith}
 use borrow.Author.Needs.{needs}
 use Rattle.model.specs.Layout.{capacity}
 use Rattle.table.specs.Table.{messageFrom, startsOf}
-use Rattle.judged.specs.LogRead.{ReadsLog}
+use Rattle.image_log.specs.LogRead.{ReadsLog}
 use Rattle.judged.proofs.judging.check_listed.Statement.{statement}
 use Rattle.judged.proofs.judging.check_listed.Tie as tie
 

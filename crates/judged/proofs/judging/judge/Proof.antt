@@ -19,9 +19,9 @@ use Rattle.laws.specs.UsedLaws.{over-zeros}
 use Rattle.message.specs.declared.checks.Check.the-variants.{Right}
 use Rattle.table.specs.declared.Table.{Table}
 use Rattle.table.specs.Table.{startsOf, deltasOf, deltasAt, setIn}
-use Rattle.table.specs.Reading.{IsTable}
+use Rattle.table_reading.specs.Reading.{IsTable}
 use Rattle.log_check.specs.Checking.{ChecksLog}
-use Rattle.judged.specs.LogRead.{ReadsLog}
+use Rattle.image_log.specs.LogRead.{ReadsLog}
 use Rattle.judged.specs.Judging.{placesIn, Judges, Copies}
 use Rattle.judged.specs.JudgingLaws.{judged, past-used, other-log, unjudged}
 use Rattle.judged.proofs.judging.judge.Statement.{statement}

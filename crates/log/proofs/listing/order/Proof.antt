@@ -11,8 +11,8 @@ use Rattle.model.specs.Order.{State}
 use Rattle.table.specs.Table.{messageFrom, setIn}
 use Rattle.needs.specs.RowLaws.{rows-fit}
 use Rattle.log.specs.declared.next.Next.the-variants.{At}
-use Rattle.log.specs.Sorted.{Sorted}
-use Rattle.log.specs.SortedLaws.{sorted-take}
+use Rattle.sorting.specs.Sorted.{Sorted}
+use Rattle.sorting.specs.SortedLaws.{sorted-take}
 use Rattle.log.specs.Next.{Lookable, Skips, NextRight}
 use Rattle.log.specs.NextLaws.{skips-on, skips-marked, next-right}
 use Rattle.log.specs.Ordered.{Growing}

@@ -8,7 +8,7 @@ use Rattle.model.specs.Bytes.{join}
 use Rattle.order.specs.ListLaws.{getD-∈}
 use Rattle.table.specs.Places.{AllBelow}
 use Rattle.needs.specs.Rows.{rowSize, rowIn, RowFits}
-use Rattle.closure.specs.Ready.{marksSize}
+use Rattle.ready.specs.Ready.{marksSize}
 use Rattle.unneeded.specs.Marks.{marked}
 use Rattle.unneeded.specs.MarkLaws.{length-marked, needs-next, needs-none, row-lent, row-below}
 use Rattle.unneeded.proofs.marks.mark_needs.Statement.{statement}

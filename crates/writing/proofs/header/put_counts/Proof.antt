@@ -3,7 +3,7 @@ use mathlib.Core.Path.{_∙_, ap}
 use mathlib.Core.List.{List, [], _∷_}
 use Prim.Native.Nat.{ℕ}
 use Rattle.model.specs.Layout.{priorityFlagAt, dependencyCountAt, commandCountAt}
-use Rattle.image.specs.Pieces.{pasted}
+use Rattle.image_header.specs.Pieces.{pasted}
 use Rattle.writing.specs.WritingLaws.{counts-pasted}
 use borrow.Author.Needs.{needs}
 use Rattle.writing.proofs.header.put_counts.Statement.{statement}

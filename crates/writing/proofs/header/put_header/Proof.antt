@@ -1,7 +1,7 @@
 -- Each case of the priority has its own numbers.
 use mathlib.Core.Path.{sym, _∙_, ap}
 use Rattle.message.specs.declared.header.Priority.{Priority}
-use Rattle.image.specs.Pieces.{pasted}
+use Rattle.image_header.specs.Pieces.{pasted}
 use Rattle.writing.specs.Writing.{headerWith}
 use borrow.Author.Needs.{needs}
 use Rattle.writing.proofs.header.put_header.Statement.{statement}

@@ -5,7 +5,7 @@ use Prim.Native.Nat.{ℕ}
 use Rattle.model.specs.Bytes.{bytes}
 use Rattle.model.specs.Layout.{lengthAt, sequenceAt, groupAt, sequenceSize}
 use Rattle.sequence.specs.Sequence.{sequenceNumber}
-use Rattle.image.specs.Pieces.{pasted}
+use Rattle.image_header.specs.Pieces.{pasted}
 use Rattle.writing.specs.Writing.{offsetsBytes, fieldsBytes}
 use Rattle.writing.specs.WritingLaws.{header-pasted}
 use borrow.Author.Needs.{needs}

@@ -10,8 +10,8 @@ use Rattle.model.specs.Layout.{sequenceSize}
 use Rattle.order.specs.ListLaws.{getD-map}
 use Rattle.sequence.specs.Sequence.{sequenceNumber}
 use Rattle.table.specs.Places.{sequenceIn}
-use Rattle.image.specs.LogPlaceLaws.{place-inside}
-use Rattle.image.specs.Pieces.{pasted}
+use Rattle.image_sections.specs.LogPlaceLaws.{place-inside}
+use Rattle.image_header.specs.Pieces.{pasted}
 use Rattle.writing.specs.Writing.{namesAt, sequencesBytes}
 use Rattle.writing.specs.WritingLaws.{sequences-next}
 use Rattle.writing.proofs.sequences.put_sequences.Statement.{statement}

@@ -1,0 +1,3 @@
+// What an operation makes of a value, and values as words.
+pub mod integers;
+pub mod operations;

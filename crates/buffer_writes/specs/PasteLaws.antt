@@ -1,0 +1,52 @@
+-- Copies into a list: two neighbouring ones are one; and what parts of it are then.
+use mathlib.Core.Path.{_≡_, sym, _∙_, ap, ap₂}
+use mathlib.Core.List.{List, _++_, append-assoc}
+use Prim.Native.Nat.{ℕ, _+_, _/_, _^_, _≤_}
+use native.Mathlib.Omega.{arith}
+use lib.ListN.{length, take, drop, length-drop, take-append-drop}
+use lib.Seq.{paste, take-paste, drop-paste, drop-drop, take-append-add, take-all, length-take-le, take-append-le, drop-append-le, take-at, drop-at}
+use Rattle.model.specs.Bytes.{bytes}
+use Rattle.wire_laws.specs.BytesLaws.{length-bytes}
+use Rattle.buffer.specs.FieldLaws.{bytes-split}
+
+pub paste-paste : (d : List ℕ) (at : ℕ) (x y : List ℕ) (n k : ℕ) → at + n ≤ length d → length x ≡ n
+    → paste (paste d at x n) (at + n) y k ≡ paste d at (x ++ y) (n + k)
+paste-paste d at x y n k h e =
+    ap₂ (λ (u v : List ℕ). u ++ take k y ++ v) head rest
+    ∙ ap (λ (u : List ℕ). u ++ drop (at + (n + k)) d) (append-assoc (take at d) x (take k y) ∙ ap (λ (u : List ℕ). take at d ++ u) (sym middle))
+  where
+    head : take (at + n) (paste d at x n) ≡ take at d ++ x
+    head = take-paste d at x n (omega arith) (omega arith) ∙ ap (λ (u : List ℕ). take at d ++ u) (take-all n x (omega arith))
+
+    rest : drop (at + n + k) (paste d at x n) ≡ drop (at + (n + k)) d
+    rest =
+        sym (drop-drop k (at + n) (paste d at x n)) ∙ ap (drop k) (drop-paste d at x n (omega arith) (omega arith)) ∙ drop-drop k (at + n) d
+        ∙ ap (λ (z : ℕ). drop z d) {x = at + n + k} {y = at + (n + k)} (omega arith)
+
+    middle : take (n + k) (x ++ y) ≡ x ++ take k y
+    middle = ap (λ (z : ℕ). take (z + k) (x ++ y)) (sym e) ∙ take-append-add x y k
+
+-- a number written in two parts, the high one first
+pub paste-halves : (d : List ℕ) (at n k v : ℕ) → at + n ≤ length d
+    → paste (paste d at (bytes n (v / 256 ^ k)) n) (at + n) (bytes k v) k ≡ paste d at (bytes (n + k) v) (n + k)
+paste-halves d at n k v h =
+    paste-paste d at (bytes n (v / 256 ^ k)) (bytes k v) n k h (length-bytes n (v / 256 ^ k))
+    ∙ ap (λ (b : List ℕ). paste d at b (n + k)) (sym (bytes-split n k v))
+
+-- ---- parts of a list into which another is pasted
+part-of-first : (xs ys : List ℕ) (j n : ℕ) → j + n ≤ length xs → take n (drop j (xs ++ ys)) ≡ take n (drop j xs)
+part-of-first xs ys j n h = ap (take n) (drop-append-le j xs ys (omega arith)) ∙ take-append-le n (drop j xs) ys (omega (arith, length-drop j xs))
+
+pub part-before : (d : List ℕ) (at : ℕ) (s : List ℕ) (m j n : ℕ) → at ≤ length d → j + n ≤ at → take n (drop j (paste d at s m)) ≡ take n (drop j d)
+part-before d at s m j n h k =
+    let inside : j + n ≤ length (take at d) = omega (arith, length-take-le at d h) in
+    ap (λ (l : List ℕ). take n (drop j l)) (append-assoc (take at d) (take m s) (drop (at + m) d))
+    ∙ part-of-first (take at d) (take m s ++ drop (at + m) d) j n inside ∙ sym (part-of-first (take at d) (drop at d) j n inside)
+    ∙ ap (λ (l : List ℕ). take n (drop j l)) (take-append-drop at d)
+
+pub part-here : (d : List ℕ) (at : ℕ) (s : List ℕ) (n : ℕ) → at ≤ length d → n ≡ length s → take n (drop at (paste d at s n)) ≡ s
+part-here d at s n h e =
+    let behind : List ℕ = drop (at + n) d in
+    ap (λ (l : List ℕ). take n (drop at l)) (append-assoc (take at d) (take n s) behind)
+    ∙ ap (take n) (drop-at (take at d) (take n s ++ behind) at (length-take-le at d h))
+    ∙ take-at (take n s) behind n (length-take-le n s (omega arith)) ∙ take-all n s (omega arith)

@@ -1,0 +1,34 @@
+-- The second half is written behind the first.
+use mathlib.Core.Path.{_∙_, ap}
+use mathlib.Core.List.{List}
+use Prim.Native.Nat.{ℕ}
+use native.Mathlib.Omega.{arith}
+use Rattle.model.specs.Layout.{setpointsOffsetAt}
+use Rattle.image_header.specs.Pieces.{pasted, countsBytes, offsetsBytes}
+use Rattle.image_header.specs.PieceLaws.{pasted-pasted}
+use borrow.Author.Needs.{needs}
+use Rattle.image_header.proofs.put_header.Statement.{statement}
+use Rattle.image_header.proofs.put_header.Tie as tie
+
+put-counts-requires : tie.Need-put-counts-requires
+put-counts-requires c κs = search needs
+
+put-offsets-requires : tie.Need-put-offsets-requires
+put-offsets-requires c κs = search needs
+
+same-length : tie.Need-same-length
+same-length c = search needs
+
+returns : tie.Need-returns
+returns c =
+    let offsets = c .before .before in
+    let counts = offsets .before .before .before .before in
+    let s = counts .before .before .before in
+    let a = s .args in
+    let room = s .pre in
+    offsets .put-offsets .ensures
+    ∙ ap (λ (b : List ℕ). pasted b setpointsOffsetAt (offsetsBytes (a .start) (a .used))) (counts .put-counts .ensures)
+    ∙ pasted-pasted (a .out .now) 0 (countsBytes (a .log) (a .held)) (offsetsBytes (a .start) (a .used)) (omega arith)
+
+pub put-header-spec : {M : Type 1} → statement M
+put-header-spec = tie.close (tie.spec put-counts-requires put-offsets-requires same-length returns)

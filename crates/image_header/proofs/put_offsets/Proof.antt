@@ -1,0 +1,66 @@
+-- Each number is written behind the one before it.
+use mathlib.Core.Path.{_∙_, ap}
+use mathlib.Core.List.{List}
+use Prim.Native.Nat.{ℕ, _+_}
+use lib.Seq.{paste}
+use Rattle.model.specs.Bytes.{bytes}
+use Rattle.model.specs.Layout.{messagesOffsetAt, usedAt, zerosAt}
+use Rattle.image_header.specs.PieceLaws.{offsets-pasted}
+use borrow.Author.Needs.{needs}
+use Rattle.image_header.proofs.put_offsets.Statement.{statement}
+use Rattle.image_header.proofs.put_offsets.Tie as tie
+
+cast-put-u16 : tie.Need-cast-put-u16
+cast-put-u16 c = search needs
+
+put-u16-requires : tie.Need-put-u16-requires
+put-u16-requires c κs = search needs
+
+put-u16-requires-2 : tie.Need-put-u16-requires-2
+put-u16-requires-2 c κs = search needs
+
+put-u16-requires-3 : tie.Need-put-u16-requires-3
+put-u16-requires-3 c κs = search needs
+
+put-u16-requires-4 : tie.Need-put-u16-requires-4
+put-u16-requires-4 c κs = search needs
+
+add-put-u32 : tie.Need-add-put-u32
+add-put-u32 c = search needs
+
+put-u32-requires : tie.Need-put-u32-requires
+put-u32-requires c κs = search needs
+
+same-length : tie.Need-same-length
+same-length c = search needs
+
+returns : tie.Need-returns
+returns c =
+    let last = c .before .before in
+    let zeros = last .before .before .before .before in
+    let used = zeros .before .before .before .before in
+    let messages = used .before .before .before .before in
+    let setpoints = messages .before .before .before .before in
+    let s = setpoints .before .before .before in
+    last .put-u32 .ensures
+    ∙ ap (λ (b : List ℕ). paste b (zerosAt + 2) (bytes 4 0) 4)
+    (zeros .put-u164 .ensures
+    ∙ ap (λ (b : List ℕ). paste b zerosAt (bytes 2 0) 2)
+    (used .put-u163 .ensures
+    ∙ ap (λ (b : List ℕ). paste b usedAt (bytes 2 (s .args .used)) 2)
+    (messages .put-u162 .ensures ∙ ap (λ (b : List ℕ). paste b messagesOffsetAt (bytes 2 (s .args .start)) 2) (setpoints .put-u16 .ensures))))
+    ∙ offsets-pasted (s .args .out .now) (s .args .start) (s .args .used) (s .pre)
+
+pub put-offsets-spec : {M : Type 1} → statement M
+put-offsets-spec =
+    tie.close
+    (tie.spec
+    cast-put-u16
+    put-u16-requires
+    put-u16-requires-2
+    put-u16-requires-3
+    put-u16-requires-4
+    add-put-u32
+    put-u32-requires
+    same-length
+    returns)

@@ -1,0 +1,2 @@
+pub mod LogRead
+pub mod LogReadLaws

@@ -1,0 +1,4 @@
+pub mod LogPlaces
+pub mod LogPlaceLaws
+pub mod HeldLaws
+pub mod SectionLaws

@@ -1,0 +1,72 @@
+-- The places of a log are a table's, at most 64; and messages at places taken one at a time.
+use mathlib.Core.Path.{_≡_, refl, sym, _∙_, ap, subst}
+use mathlib.Core.List.{List, [], _∷_, List·Memᴰ·not-nil, Memᴰ·map}
+use Prim.Native.Nat.{ℕ, _+_, _≤_, _<_}
+use native.Mathlib.Omega.{arith}
+use native.Mathlib.Numerals.{add-one}
+use lib.Dec.{T}
+use lib.ListN.{length, drop, getD, length-map, drop-of-length-le, List·getD-eq-default}
+use lib.Seq.{drop-cons}
+use Rattle.model.specs.Lists.{_∈_}
+use Rattle.model.specs.Layout.{headerSize, capacity}
+use Rattle.model.specs.Message.{Message, passes}
+use Rattle.model.specs.Order.{logOf}
+use Rattle.order.specs.ListLaws.{getD-∈}
+use Rattle.laws.specs.LogLaws.{log-received, log-length}
+use Rattle.wire_laws.specs.MessageLaws.{passes-sized, sized-range}
+use Rattle.table.specs.Table.{messageFrom, deltasOf, deltasAt, setIn, Holds}
+use Rattle.table.specs.PlaceLaws.{entry-passes}
+use Rattle.image_sections.specs.LogPlaces.{TablePlaces, LogPlaces}
+
+-- ---- the places of the log are inside, since no message of the log is empty
+delta-inside : (pool starts : List ℕ) → Holds pool starts → (i : ℕ) → getD (deltasOf pool starts) i [] ∈ deltasOf pool starts → i < length starts
+delta-inside pool starts holds i k =
+    let m : Message = getD (deltasOf pool starts) i [] in
+    let some : headerSize ≤ length m = omega (arith, sized-range m (passes-sized m (holds .pass m k)) .0) in
+    let past : length starts ≤ i → ⊥ = λ h.
+    let out : length (deltasOf pool starts) ≤ i = omega (arith, length-map starts (messageFrom pool)) in
+    let none : length m ≡ 0 = ap length (List·getD-eq-default (deltasOf pool starts) [] out) in omega arith
+    in omega arith
+
+pub log-inside : (pool starts places : List ℕ) → LogPlaces pool starts places → TablePlaces pool starts places
+log-inside pool starts places l = record {
+  holds = l .holds;
+  inside = λ i k.
+      delta-inside pool starts (l .holds) i
+      (log-received (setIn pool starts) (l .holds .ascends) (getD (deltasOf pool starts) i [])
+      (subst (λ (x : List Message). getD (deltasOf pool starts) i [] ∈ x) (l .log) (Memᴰ·map (λ (j : ℕ). getD (deltasOf pool starts) j []) k)));
+}
+
+-- ---- how many places there are
+pub log-count : (pool starts places : List ℕ) → LogPlaces pool starts places → length places ≡ length (logOf (setIn pool starts))
+log-count pool starts places l = sym (length-map places (λ (i : ℕ). getD (deltasOf pool starts) i [])) ∙ ap length (l .log)
+
+pub table-count : (pool starts : List ℕ) → Holds pool starts → length starts ≤ capacity
+table-count pool starts holds = omega (arith, length-map starts (messageFrom pool), holds .fits)
+
+pub log-fits : (pool starts places : List ℕ) → LogPlaces pool starts places → length places ≤ capacity
+log-fits pool starts places l = omega (arith, log-count pool starts places l, log-length (setIn pool starts) (l .holds .ascends), l .holds .fits)
+
+-- ---- the place at k is one of the table's, and its message passes
+pub place-inside : (pool starts places : List ℕ) → TablePlaces pool starts places → (k : ℕ) → k < length places → getD places k 0 < length starts
+place-inside pool starts places p k h = p .inside (getD places k 0) (getD-∈ places k 0 h)
+
+pub place-passes : (pool starts places : List ℕ) → TablePlaces pool starts places → (k : ℕ) → k < length places → T (passes (getD (deltasOf pool starts) (getD places k 0) []))
+place-passes pool starts places p k h = entry-passes pool starts (p .holds) (getD places k 0) (place-inside pool starts places p k h)
+
+-- ---- the messages from the place at k on: that one's, and those from k + 1 on; none past the last
+pub next-message : (l : List Message) (places : List ℕ) (k : ℕ) → k < length places
+    → deltasAt l (drop k places) ≡ getD l (getD places k 0) [] ∷ deltasAt l (drop (k + 1) places)
+next-message l places k h =
+    ap (deltasAt l) (drop-cons places k 0 h) ∙ ap (λ (n : ℕ). getD l (getD places k 0) [] ∷ deltasAt l (drop n places)) (sym (add-one k))
+
+pub no-message : (l : List Message) (places : List ℕ) (k : ℕ) → length places ≤ k → deltasAt l (drop k places) ≡ []
+no-message l places k h = ap (deltasAt l) (drop-of-length-le places h)
+
+-- ---- the empty set has an empty log
+pub empty-log : LogPlaces [] [] []
+unfolding logOf
+empty-log = record {
+  holds = record { ascends = tt; fits = omega arith; pass = λ m k. absurd (List·Memᴰ·not-nil k) };
+  log = refl;
+}

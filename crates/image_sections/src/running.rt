@@ -1,0 +1,39 @@
+// The setpoints that a log leaves.
+use buffer::byte;
+use layout::DEPENDENCY_COUNT_AT;
+use layout::TAG_COUNT;
+use setpoints::run_delta;
+use setpoints::values::start_values;
+use table::entry::message_at;
+ghost use mathlib.Core.Path.{_≡_};
+ghost use lib.Dec.{T};
+ghost use Rattle.model.specs.Message.{passes};
+ghost use Rattle.model.specs.Setpoints.{runDelta, setpointsOf};
+ghost use Rattle.table.specs.Table.{setIn};
+ghost use Rattle.image_sections.specs.LogPlaces.{LogPlaces};
+
+// Runs the commands of a message.
+fn run_message(values: [i32; TAG_COUNT], m: &[u8]) -> [i32; TAG_COUNT]
+    requires { ⌜ T (passes (now m)) ⌝ }
+    ensures { λ r. ⌜ r ≡ runDelta (now (m .entry)) values ⌝ }
+{
+    let dependencies = byte(m, DEPENDENCY_COUNT_AT) as usize;
+    run_delta(values, m, dependencies)
+}
+
+// Runs the log's deltas from first to last.
+pub fn run_log(pool: &[u8], starts: &[u16], places: &[u8]) -> [i32; TAG_COUNT]
+    requires { ⌜ LogPlaces (now pool) (now starts) (now places) ⌝ }
+    ensures { λ r. ⌜ r ≡ setpointsOf (setIn (now (pool .entry)) (now (starts .entry))) ⌝ }
+{
+    let mut values = start_values();
+    let mut k = 0;
+    while k < places.len() {
+        let place = places[k] as usize;
+        let m = message_at(pool, starts, place);
+        let next = run_message(values, m);
+        values = next;
+        k += 1;
+    }
+    values
+}

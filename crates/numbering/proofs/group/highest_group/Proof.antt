@@ -1,0 +1,106 @@
+-- The highest so far and those that are left make up the highest.
+use mathlib.Core.Path.{_≡_, _∙_, ap}
+use mathlib.Core.List.{[]}
+use Prim.Native.Nat.{_-_, _≤_, max}
+use native.Mathlib.Omega.{arith}
+use lib.ListN.{length, drop}
+use borrow.Author.Needs.{needs}
+use lib.ListN.{getD}
+use Rattle.model.specs.Lists.{greatest}
+use Rattle.model.specs.Layout.{fieldLimit}
+use Rattle.model.specs.Message.{Message, groupOf}
+use Rattle.table.specs.Table.{deltasOf, deltasAt}
+use Rattle.table.specs.PlaceLaws.{entry-long}
+use Rattle.image_sections.specs.LogPlaceLaws.{place-inside, place-passes}
+use Rattle.numbering.specs.NumberLaws.{greatest-next, greatest-last}
+use Rattle.numbering.specs.GroupLaws.{group-small}
+use Rattle.numbering.proofs.group.highest_group.Statement.{statement}
+use Rattle.numbering.proofs.group.highest_group.Tie as tie
+
+abbrev Inv-loop : tie.InvT-loop
+Inv-loop pool starts places highest₀ k₀ highest k =
+    (k ≤ length places)
+    × (greatest groupOf (deltasAt (deltasOf pool starts) places) ≡ max highest (greatest groupOf (deltasAt (deltasOf pool starts) (drop k places))))
+    × (highest ≤ fieldLimit)
+
+abbrev μ-loop : tie.MeasureT-loop
+μ-loop pool starts places highest₀ k₀ highest k = length places - k
+
+-- where the call began, and the head of the loop from where the place was read
+abbrev start : tie.At-loop Inv-loop μ-loop → tie.Start Inv-loop μ-loop
+start h = h .before .before .before .before
+
+abbrev turn : tie.After-shared-slice-known4 Inv-loop μ-loop → tie.At-loop Inv-loop μ-loop
+turn c = c .before .before
+
+loop-holds : tie.Need-loop-holds Inv-loop μ-loop
+loop-holds c = (omega arith, omega arith, omega arith)
+
+shared-slice-read-message-at : tie.Need-shared-slice-read-message-at Inv-loop μ-loop
+shared-slice-read-message-at c = omega arith
+
+cast-message-at : tie.Need-cast-message-at Inv-loop μ-loop
+cast-message-at c = omega (arith, c .shared-slice-known4 .given (turn c .loop .k))
+
+message-at-requires : tie.Need-message-at-requires Inv-loop μ-loop
+message-at-requires c κs =
+    let s = start (turn c) in
+    (s .pre .holds, place-inside (s .args .pool .now) (s .args .starts .now) (s .args .places .now) (s .pre) (turn c .loop .k) (omega arith))
+
+get-u32-requires : tie.Need-get-u32-requires Inv-loop μ-loop
+get-u32-requires c κs =
+    let h = turn (c .before) in
+    let s = start h in
+    let a = s .args in
+    omega (
+      arith,
+      ap length (c .message-at .ensures),
+      entry-long (a .pool .now) (a .starts .now) (s .pre .holds) (getD (a .places .now) (h .loop .k) 0) (place-inside (a .pool .now) (a .starts .now) (a .places .now) (s .pre) (h .loop .k) (omega arith)),
+    )
+
+greater-requires : tie.Need-greater-requires Inv-loop μ-loop
+greater-requires c κs = search needs
+
+add-k : tie.Need-add-k Inv-loop μ-loop
+add-k c = omega arith
+
+loop-less : tie.Need-loop-less Inv-loop μ-loop
+loop-less c = omega arith
+
+loop-again : tie.Need-loop-again Inv-loop μ-loop
+loop-again c =
+    let read = c .before .before in
+    let h = turn (read .before) in
+    let l = h .loop in
+    let s = start h in
+    let a = s .args in
+    let m : Message = getD (deltasOf (a .pool .now) (a .starts .now)) (getD (a .places .now) (l .k) 0) [] in
+    let group : c .before .get-u32 .result ≡ groupOf m = c .before .get-u32 .ensures ∙ ap groupOf (read .message-at .ensures) in (
+      omega arith,
+      greatest-next (deltasOf (a .pool .now) (a .starts .now)) (a .places .now) (l .k) groupOf _ (c .greater .result) (l .highest) (omega arith) (l .inv .1) (c .greater .ensures ∙ ap (max (l .highest)) group),
+      omega (arith, c .greater .ensures, group, group-small m (place-passes (a .pool .now) (a .starts .now) (a .places .now) (s .pre) (l .k) (omega arith)), l .inv .2),
+    )
+
+returns : tie.Need-returns Inv-loop μ-loop
+returns c =
+    let h = c .before in
+    let l = h .loop in
+    let a = start h .args in
+    (greatest-last (deltasOf (a .pool .now) (a .starts .now)) (a .places .now) (l .k) groupOf _ (l .highest) (omega arith) (l .inv .1), l .inv .2)
+
+pub highest-group-spec : {M : Type 1} → statement M
+highest-group-spec =
+    tie.close
+    (tie.spec
+    Inv-loop
+    μ-loop
+    loop-holds
+    shared-slice-read-message-at
+    cast-message-at
+    message-at-requires
+    get-u32-requires
+    greater-requires
+    add-k
+    loop-less
+    loop-again
+    returns)

@@ -1,0 +1,81 @@
+-- The last delta decides between the highest group and one more.
+use mathlib.Core.Path.{sym, _∙_}
+use mathlib.Core.List.{List}
+use Prim.Native.Nat.{_-_}
+use native.Mathlib.Omega.{arith}
+use native.Mathlib.Numerals.{add-one}
+use lib.ListN.{length}
+use Rattle.model.specs.Message.{Message}
+use Rattle.sequence.specs.Sequence.{sequenceNumber}
+use Rattle.table.specs.Table.{deltasOf}
+use Rattle.image_sections.specs.LogPlaceLaws.{place-inside}
+use Rattle.numbering.specs.GroupLaws.{group-first, group-above, group-same}
+use borrow.Author.Needs.{needs}
+use Rattle.numbering.proofs.group.new_group.Statement.{statement}
+use Rattle.numbering.proofs.group.new_group.Tie as tie
+
+-- where the call began; and where the log was seen to have a delta, from where the last one is compared
+abbrev began : tie.Else1 → tie.Start
+began c = c .before .before .before .before
+
+abbrev some : tie.After-less → tie.Else1
+some c = c .before .before .before .before
+
+abbrev deltas : tie.Start → List Message
+deltas s = deltasOf (s .args .pool .now) (s .args .starts .now)
+
+returns : tie.Need-returns
+returns c = let s = c .before .before .before .before in group-first (deltas s) (s .args .places .now) (sequenceNumber (s .args .s)) (c .if1 .taken)
+
+highest-group-requires : tie.Need-highest-group-requires
+highest-group-requires c κs = search needs
+
+sub-last : tie.Need-sub-last
+sub-last c = search needs
+
+shared-slice-read-last : tie.Need-shared-slice-read-last
+shared-slice-read-last c = search needs
+
+cast-last : tie.Need-cast-last
+cast-last c = omega (arith, c .shared-slice-known4 .given (length (began (c .before .before) .args .places .now) - 1))
+
+sequence-at-requires : tie.Need-sequence-at-requires
+sequence-at-requires c κs =
+    let s = began (c .before .before) in
+    (s .pre .holds, place-inside (s .args .pool .now) (s .args .starts .now) (s .args .places .now) (s .pre) (length (s .args .places .now) - 1) (omega arith))
+
+less-requires : tie.Need-less-requires
+less-requires c κs = search needs
+
+add-result : tie.Need-add-result
+add-result c = search needs
+
+returns-2 : tie.Need-returns-2
+returns-2 c =
+    let l = c .before in
+    let s = began (some l) in
+    let high = l .before .before .before in
+    add-one (high .highest-group .result)
+    ∙ sym (group-above (deltas s) (s .args .places .now) (sequenceNumber (s .args .s)) (sequenceNumber (l .before .sequence-at .result)) (high .highest-group .result) (omega arith) (l .before .sequence-at .ensures) (high .highest-group .ensures .0) (sym (l .less .ensures) ∙ c .if2 .taken))
+
+returns-3 : tie.Need-returns-3
+returns-3 c =
+    let l = c .before in
+    let s = began (some l) in
+    let high = l .before .before .before in
+    sym (group-same (deltas s) (s .args .places .now) (sequenceNumber (s .args .s)) (sequenceNumber (l .before .sequence-at .result)) (high .highest-group .result) (omega arith) (l .before .sequence-at .ensures) (high .highest-group .ensures .0) (sym (l .less .ensures) ∙ c .if2 .left))
+
+pub new-group-spec : {M : Type 1} → statement M
+new-group-spec =
+    tie.close
+    (tie.spec
+    returns
+    highest-group-requires
+    sub-last
+    shared-slice-read-last
+    cast-last
+    sequence-at-requires
+    less-requires
+    add-result
+    returns-2
+    returns-3)

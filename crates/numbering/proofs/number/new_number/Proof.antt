@@ -1,0 +1,111 @@
+-- The greatest so far and those that are left make up the line's greatest.
+use mathlib.Core.Path.{_≡_, _∙_, ap}
+use mathlib.Core.List.{List}
+use Prim.Native.Nat.{ℕ, suc, _-_, _≤_, _<_, max}
+use native.Mathlib.Omega.{arith}
+use lib.ListN.{length, drop}
+use borrow.Author.Needs.{needs}
+use native.Mathlib.Numerals.{add-one}
+use Rattle.model.specs.Lists.{greatest}
+use Rattle.model.specs.Layout.{numbersOfLine}
+use Rattle.model.specs.Message.{Message, sequenceOf, lineOf}
+use Rattle.sequence.specs.Sequence.{sequenceNumber}
+use Rattle.table.specs.Table.{deltasOf, deltasAt}
+use Rattle.image_sections.specs.LogPlaceLaws.{place-inside}
+use Rattle.numbering.specs.Numbers.{numberOn}
+use Rattle.numbering.specs.NumberLaws.{greatest-next, greatest-last, number-small}
+use Rattle.numbering.proofs.number.new_number.Statement.{statement}
+use Rattle.numbering.proofs.number.new_number.Tie as tie
+
+-- the greatest number of a line
+abbrev highest : ℕ → List Message → ℕ
+highest line = greatest (λ m. numberOn line (sequenceOf m))
+
+abbrev Inv-loop : tie.InvT-loop
+Inv-loop pool starts places line greatest₀ k₀ so k =
+    (k ≤ length places)
+    × (highest (lineOf (sequenceNumber line)) (deltasAt (deltasOf pool starts) places) ≡ max so (highest (lineOf (sequenceNumber line)) (deltasAt (deltasOf pool starts) (drop k places))))
+    × (so < numbersOfLine)
+
+abbrev μ-loop : tie.MeasureT-loop
+μ-loop pool starts places line greatest₀ k₀ so k = length places - k
+
+-- where the call began, and the head of the loop from where the place was read
+abbrev start : tie.At-loop Inv-loop μ-loop → tie.Start Inv-loop μ-loop
+start h = h .before .before .before .before
+
+abbrev turn : tie.After-shared-slice-known4 Inv-loop μ-loop → tie.At-loop Inv-loop μ-loop
+turn c = c .before .before
+
+abbrev line : tie.Start Inv-loop μ-loop → ℕ
+line s = lineOf (sequenceNumber (s .args .line))
+
+loop-holds : tie.Need-loop-holds Inv-loop μ-loop
+loop-holds c = (omega arith, omega arith, omega arith)
+
+shared-slice-read-sequence-at : tie.Need-shared-slice-read-sequence-at Inv-loop μ-loop
+shared-slice-read-sequence-at c = omega arith
+
+cast-sequence-at : tie.Need-cast-sequence-at Inv-loop μ-loop
+cast-sequence-at c = omega (arith, c .shared-slice-known4 .given (turn c .loop .k))
+
+sequence-at-requires : tie.Need-sequence-at-requires Inv-loop μ-loop
+sequence-at-requires c κs =
+    let s = start (turn c) in
+    (s .pre .holds, place-inside (s .args .pool .now) (s .args .starts .now) (s .args .places .now) (s .pre) (turn c .loop .k) (omega arith))
+
+number-on-requires : tie.Need-number-on-requires Inv-loop μ-loop
+number-on-requires c κs = search needs
+
+greater-requires : tie.Need-greater-requires Inv-loop μ-loop
+greater-requires c κs = search needs
+
+add-k : tie.Need-add-k Inv-loop μ-loop
+add-k c = omega arith
+
+loop-less : tie.Need-loop-less Inv-loop μ-loop
+loop-less c = omega arith
+
+loop-again : tie.Need-loop-again Inv-loop μ-loop
+loop-again c =
+    let read = c .before .before in
+    let h = turn (read .before) in
+    let l = h .loop in
+    let s = start h in
+    let a = s .args in
+    let new = c .greater .ensures ∙ ap (max (l .greatest)) (c .before .number-on .ensures ∙ ap (numberOn (line s)) (read .sequence-at .ensures)) in (
+      omega arith,
+      greatest-next (deltasOf (a .pool .now) (a .starts .now)) (a .places .now) (l .k) (λ m. numberOn (line s) (sequenceOf m)) _ (c .greater .result) (l .greatest) (omega arith) (l .inv .1) new,
+      omega (arith, c .greater .ensures, c .before .number-on .ensures, number-small (line s) (sequenceNumber (read .sequence-at .result)), l .inv .2),
+    )
+
+add-result : tie.Need-add-result Inv-loop μ-loop
+add-result c = omega (arith, c .before .loop .inv .2)
+
+returns : tie.Need-returns Inv-loop μ-loop
+returns c =
+    let h = c .before in
+    let l = h .loop in
+    let s = start h in
+    let a = s .args in (
+      add-one (l .greatest) ∙ ap suc (greatest-last (deltasOf (a .pool .now) (a .starts .now)) (a .places .now) (l .k) (λ m. numberOn (line s) (sequenceOf m)) _ (l .greatest) (omega arith) (l .inv .1)),
+      omega (arith, l .inv .2),
+    )
+
+pub new-number-spec : {M : Type 1} → statement M
+new-number-spec =
+    tie.close
+    (tie.spec
+    Inv-loop
+    μ-loop
+    loop-holds
+    shared-slice-read-sequence-at
+    cast-sequence-at
+    sequence-at-requires
+    number-on-requires
+    greater-requires
+    add-k
+    loop-less
+    loop-again
+    add-result
+    returns)

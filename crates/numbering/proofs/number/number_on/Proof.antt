@@ -1,0 +1,27 @@
+-- The line decides.
+use mathlib.Core.Path.{sym, _∙_, ap}
+use mathlib.Core.Bool.{Bool, cond}
+use Rattle.model.specs.Message.{numberOf}
+use Rattle.sequence.specs.Sequence.{sequenceNumber}
+use borrow.Author.Needs.{needs}
+use Rattle.numbering.proofs.number.number_on.Statement.{statement}
+use Rattle.numbering.proofs.number.number_on.Tie as tie
+
+same-line-requires : tie.Need-same-line-requires
+same-line-requires c κs = search needs
+
+number-of-requires : tie.Need-number-of-requires
+number-of-requires c κs = search needs
+
+returns : tie.Need-returns
+returns c =
+    let told = c .before .before in
+    c .number-of .ensures ∙ ap (λ (b : Bool). cond b (numberOf (sequenceNumber (told .before .args .s))) 0) (sym (c .before .if1 .taken) ∙ told .same-line .ensures)
+
+returns-2 : tie.Need-returns-2
+returns-2 c =
+    let told = c .before in
+    ap (λ (b : Bool). cond b (numberOf (sequenceNumber (told .before .args .s))) 0) (sym (c .if1 .left) ∙ told .same-line .ensures)
+
+pub number-on-spec : {M : Type 1} → statement M
+number-on-spec = tie.close (tie.spec same-line-requires number-of-requires returns returns-2)

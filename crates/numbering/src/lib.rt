@@ -1,0 +1,3 @@
+// A new delta's number on its line, and its group.
+pub mod group;
+pub mod number;

@@ -1,0 +1,40 @@
+// The number of a new delta: one more than its line's greatest in the log.
+use ready::greater;
+use sequence::Sequence;
+use sequence::number_of;
+use sequence::same_line;
+use table::entry::sequence_at;
+ghost use mathlib.Core.Path.{_≡_};
+ghost use Prim.Native.Nat.{_≤_};
+ghost use Rattle.model.specs.Layout.{numbersOfLine};
+ghost use Rattle.model.specs.Message.{lineOf};
+ghost use Rattle.model.specs.Compose.{newNumber};
+ghost use Rattle.sequence.specs.Sequence.{sequenceNumber};
+ghost use Rattle.table.specs.Table.{deltasOf, deltasAt};
+ghost use Rattle.image_sections.specs.LogPlaces.{TablePlaces};
+ghost use Rattle.numbering.specs.Numbers.{numberOn};
+
+// The number of a sequence that is on a line; 0 of any other.
+fn number_on(s: Sequence, line: Sequence) -> u32
+    ensures { λ r. ⌜ r ≡ numberOn (lineOf (sequenceNumber line)) (sequenceNumber s) ⌝ }
+{
+    if same_line(s, line) {
+        return number_of(s);
+    }
+    0
+}
+
+// One more than the greatest number of a line at the given places.
+pub fn new_number(pool: &[u8], starts: &[u16], places: &[u8], line: Sequence) -> u32
+    requires { ⌜ TablePlaces (now pool) (now starts) (now places) ⌝ }
+    ensures { λ r. ⌜ (r ≡ newNumber (deltasAt (deltasOf (now (pool .entry)) (now (starts .entry))) (now (places .entry))) (lineOf (sequenceNumber line))) × (r ≤ numbersOfLine) ⌝ }
+{
+    let mut greatest = 0;
+    let mut k = 0;
+    while k < places.len() {
+        let s = sequence_at(pool, starts, places[k] as usize);
+        greatest = greater(greatest, number_on(s, line));
+        k += 1;
+    }
+    greatest + 1
+}

@@ -1,0 +1,4 @@
+pub mod Reading
+pub mod SizeLaws
+pub mod ImageSetLaws
+pub mod ReadingLaws
