@@ -18,7 +18,7 @@ use Rattle.model.specs.Steps.{Step, undo, execute, readSteps}
 use Rattle.model.specs.Compose.{messageOf, newDependencies, composed}
 use Rattle.model.specs.Calls.{emptyState, Emptied, empty, Delivered, deliver, deliverCode, Composed, compose, composeCode, logMessage, logMessageCode, Setpoint, setpoint, Reader, start, next}
 use Rattle.model.specs.Program.{printedLine, lastLine, badCut, linesFrom, listing}
-use Rattle.model.proofs.ExampleMessages.{lineNumber, A, B, C, command, plain, urgent, right, a1, a2, b1, c2, b1-5, a1-value, lines}
+use Rattle.model.proofs.ExampleMessages.{A, B, C, command, plain, urgent, right, a1, a2, b1, c2, b1-5, a1-value, lines, lineA, lineC}
 
 -- ---- a buffer that is lent as an image
 data Buffer : Type 0 where
@@ -123,12 +123,6 @@ composePlain b line commands = composeOn b line lineSize commands 0 0 messageRoo
 
 abbrev composeUrgent : Buffer → ℕ → ℕ → Input
 composeUrgent b line priority = composeOn b line lineSize right 1 priority messageRoom
-
-abbrev lineA : ℕ
-lineA = lineNumber 0xA
-
-abbrev lineC : ℕ
-lineC = lineNumber 0xC
 
 -- log A1, B1, and C2 held
 abbrev station : Buffer

@@ -8,7 +8,7 @@ use Prim.Native.Nat.{ℕ, _+_}
 use lib.ListN.{take, replicate}
 use lib.IntN.{ℤ, pos}
 use Rattle.model.specs.Bytes.{bytes, field}
-use Rattle.model.specs.Layout.{messageRoom}
+use Rattle.model.specs.Layout.{imageSize, stepRoom, messageRoom}
 use Rattle.model.specs.Message.{Message, layoutRight, numbersRight, dependenciesRight, contentRight, commandRight, passes}
 use Rattle.model.specs.Order.{sequencesOf, needs, executablesOf, logOf, heldOf}
 use Rattle.model.specs.Setpoints.{startValues, stop, raise, operate, changeOf, apply, runCommand, runDelta, setpointsOf}
@@ -16,7 +16,14 @@ use Rattle.model.specs.Image.{messagesStart, messagesOf, valuesOf, headerOf, se
 use Rattle.model.specs.Steps.{Step, undo, execute, readSteps}
 use Rattle.model.specs.Compose.{messageOf, newDependencies, composed}
 use Rattle.model.specs.Calls.{empty, Delivered, deliver, deliverCode, compose, composeCode, setpoint}
-use Rattle.model.proofs.ExampleMessages.{lineNumber, A, B, C, command, a1, a2, b1, c2, stopped, b1-5, c1-7, raised, a1-group-2, a1-naming-b1, b1-naming-a1, stepBuffer, begun}
+use Rattle.model.proofs.ExampleMessages.{lineNumber, A, B, C, command, a1, a2, b1, c2, stopped, b1-5, c1-7, raised, a1-group-2, a1-naming-b1, b1-naming-a1}
+
+-- ---- a step buffer as lent, and the image that empty writes
+abbrev stepBuffer : List ℕ
+stepBuffer = replicate stepRoom 0xEE
+
+abbrev begun : List ℕ
+begun = empty (replicate imageSize 0xEE) .image
 
 -- ---- an example: what is done, and what comes of it
 data Input : Type 0 where

@@ -6,15 +6,12 @@ use Prim.Native.Nat.{ℕ}
 use lib.ListN.{replicate}
 use lib.IntN.{ℤ, pos}
 use Rattle.model.specs.Message.{Message}
-use Rattle.model.specs.Order.{State, stateOf, needs, executablesOf, logOf, heldOf}
+use Rattle.model.specs.Order.{needs, executablesOf, logOf, heldOf}
 use Rattle.model.specs.Setpoints.{startValues, stop, raise, operate, changeOf, apply, runCommand, runDelta, setpointsOf}
-use Rattle.model.specs.Image.{messagesStart, messagesOf, valuesOf, headerOf, sectionsOf, usedOf, messagesStartIn, setOf}
+use Rattle.model.specs.Image.{messagesStart, messagesOf, valuesOf, headerOf, sectionsOf, usedOf, messagesStartIn}
 use Rattle.model.specs.Steps.{undo, execute, stepBytes}
 use Rattle.model.specs.Calls.{written, emptyAnswer, Delivered, deliverAnswer, composeAnswer, setpointAnswer, start, nextMessage}
-use Rattle.model.proofs.ExampleMessages.{A, B, a1, a2, b1, c2}
-
-abbrev holding : List Message → State
-holding l = stateOf (setOf l)
+use Rattle.model.proofs.ExampleMessages.{A, B, a1, a2, b1, c2, holding}
 
 -- the bytes used of the image of A1 and B1 in the log and C2 held: all that these answers read of it
 abbrev used : List ℕ
@@ -53,11 +50,11 @@ accepted-holds : map (λ e. counts (deliverAnswer 0 (holding (e .0 .0)) [] (e .0
 unfolding accepted logOf needs
 accepted-holds = refl
 
--- ---- a refusal by 7, whatever else is given: deliver, compose, empty, setpoint
+-- ---- refusals: deliver by 7, compose by 9, empty by 1, setpoint by 12
 refused-delivery : deliverAnswer 7 (holding (b1 ∷ [])) used a1 lent ≡ record { code = 7; undos = 0; executions = 0; image = used; steps = lent }
 refused-delivery = refl
 
-refused-compose : composeAnswer 7 a1 lent ≡ record { code = 7; size = 0; message = lent }
+refused-compose : composeAnswer 9 a1 lent ≡ record { code = 9; size = 0; message = lent }
 refused-compose = refl
 
 refused-empty : emptyAnswer 1 lent ≡ record { code = 1; image = lent }

@@ -1,13 +1,9 @@
--- Each call's list has the numbers that document 01 gives it, in ascending order, so that the first that holds is the lowest;
--- and 8 applies from 64 on.
+-- Each call's list has the numbers that document 01 gives it, in ascending order, so that the first that holds is the lowest.
 use mathlib.Core.Path.{_≡_, refl}
-use mathlib.Core.Bool.{true, false}
 use mathlib.Core.List.{List, [], _∷_, map}
 use Prim.Native.Nat.{ℕ}
-use lib.ListN.{replicate}
 use Rattle.model.specs.Message.{Message}
-use Rattle.model.specs.Order.{stateOf}
-use Rattle.model.specs.Codes.{Conditions, full, emptyConditions, deliverConditions, composeConditions, logMessageConditions, setpointConditions}
+use Rattle.model.specs.Codes.{Conditions, emptyConditions, deliverConditions, composeConditions, logMessageConditions, setpointConditions}
 
 numbersOf : Conditions → List ℕ
 numbersOf l = map (λ c. c .0) l
@@ -33,11 +29,3 @@ log-message-meets b place = refl
 setpoint-meets : (b : List ℕ) (tag : ℕ) → numbersOf (setpointConditions b tag) ≡ 1 ∷ 2 ∷ 12 ∷ []
 unfolding numbersOf
 setpoint-meets b tag = refl
-
--- "64 present and this sequence new": not at 63. The empty message has the sequence 0, and the list's another.
-other : Message
-other = replicate 40 1
-
-eight-applies : full (stateOf (replicate 63 other)) [] ∷ full (stateOf (replicate 64 other)) [] ∷ [] ≡ false ∷ true ∷ []
-unfolding other
-eight-applies = refl

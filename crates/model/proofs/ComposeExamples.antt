@@ -4,22 +4,9 @@ use mathlib.Core.Bool.{Bool, true, false}
 use mathlib.Core.List.{List, [], _∷_, map}
 use Prim.Native.Nat.{ℕ}
 use Rattle.model.specs.Message.{Message}
-use Rattle.model.specs.Order.{State, stateOf, needs, logOf}
-use Rattle.model.specs.Image.{setOf}
+use Rattle.model.specs.Order.{needs, logOf}
 use Rattle.model.specs.Compose.{messageOf, newNumber, newDependencies, newGroup, newBlock, composed}
-use Rattle.model.proofs.ExampleMessages.{lineNumber, A, B, C, plain, urgent, right, a1, a2, b1, c2, b1-5, a1-group-2, a1-naming-b1, b1-naming-a1}
-
-abbrev holding : List Message → State
-holding l = stateOf (setOf l)
-
-abbrev lineA : ℕ
-lineA = lineNumber 0xA
-
-abbrev lineB : ℕ
-lineB = lineNumber 0xB
-
-abbrev lineC : ℕ
-lineC = lineNumber 0xC
+use Rattle.model.proofs.ExampleMessages.{A, B, C, plain, urgent, right, a1, a2, b1, c2, b1-5, a1-group-2, a1-naming-b1, b1-naming-a1, holding, lineA, lineB, lineC}
 
 -- ---- "Number is one more than the line's greatest in the log, or 0001": a log and a line
 numbers : List ((List Message × ℕ) × ℕ)

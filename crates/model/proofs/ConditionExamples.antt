@@ -10,20 +10,10 @@ use lib.Dec.{eqb}
 use lib.IntN.{pos}
 use Rattle.model.specs.Layout.{imageSize, fieldLimit}
 use Rattle.model.specs.Message.{Message, commandRight}
-use Rattle.model.specs.Order.{State, stateOf, needs, executablesOf, logOf, heldOf}
-use Rattle.model.specs.Image.{setOf}
+use Rattle.model.specs.Order.{stateOf, needs, executablesOf, logOf, heldOf}
 use Rattle.model.specs.Compose.{messageOf, newDependencies}
 use Rattle.model.specs.Codes.{Conditions, lowestCode, wrongSize, smallSteps, conflicts, full, commandsSized, composeContent, heldOn, pastLimit, manyDependencies, logMessageConditions, setpointConditions}
-use Rattle.model.proofs.ExampleMessages.{lineNumber, A, B, command, plain, urgent, right, a1, a2, b1, c2, a1-value, lines}
-
-abbrev holding : List Message → State
-holding l = stateOf (setOf l)
-
-abbrev lineA : ℕ
-lineA = lineNumber 0xA
-
-abbrev lineC : ℕ
-lineC = lineNumber 0xC
+use Rattle.model.proofs.ExampleMessages.{lineNumber, A, B, command, plain, urgent, right, a1, a2, b1, c2, a1-value, lines, holding, lineA, lineC}
 
 -- Whether the condition of a number of a call's list holds.
 abbrev applies : ℕ → Conditions → Bool

@@ -1,27 +1,35 @@
--- The deltas of the examples, and the buffers that their calls are given.
+-- The deltas of the examples, the lines that they are on, and the state of a station that received some of them.
 use mathlib.Core.Bool.{true, false}
 use mathlib.Core.List.{List, [], _∷_, _++_}
 use Prim.Native.Nat.{ℕ, zero, suc, _+_, _*_, _-_, _^_}
-use lib.ListN.{replicate}
 use lib.IntN.{ℤ, pos, negsuc}
 use Rattle.model.specs.Bytes.{bytes, word}
-use Rattle.model.specs.Layout.{imageSize, stepRoom}
 use Rattle.model.specs.Message.{Message}
+use Rattle.model.specs.Order.{State, stateOf}
+use Rattle.model.specs.Image.{setOf}
 use Rattle.model.specs.Compose.{messageOf}
-use Rattle.model.specs.Calls.{empty}
 
 -- "Line A is UID 00000000000A, creator 00000001; B and C alike."
 abbrev pub lineNumber : ℕ → ℕ
 lineNumber uid = uid * 2 ^ 32 + 1
 
+abbrev pub lineA : ℕ
+lineA = lineNumber 0xA
+
+abbrev pub lineB : ℕ
+lineB = lineNumber 0xB
+
+abbrev pub lineC : ℕ
+lineC = lineNumber 0xC
+
 abbrev pub A : ℕ → ℕ
-A n = lineNumber 0xA * 65536 + n
+A n = lineA * 65536 + n
 
 abbrev pub B : ℕ → ℕ
-B n = lineNumber 0xB * 65536 + n
+B n = lineB * 65536 + n
 
 abbrev pub C : ℕ → ℕ
-C n = lineNumber 0xC * 65536 + n
+C n = lineC * 65536 + n
 
 abbrev pub command : ℕ → ℕ → ℤ → List ℕ
 command operation tag v = operation ∷ tag ∷ 0 ∷ 0 ∷ bytes 4 (word v)
@@ -81,9 +89,6 @@ abbrev pub lines : ℕ → ℕ → List Message
 lines number zero = []
 lines number (suc n) = plain (lineNumber (100 - n) * 65536 + number) [] right ∷ lines number n
 
--- ---- a step buffer as lent, and the image that empty writes
-abbrev pub stepBuffer : List ℕ
-stepBuffer = replicate stepRoom 0xEE
-
-abbrev pub begun : List ℕ
-begun = empty (replicate imageSize 0xEE) .image
+-- ---- the station that received these, in whichever order
+abbrev pub holding : List Message → State
+holding l = stateOf (setOf l)

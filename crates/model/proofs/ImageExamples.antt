@@ -2,15 +2,12 @@
 use mathlib.Core.Path.{_≡_, refl}
 use mathlib.Core.List.{List, [], _∷_, _++_, map}
 use Prim.Native.Nat.{ℕ}
-use lib.ListN.{take, drop}
+use lib.ListN.{length, take, drop}
 use Rattle.model.specs.Message.{Message}
-use Rattle.model.specs.Order.{State, stateOf, needs, executablesOf, logOf, heldOf}
+use Rattle.model.specs.Order.{needs, executablesOf, logOf, heldOf}
 use Rattle.model.specs.Setpoints.{startValues, stop, raise, operate, changeOf, apply, runCommand, runDelta, setpointsOf}
-use Rattle.model.specs.Image.{messagesStart, messagesOf, valuesOf, headerOf, sectionsOf, usedOf, messagesStartIn, logIn, messagesIn, setOf}
-use Rattle.model.proofs.ExampleMessages.{a1, a2, b1, c2, b1-5, c1-7, a1-naming-b1, b1-naming-a1}
-
-abbrev holding : List Message → State
-holding l = stateOf (setOf l)
+use Rattle.model.specs.Image.{messagesStart, messagesOf, valuesOf, headerOf, sectionsOf, usedOf, messagesStartIn, logIn, messagesIn}
+use Rattle.model.proofs.ExampleMessages.{a1, a2, b1, c2, b1-5, c1-7, a1-naming-b1, b1-naming-a1, holding}
 
 -- ---- "log count L, held count H, offset of setpoints 16, offset of messages 272, bytes used, zero"
 headers : List (List Message × List ℕ)
@@ -28,6 +25,14 @@ headers =
 headers-hold : map (λ e. take 16 (usedOf (holding (e .0)))) headers ≡ map (λ e. e .1) headers
 unfolding headers usedOf sectionsOf headerOf valuesOf messagesOf messagesStart logOf heldOf executablesOf needs
 headers-hold = refl
+
+-- ---- how many bytes are used: 272, and the messages'
+sizes : List (List Message × ℕ)
+sizes = ([], 272) ∷ (a1 ∷ [], 320) ∷ (a2 ∷ [], 320) ∷ (b1-naming-a1 ∷ a1-naming-b1 ∷ [], 392) ∷ (a1 ∷ b1 ∷ c2 ∷ [], 416) ∷ []
+
+sizes-hold : map (λ e. length (usedOf (holding (e .0)))) sizes ≡ map (λ e. e .1) sizes
+unfolding sizes usedOf sectionsOf headerOf valuesOf messagesOf messagesStart setpointsOf startValues runDelta runCommand apply changeOf operate raise stop logOf heldOf executablesOf needs
+sizes-hold = refl
 
 -- ---- "Then 64 values of four bytes, as the log leaves them": tags 2 to 4
 values : List (List Message × List ℕ)

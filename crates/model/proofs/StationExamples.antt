@@ -6,17 +6,13 @@ use Prim.Native.Nat.{ℕ}
 use lib.ListN.{getD}
 use lib.IntN.{ℤ, pos}
 use Rattle.model.specs.Message.{Message}
-use Rattle.model.specs.Order.{State, stateOf, sequencesOf, needs, executablesOf, logOf, heldOf, effectiveBlock}
+use Rattle.model.specs.Order.{State, sequencesOf, needs, executablesOf, logOf, heldOf, effectiveBlock}
 use Rattle.model.specs.Setpoints.{startValues, stop, raise, operate, changeOf, apply, runCommand, runDelta, setpointsOf}
-use Rattle.model.specs.Image.{setOf}
-use Rattle.model.proofs.ExampleMessages.{A, B, C, plain, urgent, right, a1, a2, b1, c2, stopped, b1-5, c1-7, raised, a1-group-2, a1-naming-b1, b1-naming-a1}
+use Rattle.model.proofs.ExampleMessages.{A, B, C, plain, urgent, right, a1, a2, b1, c2, stopped, b1-5, c1-7, raised, a1-group-2, a1-naming-b1, b1-naming-a1, holding}
 
-abbrev holding : List Message → State
-holding l = stateOf (setOf l)
-
--- ---- what runs: the deltas as they came in; the log, and the held ones
-abbrev sorted : State → List ℕ × List ℕ
-sorted S = (sequencesOf (logOf S), sequencesOf (heldOf S))
+-- ---- what runs: the deltas received; the log, and the held ones
+abbrev logAndHeld : State → List ℕ × List ℕ
+logAndHeld S = (sequencesOf (logOf S), sequencesOf (heldOf S))
 
 received : List (List Message × (List ℕ × List ℕ))
 received =
@@ -36,11 +32,11 @@ received =
     ∷ (a2 ∷ b1 ∷ plain (B 2) [] right ∷ [], (B 1 ∷ B 2 ∷ [], A 2 ∷ []))
     ∷ []
 
-received-holds : map (λ e. sorted (holding (e .0))) received ≡ map (λ e. e .1) received
+received-holds : map (λ e. logAndHeld (holding (e .0))) received ≡ map (λ e. e .1) received
 unfolding received logOf heldOf executablesOf needs
 received-holds = refl
 
--- ---- in which order: the deltas as they came in, and the log
+-- ---- in which order: the deltas received, and the log
 ordered : List (List Message × List ℕ)
 ordered =
     -- B1 then A1.
@@ -63,7 +59,7 @@ ordered-holds : map (λ e. sequencesOf (logOf (holding (e .0)))) ordered ≡ map
 unfolding ordered logOf needs
 ordered-holds = refl
 
--- ---- what the log leaves: the deltas as they came in, and the value of tag 3
+-- ---- what the log leaves: the deltas received, and the value of tag 3
 left : List (List Message × ℤ)
 left =
     ([], pos 0)
