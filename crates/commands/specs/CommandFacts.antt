@@ -1,7 +1,7 @@
 -- What the tests of commands say, as facts.
 use mathlib.Core.Path.{_≡_, sym, _∙_, subst}
 use mathlib.Core.Logic.{⊎-elim}
-use mathlib.Core.Bool.{true, false, not}
+use mathlib.Core.Bool.{true, false, not, and-true}
 use mathlib.Core.List.{List}
 use Prim.Native.Nat.{ℕ, suc, _+_, _*_, _-_, _%_, _≤_, _<_}
 use native.Mathlib.Omega.{arith}
@@ -13,7 +13,7 @@ use Rattle.model.specs.Bytes.{isBytes, field, word}
 use Rattle.model.specs.Layout.{operationAt, tagAt, commandZerosAt, valueAt, commandSize, mostCommands, tagCount, lowestValue, highestValue}
 use Rattle.model.specs.Message.{valueOf, commandRight}
 use Rattle.model.specs.Codes.{commandsSized}
-use Rattle.order.specs.TestLaws.{and-l, and-r, and-i, and-true, decide, is-true, false-of, eq→eqb, same-leb}
+use Rattle.order.specs.TestLaws.{and-l, and-r, and-i, decide, is-true, false-of, eq→eqb, same-leb}
 use Rattle.wire_laws.specs.BytesLaws.{field-part, field-part-start}
 use Rattle.commands.specs.CommandTests.{valueRight}
 

@@ -1,6 +1,6 @@
 -- The cases of deliver at a judged station, for a message that passes 3 to 6: its sequence is there, or new.
 use mathlib.Core.Path.{_≡_, refl, sym, _∙_, ap, ap₂, subst}
-use mathlib.Core.Bool.{Bool, true, false, not, _&&_, _||_}
+use mathlib.Core.Bool.{Bool, true, false, not, _&&_, _||_, and-false}
 use mathlib.Core.List.{List}
 use Prim.Native.Nat.{ℕ, _≤_, _<_}
 use native.Mathlib.Omega.{arith}
@@ -53,11 +53,7 @@ module _ (b : List ℕ) (m : Message) (steps : List ℕ) (station : Station) (si
         (present-find b starts (sequenceOf m) i here (judged .table .holds) ∙ delta-at b starts i (here .inside))
 
     not-full : full (stateIn b) m ≡ false
-    not-full = ap (λ (t : Bool). leb capacity (length (stateIn b .deltas)) && not t) there ∙ go (leb capacity (length (stateIn b .deltas)))
-      where
-        go : (t : Bool) → t && false ≡ false
-        go true = refl
-        go false = refl
+    not-full = ap (λ (t : Bool). leb capacity (length (stateIn b .deltas)) && not t) there ∙ and-false (leb capacity (length (stateIn b .deltas)))
 
     pub present-case : deliveredBy (repeatOf (same (messageFrom b (getD starts i 0)) m)) b steps ≡ deliver b m steps
     present-case = go (same (messageFrom b (getD starts i 0)) m) conflict-is

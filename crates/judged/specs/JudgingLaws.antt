@@ -2,15 +2,14 @@
 use mathlib.Core.Path.{_≡_, sym, _∙_, ap, ap₂, subst}
 use mathlib.Core.Bool.{Bool, false, _&&_}
 use mathlib.Core.List.{List}
-use Prim.Native.Nat.{ℕ, _-_}
-use lib.ListN.{length, take, drop, replicate}
-use lib.Seq.{drop-at}
+use Prim.Native.Nat.{ℕ}
+use lib.ListN.{length, take}
 use lib.Dec.{leb, le→leb}
 use Rattle.model.specs.Lists.{every, same}
-use Rattle.model.specs.Layout.{imageSize, capacity}
+use Rattle.model.specs.Layout.{capacity}
 use Rattle.model.specs.Message.{passes}
 use Rattle.model.specs.Order.{State, logOf}
-use Rattle.model.specs.Image.{usedOf, imageOf, isImage}
+use Rattle.model.specs.Image.{imageOf, isImage}
 use Rattle.order.specs.TestLaws.{is-true, false-of, ∈-every}
 use Rattle.laws.specs.ImageLaws.{own-log}
 use Rattle.table.specs.Table.{startsOf, deltasOf, deltasAt, setIn}
@@ -32,11 +31,6 @@ judged b t h =
   where
     S : State
     S = setIn b (startsOf t)
-
--- past its used bytes an image is zero
-pub past-used : (S : State) (n : ℕ) → n ≡ length (usedOf S) → drop n (imageOf S) ≡ replicate (imageSize - n) 0
-unfolding imageOf
-past-used S n e = drop-at (usedOf S) (replicate (imageSize - length (usedOf S)) 0) n (sym e) ∙ ap (λ (k : ℕ). replicate (imageSize - k) 0) (sym e)
 
 -- ---- by the answer of the reading
 pub read-wrong : (b : List ℕ) (k : Check) (t : Table) → ReadsTable b (record { check = k; table = t }) → k ≡ Wrong → isImage b ≡ false

@@ -1,6 +1,6 @@
 -- The log and the held ones: the computed log is the declared one and the only one, a received delta is in it exactly if it is
 -- executable, held are the others. A state's deltas ascend by sequence throughout.
-use mathlib.Core.Path.{_≡_, sym, ap, subst}
+use mathlib.Core.Path.{_≡_, sym, _∙_, ap, subst}
 use mathlib.Core.Logic.{_⊎_, inl, inr, ⊎-elim, _↔_}
 use mathlib.Core.Bool.{Bool, not}
 use mathlib.Core.List.{List, [], _++_, List·Memᴰ·not-nil, List·Memᴰ·append-cases, Memᴰ·cast, Memᴰ·append-right, Memᴰ·append-left, Memᴰ·map, Memᴰ·of-map}
@@ -12,9 +12,9 @@ use Rattle.model.specs.Lists.{_∈_, has, keep}
 use Rattle.model.specs.Message.{Message, sequenceOf}
 use Rattle.model.specs.Listing as L
 use Rattle.model.specs.Order.{State, stateOf, Ascending, sequencesOf, needs, placedBy, Executable, Grounded, executablesOf, heldOf, keyOf, less, IsLog, logOf}
-use Rattle.order.specs.TestLaws.{Same, decide, same-test, has→∈, ∈→has, keep-∈, ∈-keep, keep-length, keep-fewer, keep-cong}
+use Rattle.order.specs.TestLaws.{Same, decide, same-test, has→∈, ∈→has, keep-∈, ∈-keep, keep-length, keep-cong}
 use Rattle.order.specs.KeyOrder.{Total, less-total}
-use Rattle.order.specs.ListingLaws.{fresh, any-chooses, grow-complete, complete-items, first-is, first-unique, after-from, listing-length, listing-room, listing-closed}
+use Rattle.order.specs.ListingLaws.{fresh, any-chooses, grow-complete, complete-items, first-is, first-unique, after-from, after-has, listing-length, listing-room, listing-closed}
 use Rattle.order.specs.Reach.{grounded↔executable}
 use Rattle.laws.specs.SetLaws.{ascending-names, ascending-unique}
 
@@ -116,27 +116,26 @@ module _ (S : State) (ascends : Ascending (S .deltas)) where
   pub held-length : length (heldOf S) ≤ length (S .deltas)
   held-length = omega (arith, ap length held-by-log, keep-length others (S .deltas))
 
-  -- and has one place
+  -- held is what the log does not place
+  pub held-fresh : heldOf S ≡ keep (fresh sequenceOf (placedBy (logOf S))) (S .deltas)
+  held-fresh = held-by-log ∙ keep-cong others (fresh sequenceOf (placedBy (logOf S))) (S .deltas)
+      (λ m k. ap not (same-test (has (sequenceOf m) (sequencesOf (logOf S))) (has (sequenceOf m) (placedBy (logOf S)))
+      (λ t. let r = Memᴰ·of-map sequenceOf (logOf S) (has→∈ (sequenceOf m) (sequencesOf (logOf S)) t) in ∈→has (Memᴰ·cast (sym (r .2)) (after-has sequenceOf (logOf S) [] (r .1))))
+      (λ t. ∈→has (named m (after-from sequenceOf (logOf S) [] (has→∈ (sequenceOf m) (placedBy (logOf S)) t))))))
+    where
+      named : (m : Message) → (sequenceOf m ∈ []) ⊎ ((b : Message) × (b ∈ logOf S) × (sequenceOf b ≡ sequenceOf m)) → sequenceOf m ∈ sequencesOf (logOf S)
+      named m (inl q) = absurd (List·Memᴰ·not-nil q)
+      named m (inr r) = Memᴰ·cast (sym (r .2)) (Memᴰ·map sequenceOf (r .1))
+
+  -- and each delta has one place
   pub places : length (logOf S ++ heldOf S) ≤ length (S .deltas)
   places = omega (
     arith,
     length-append (logOf S) (heldOf S),
-    ap length held-by-log,
-    keep-fewer left others more (S .deltas),
+    ap length held-fresh,
     keep-length (fresh sequenceOf []) (S .deltas),
     listing-room sequenceOf (needs S) (S .deltas) (logOf S) [] (log-complete .listing) log-received,
   )
-    where
-      left : Message → Bool
-      left = fresh sequenceOf (placedBy (logOf S))
-
-      named : (a : Message) → (sequenceOf a ∈ []) ⊎ ((b : Message) × (b ∈ logOf S) × (sequenceOf b ≡ sequenceOf a)) → sequenceOf a ∈ sequencesOf (logOf S)
-      named a (inl q) = absurd (List·Memᴰ·not-nil q)
-      named a (inr r) = Memᴰ·cast (sym (r .2)) (Memᴰ·map sequenceOf (r .1))
-
-      more : (a : Message) → T (others a) → T (left a)
-      more a t = not-T (has (sequenceOf a) (placedBy (logOf S)))
-          (λ h. T-not (has (sequenceOf a) (sequencesOf (logOf S))) t (∈→has (named a (after-from sequenceOf (logOf S) [] (has→∈ (sequenceOf a) (placedBy (logOf S)) h)))))
 
   -- the needs of a logged delta are logged
   pub log-closed : (b : Message) → b ∈ logOf S → (s : ℕ) → s ∈ needs S b → Logged S s

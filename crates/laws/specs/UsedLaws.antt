@@ -1,13 +1,13 @@
 -- The bytes that the messages of a state take are those of its deltas, whatever their order: a message more takes more. So an image
 -- is right once its used bytes are written over zeros, or over the image of a smaller set.
 use mathlib.Core.Path.{_≡_, refl, sym, _∙_, ap, ap₂, subst}
-use mathlib.Core.Logic.{_⊎_, inl, inr, ⊎-elim}
+use mathlib.Core.Logic.{⊎-elim}
 use mathlib.Core.Bool.{Bool, true, false, cond, not, _||_}
-use mathlib.Core.List.{List, [], _∷_, _++_, List·Memᴰ·head, List·Memᴰ·tail, List·Memᴰ·not-nil, List·Memᴰ·cases-cons, Memᴰ·cast, Memᴰ·map, Memᴰ·of-map}
+use mathlib.Core.List.{List, [], _∷_, _++_, List·Memᴰ·head, List·Memᴰ·tail, List·Memᴰ·not-nil, List·Memᴰ·cases-cons}
 use Prim.Native.Nat.{ℕ, zero, suc, _+_, _-_, _≤_}
 use native.Mathlib.Omega.{arith}
 use lib.ListN.{length, take, drop, replicate, length-append}
-use lib.Seq.{drop-append-add, take-append-add}
+use lib.Seq.{drop-append-add, take-append-add, drop-at}
 use lib.Dec.{T, eqb, ltb, eqb-refl}
 use borrow.Author.Tests.{ne-eqb}
 use Rattle.model.specs.Lists.{_∈_, has, keep}
@@ -15,12 +15,12 @@ use Rattle.model.specs.Bytes.{join}
 use Rattle.model.specs.Layout.{imageSize}
 use Rattle.model.specs.Message.{Message, sequenceOf}
 use Rattle.model.specs.Listing as L
-use Rattle.model.specs.Order.{State, Ascending, insert, add, sequencesOf, needs, placedBy, Listing, logOf, heldOf}
+use Rattle.model.specs.Order.{State, Ascending, insert, add, needs, Listing, logOf, heldOf}
 use Rattle.model.specs.Image.{messagesStart, messagesOf, usedOf, imageOf}
-use Rattle.order.specs.TestLaws.{is-true, same-test, has→∈, ∈→has, keep-cong}
-use Rattle.order.specs.ListingLaws.{fresh, ready-fresh, after-has, after-from}
+use Rattle.order.specs.TestLaws.{is-true, keep-cong}
+use Rattle.order.specs.ListingLaws.{fresh, ready-fresh}
 use Rattle.laws.specs.SetLaws.{insert-ascending}
-use Rattle.laws.specs.LogLaws.{log-complete, log-received, held-by-log}
+use Rattle.laws.specs.LogLaws.{log-complete, log-received, held-fresh}
 use Rattle.laws.specs.ImageLaws.{used-length}
 
 -- the bytes of some messages
@@ -77,16 +77,6 @@ module _ (S : State) (ascends : Ascending (S .deltas)) where
   all-fresh [] = refl
   all-fresh (m ∷ l) = ap (λ (k : List Message). m ∷ k) (all-fresh l)
 
-  held-fresh : heldOf S ≡ keep (fresh sequenceOf (placedBy (logOf S))) (S .deltas)
-  held-fresh = held-by-log S ascends ∙ keep-cong (λ m. not (has (sequenceOf m) (sequencesOf (logOf S)))) (fresh sequenceOf (placedBy (logOf S))) (S .deltas)
-      (λ m k. ap not (same-test (has (sequenceOf m) (sequencesOf (logOf S))) (has (sequenceOf m) (placedBy (logOf S)))
-      (λ t. let r = Memᴰ·of-map sequenceOf (logOf S) (has→∈ (sequenceOf m) (sequencesOf (logOf S)) t) in ∈→has (Memᴰ·cast (sym (r .2)) (after-has sequenceOf (logOf S) [] (r .1))))
-      (λ t. ∈→has (named m (after-from sequenceOf (logOf S) [] (has→∈ (sequenceOf m) (placedBy (logOf S)) t))))))
-    where
-      named : (m : Message) → (sequenceOf m ∈ []) ⊎ ((b : Message) × (b ∈ logOf S) × (sequenceOf b ≡ sequenceOf m)) → sequenceOf m ∈ sequencesOf (logOf S)
-      named m (inl q) = absurd (List·Memᴰ·not-nil q)
-      named m (inr r) = Memᴰ·cast (sym (r .2)) (Memᴰ·map sequenceOf (r .1))
-
   messages-weight : length (messagesOf S) ≡ weight (S .deltas)
   unfolding messagesOf
   messages-weight = omega (
@@ -94,7 +84,7 @@ module _ (S : State) (ascends : Ascending (S .deltas)) where
     length-append (join (logOf S)) (join (heldOf S)),
     weight-join (logOf S),
     weight-join (heldOf S),
-    ap weight held-fresh,
+    ap weight (held-fresh S ascends),
     listed-weight (logOf S) [] (log-complete S ascends .listing) (log-received S ascends),
     ap weight (all-fresh (S .deltas)),
   )
@@ -138,6 +128,11 @@ over-zeros S n h k =
     ap₂ (λ (size : ℕ) (l : List ℕ). take size (usedOf S ++ l)) {x = imageSize} {y = length (usedOf S) + (imageSize - length (usedOf S))} (omega arith) (drop-zeros n (length (usedOf S)))
     ∙ take-append-add (usedOf S) (replicate (n - length (usedOf S)) 0) (imageSize - length (usedOf S))
     ∙ ap (λ (l : List ℕ). usedOf S ++ l) (take-zeros (n - length (usedOf S)) (imageSize - length (usedOf S)) (omega arith))
+
+-- past its used bytes an image is zero
+pub past-used : (S : State) (n : ℕ) → n ≡ length (usedOf S) → drop n (imageOf S) ≡ replicate (imageSize - n) 0
+unfolding imageOf
+past-used S n e = drop-at (usedOf S) (replicate (imageSize - length (usedOf S)) 0) n (sym e) ∙ ap (λ (k : ℕ). replicate (imageSize - k) 0) (sym e)
 
 pub over-smaller : (S R : State) → length (usedOf S) ≤ length (usedOf R) → usedOf R ++ drop (length (usedOf R)) (imageOf S) ≡ imageOf R
 unfolding imageOf

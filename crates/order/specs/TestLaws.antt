@@ -51,10 +51,6 @@ false-of b f = is-false b (not-T b f)
 pub true-T : (b : Bool) → b ≡ true → T b
 true-T b e = subst T (sym e) tt
 
-pub and-true : (a : Bool) → a && true ≡ a
-and-true true = refl
-and-true false = refl
-
 pub nor-l : (a b : Bool) → T (not (a || b)) → T (not a)
 nor-l true b t = t
 nor-l false b t = tt

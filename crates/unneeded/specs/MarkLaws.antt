@@ -1,7 +1,7 @@
 -- What is marked: what was, and the indices that were marked since.
 use mathlib.Core.Path.{_≡_, refl, sym, _∙_, ap}
 use mathlib.Core.Logic.{⊎-elim}
-use mathlib.Core.Bool.{Bool, true, false, not, _||_}
+use mathlib.Core.Bool.{Bool, not, _||_, or-true, or-false, or-assoc}
 use mathlib.Core.List.{List, [], _∷_, _++_, map}
 use Prim.Native.Nat.{ℕ, suc, _+_, _*_, _-_, _≤_, _<_}
 use native.Mathlib.Omega.{arith}
@@ -58,18 +58,6 @@ module _ (rows counts : List ℕ) (i : ℕ) where
       omega (arith, r .2, row-at fits (r .0) here, fits .small (r .0) here)
 
 -- ---- what is marked
-or-true : (b : Bool) → b || true ≡ true
-or-true true = refl
-or-true false = refl
-
-pub or-false : (b : Bool) → b || false ≡ b
-or-false true = refl
-or-false false = refl
-
-pub or-assoc : (a b c : Bool) → (a || b) || c ≡ a || (b || c)
-or-assoc true b c = refl
-or-assoc false b c = refl
-
 mark-one : (marks : List ℕ) (j i : ℕ) → i < length marks → isPlaced (set marks j 1) i ≡ isPlaced marks i || eqb i j
 mark-one marks j i h = ⊎-elim same other (decide (eqb i j))
   where

@@ -1,7 +1,7 @@
 -- Marks by index say of a delta what the definitions say by sequence; and dependencies are found one after the other.
 use mathlib.Core.Path.{_≡_, refl, sym, _∙_, ap, ap₂}
 use mathlib.Core.Logic.{⊎-elim}
-use mathlib.Core.Bool.{Bool, true, false, not, _&&_, _||_}
+use mathlib.Core.Bool.{Bool, true, false, not, _&&_, _||_, or-assoc}
 use mathlib.Core.List.{List, [], _∷_, _++_, map, List·Memᴰ·head, List·Memᴰ·tail}
 use Prim.Native.Nat.{ℕ, _≤_, _<_}
 use native.Mathlib.Omega.{arith}
@@ -19,7 +19,6 @@ use Rattle.needs.specs.Names.{Ascends, indexOf}
 use Rattle.needs.specs.IndexLaws.{index-cases, index-here}
 use Rattle.needs.specs.NameLaws.{sequence-at, set-ascends}
 use Rattle.needs.specs.Rows.{rowIn, RowsRight}
-use Rattle.unneeded.specs.MarkLaws.{or-assoc}
 use Rattle.unneeded.specs.Unneeded.{chosen}
 
 has-append : (s : ℕ) (l k : List ℕ) → has s (l ++ k) ≡ has s l || has s k

@@ -1,9 +1,9 @@
 -- None or one is the predecessor, and that one is compared.
 use mathlib.Core.Path.{sym, _∙_, ap}
+use mathlib.Core.Bool.{or-false}
 use Rattle.model.specs.Lists.{has}
 use lib.Dec.{eqb}
 use Rattle.sequence.specs.Sequence.{sequenceNumber, predecessorList}
-use Rattle.unneeded.specs.MarkLaws.{or-false}
 use borrow.Author.Needs.{needs}
 use Rattle.unneeded.proofs.is_predecessor.Statement.{statement}
 use Rattle.unneeded.proofs.is_predecessor.Tie as tie

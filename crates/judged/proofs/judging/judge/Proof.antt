@@ -15,7 +15,7 @@ use Rattle.model.specs.Layout.{imageSize}
 use Rattle.model.specs.Image.{usedOf, imageOf, isImage}
 use Rattle.order.specs.TestLaws.{same→eq}
 use Rattle.laws.specs.ImageLaws.{used-fits}
-use Rattle.laws.specs.UsedLaws.{over-zeros}
+use Rattle.laws.specs.UsedLaws.{over-zeros, past-used}
 use Rattle.message.specs.declared.checks.Check.the-variants.{Right}
 use Rattle.table.specs.declared.Table.{Table}
 use Rattle.table.specs.Table.{startsOf, deltasOf, deltasAt, setIn}
@@ -23,7 +23,7 @@ use Rattle.table_reading.specs.Reading.{IsTable}
 use Rattle.log_check.specs.Checking.{ChecksLog}
 use Rattle.image_log.specs.LogRead.{ReadsLog}
 use Rattle.judged.specs.Judging.{placesIn, Judges, Copies}
-use Rattle.judged.specs.JudgingLaws.{judged, past-used, other-log, unjudged}
+use Rattle.judged.specs.JudgingLaws.{judged, other-log, unjudged}
 use Rattle.judged.proofs.judging.judge.Statement.{statement}
 use Rattle.judged.proofs.judging.judge.Tie as tie
 
