@@ -34,12 +34,15 @@ start h = begun (h .before)
 abbrev bytes : tie.At-loop Inv-loop μ-loop → List ℕ
 bytes h = start h .args .b .now
 
--- the head of the loop, from where the message's size is read and is not 0
+-- the head of the loop, from where the message's size is read and is not 0; and that from where the message is taken in
 abbrev head : tie.After-read-message Inv-loop μ-loop → tie.At-loop Inv-loop μ-loop
 head m = m .before .before
 
 abbrev sized : tie.Else2 Inv-loop μ-loop → tie.At-loop Inv-loop μ-loop
 sized e = head (e .before)
+
+abbrev measured : tie.After-take-in Inv-loop μ-loop → tie.Else2 Inv-loop μ-loop
+measured t = t .before .before .before
 
 count-messages-requires : tie.Need-count-messages-requires Inv-loop μ-loop
 count-messages-requires c κs = omega arith
@@ -114,10 +117,10 @@ enum-told-2 c = search needs
 
 -- what taking it in answered
 taken : (t : tie.After-take-in Inv-loop μ-loop) {r : Check} → t .take-in .result ≡ r
-    → let e = t .before .before .before in let l = sized e .loop in
+    → let e = measured t in let l = sized e .loop in
     TakesIn (bytes (sized e)) (take (l .count) (l .starts)) (l .at) r (take (l .count + 1) (t .take-in .last .1 .0))
 taken t e =
-    let h = sized (t .before .before .before) in
+    let h = sized (measured t) in
     let l = h .loop in
     subst (λ (k : Check). TakesIn (bytes h) (take (l .count) (l .starts)) (l .at) k (take (l .count + 1) (t .take-in .last .1 .0))) e (t .take-in .ensures)
 
@@ -127,7 +130,7 @@ refuse-requires-3 c κs = search needs
 returns-3 : tie.Need-returns-3 Inv-loop μ-loop
 returns-3 c =
     let t = c .before .before .before .before in
-    let h = sized (t .before .before .before) in
+    let h = sized (measured t) in
     let l = h .loop in
     wrong-reads (bytes h) (c .refuse3 .result) (c .refuse3 .ensures)
     (walk-twice (bytes h) (l .count) (l .at) (take (l .count) (l .starts)) (l .inv .4) (omega arith) (taken t (c .before .enum-told2 .given .1)))
@@ -146,7 +149,7 @@ loop-less c = omega arith
 loop-again : tie.Need-loop-again Inv-loop μ-loop
 loop-again c =
     let t = c .before .before .before in
-    let e = t .before .before .before in
+    let e = measured t in
     let b = bytes (sized e) in
     let l = sized e .loop in
     let next = take (l .count + 1) (t .take-in .last .1 .0) in

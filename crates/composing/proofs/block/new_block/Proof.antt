@@ -16,12 +16,15 @@ use borrow.Author.Needs.{needs}
 use Rattle.composing.proofs.block.new_block.Statement.{statement}
 use Rattle.composing.proofs.block.new_block.Tie as tie
 
--- where the call began, from where the rows are there; and that from where the blocks are
+-- where the call began, from where the rows are there; that from where the blocks are; and that from where the highest is found
 abbrev began : tie.After-fill-rows → tie.Start
 began c = c .before .before .before .before .before .before .before
 
 abbrev filled : tie.After-close → tie.After-fill-rows
 filled c = c .before .before .before .before .before .before .before
+
+abbrev closed : tie.After-highest-block → tie.After-close
+closed c = c .before .before .before .before
 
 abbrev set : tie.Start → State
 set s = setIn (s .args .pool .now) (s .args .starts .now)
@@ -31,13 +34,13 @@ below : (s : tie.Start) → AllBelow (length (set s .deltas)) (s .args .places .
 below s i k = omega (arith, length-map (s .args .starts .now) (messageFrom (s .args .pool .now)), log-inside (s .args .pool .now) (s .args .starts .now) (s .args .places .now) (s .pre) .inside i k)
 
 -- the highest of the blocks is the highest effective one
-highest : (c : tie.After-highest-block) → let s = began (filled (c .before .before .before .before)) in c .highest-block .result ≡ greatest (effectiveBlock (set s)) (logOf (set s))
+highest : (c : tie.After-highest-block) → let s = began (filled (closed c)) in c .highest-block .result ≡ greatest (effectiveBlock (set s)) (logOf (set s))
 highest c =
-    let closed = c .before .before .before .before in
-    let f = filled closed in
+    let k = closed c in
+    let f = filled k in
     let s = began f in
     c .highest-block .ensures
-    ∙ highest-effective (set s) (s .pre .holds) (s .args .places .now) (below s) (s .pre .log) (f .fill-rows .last .0) (f .fill-rows .last .1 .0) (f .fill-rows .ensures) (closed .close .last .0) (closed .close .last .1 .0) (closed .close .result) (closed .close .ensures)
+    ∙ highest-effective (set s) (s .pre .holds) (s .args .places .now) (below s) (s .pre .log) (f .fill-rows .last .0) (f .fill-rows .last .1 .0) (f .fill-rows .ensures) (k .close .last .0) (k .close .last .1 .0) (k .close .result) (k .close .ensures)
 
 returns : tie.Need-returns
 returns c = let s = c .before .before .before .before in sym (ap (newBlock (set s)) (ne-eqb (s .args .flag) 1 (c .if1 .taken)))
@@ -71,16 +74,16 @@ slice-aggregate-highest-block c = search needs
 
 highest-block-requires : tie.Need-highest-block-requires
 highest-block-requires c κs i k =
-    let closed = c .before .before .before in
-    let s = began (filled closed) in
-    omega (arith, below s i k, s .pre .holds .fits, closed .close .ensures .closing .effective .size)
+    let here = c .before .before .before in
+    let s = began (filled here) in
+    omega (arith, below s i k, s .pre .holds .fits, here .close .ensures .closing .effective .size)
 
 add-result : tie.Need-add-result
-add-result c = let s = began (filled (c .before .before .before .before)) in omega (arith, highest c, effective-small (set s) (s .pre .holds))
+add-result c = let s = began (filled (closed c)) in omega (arith, highest c, effective-small (set s) (s .pre .holds))
 
 returns-2 : tie.Need-returns-2
 returns-2 c =
-    let f = filled (c .before .before .before .before) in
+    let f = filled (closed c) in
     let s = began f in
     add-one (c .highest-block .result) ∙ ap suc (highest c) ∙ sym (ap (newBlock (set s)) (eq-eqb (s .args .flag) 1 (f .before .before .before .if1 .left)))
 
