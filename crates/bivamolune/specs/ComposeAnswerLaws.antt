@@ -14,9 +14,9 @@ use Rattle.model.specs.Compose.{composed}
 use Rattle.model.specs.Calls.{Composed, composeAnswer, composeCode, compose}
 use Rattle.wire_laws.specs.MessageLaws.{passes-sized, sized-range}
 use Rattle.compose_laws.specs.ComposeLaws.{Promised, compose-promise, composedBy as messageBy}
-use Rattle.compose_writing.specs.declared.answer.Composition.{Composition}
-use Rattle.compose_writing.specs.declared.answer.Composition.the-variants as composition
-use Rattle.compose_writing.specs.Answer.{composedBy}
+use Rattle.compose.specs.declared.answer.Composition.{Composition}
+use Rattle.compose.specs.declared.answer.Composition.the-variants as composition
+use Rattle.compose.specs.Answer.{composedBy}
 use Rattle.bivamolune.specs.ComposeAnswers.{numberOf, LengthUnpacks, Composes, numberBy, Short}
 
 -- ---- a written message passes 3 to 6, and so is at most 200 bytes long

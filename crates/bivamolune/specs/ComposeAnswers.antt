@@ -4,8 +4,8 @@ use mathlib.Core.List.{List}
 use Prim.Native.Nat.{ℕ, _+_, _*_, _/_, _≤_}
 use Rattle.model.specs.Layout.{messageRoom}
 use Rattle.model.specs.Calls.{compose}
-use Rattle.compose_writing.specs.declared.answer.Composition.{Composition}
-use Rattle.compose_writing.specs.declared.answer.Composition.the-variants as composition
+use Rattle.compose.specs.declared.answer.Composition.{Composition}
+use Rattle.compose.specs.declared.answer.Composition.the-variants as composition
 use Rattle.bivamolune.specs.Packing.{codeIn}
 
 -- A code and a length in one number: a byte for the code.

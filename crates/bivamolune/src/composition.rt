@@ -1,6 +1,6 @@
 // Compose, for C.
+use compose::answer::Composition;
 use compose::compose;
-use compose_writing::answer::Composition;
 ghost use mathlib.Core.Path.{_≡_};
 ghost use Rattle.bivamolune.specs.ComposeAnswers.{Composes, numberBy, Short};
 

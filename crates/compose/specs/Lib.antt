@@ -1,1 +1,4 @@
+pub mod Answer
+pub mod Stages
+pub mod StageLaws
 pub mod ComposeCases

@@ -1,10 +1,12 @@
 // Compose: a station writes a new message.
+pub mod answer;
+pub mod drafted;
 
+use crate::answer::Composition;
+use crate::drafted::write_draft;
 use commands::commands_sized;
 use compose_checks::check_content;
 use compose_checks::check_sizes;
-use compose_writing::answer::Composition;
-use compose_writing::drafted::write_draft;
 use composing::drafting::Drafting;
 use composing::drafting::draft_delta;
 use held_line::check_line;
@@ -17,8 +19,8 @@ ghost use Rattle.model.specs.Bytes.{number};
 ghost use Rattle.model.specs.Image.{stateIn};
 ghost use Rattle.model.specs.Calls as model;
 ghost use Rattle.table.specs.Table.{setIn};
-ghost use Rattle.compose_writing.specs.Answer.{composedBy};
-ghost use Rattle.compose_writing.specs.Stages.{lateAnswer, Composable, ComposableAt};
+ghost use Rattle.compose.specs.Answer.{composedBy};
+ghost use Rattle.compose.specs.Stages.{lateAnswer, Composable, ComposableAt};
 
 // Composes behind a log, whose places are given: codes 9 to 11, and the message.
 fn compose_behind(

@@ -16,9 +16,9 @@ use Rattle.model.specs.Steps.{Step, execute, readSteps}
 use Rattle.model.specs.Calls.{Composed, Delivered, compose}
 use Rattle.model.specs.Run.{delivery}
 use Rattle.compose_laws.specs.ComposeLaws.{Promised, compose-promise}
-use Rattle.compose_writing.specs.declared.answer.Composition.{Composition}
-use Rattle.compose_writing.specs.declared.answer.Composition.the-variants as composition
-use Rattle.compose_writing.specs.Answer.{composedBy}
+use Rattle.compose.specs.declared.answer.Composition.{Composition}
+use Rattle.compose.specs.declared.answer.Composition.the-variants as composition
+use Rattle.compose.specs.Answer.{composedBy}
 use Rattle.compose.proofs.compose.Reads as compose-reads
 use Rattle.runs.specs.Runs.{DeliveredTo, answers}
 

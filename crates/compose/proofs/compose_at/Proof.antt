@@ -6,7 +6,7 @@ use lib.Seq.{length-take-le}
 use Rattle.model.specs.Bytes.{number}
 use Rattle.model.specs.Layout.{capacity}
 use Rattle.model.specs.Order.{State}
-use Rattle.compose_writing.specs.Stages.{lateAnswer}
+use Rattle.compose.specs.Stages.{lateAnswer}
 use borrow.Author.Needs.{needs}
 use Rattle.compose.proofs.compose_at.Statement.{statement}
 use Rattle.compose.proofs.compose_at.Tie as tie

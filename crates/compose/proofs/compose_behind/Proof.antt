@@ -13,7 +13,7 @@ use Rattle.message.specs.Check.{right}
 use Rattle.sequence.specs.Sequence.{sequenceNumber}
 use Rattle.table.specs.Table.{setIn}
 use Rattle.composing.specs.Drafting.{Drafts}
-use Rattle.compose_writing.specs.StageLaws.{line-back, held-case, past-case, drafts-past, drafts-fits, draft-case}
+use Rattle.compose.specs.StageLaws.{line-back, held-case, past-case, drafts-past, drafts-fits, draft-case}
 use borrow.Author.Needs.{needs}
 use Rattle.compose.proofs.compose_behind.Statement.{statement}
 use Rattle.compose.proofs.compose_behind.Tie as tie

@@ -28,9 +28,9 @@ use Rattle.composing.specs.declared.drafting.Drafting.the-variants.{Fits, PastL
 use Rattle.composing.specs.Drafting.{priorityBy, IsDraft, Drafts}
 use Rattle.unneeded.specs.declared.Dependencies.{Dependencies}
 use Rattle.unneeded.specs.Unneeded.{placesFound, IsDependencies}
-use Rattle.compose_writing.specs.declared.answer.Composition.the-variants as composition
-use Rattle.compose_writing.specs.Answer.{refusal, composedBy}
-use Rattle.compose_writing.specs.Stages.{lateAnswer, headerWith, namesOf, draftedMessage, draftedAnswer, draftAnswer}
+use Rattle.compose.specs.declared.answer.Composition.the-variants as composition
+use Rattle.compose.specs.Answer.{refusal, composedBy}
+use Rattle.compose.specs.Stages.{lateAnswer, headerWith, namesOf, draftedMessage, draftedAnswer, draftAnswer}
 
 -- ---- commands by eights, and no more than eight
 pub record Eights (commands : List ℕ) : Type 0 where

@@ -2,8 +2,8 @@
 use mathlib.Core.List.{List}
 use Prim.Native.Nat.{ℕ}
 use Rattle.model.specs.Calls.{Composed}
-use Rattle.compose_writing.specs.declared.answer.Composition.{Composition}
-use Rattle.compose_writing.specs.declared.answer.Composition.the-variants as composition
+use Rattle.compose.specs.declared.answer.Composition.{Composition}
+use Rattle.compose.specs.declared.answer.Composition.the-variants as composition
 
 -- a refusal: its number, and no length
 abbrev pub refusal : ℕ → List ℕ → Composed

@@ -7,11 +7,11 @@ use Rattle.model.specs.Layout.{capacity, mostDependencies}
 use Rattle.message.specs.Check.{right}
 use Rattle.sequence.specs.Sequence.{sequenceNumber}
 use Rattle.table.specs.Table.{setIn}
-use Rattle.compose_writing.specs.Stages.{namesOf}
-use Rattle.compose_writing.specs.StageLaws.{found-counted, many-case, few-case}
+use Rattle.compose.specs.Stages.{namesOf}
+use Rattle.compose.specs.StageLaws.{found-counted, many-case, few-case}
 use borrow.Author.Needs.{needs}
-use Rattle.compose_writing.proofs.drafted.write_draft.Statement.{statement}
-use Rattle.compose_writing.proofs.drafted.write_draft.Tie as tie
+use Rattle.compose.proofs.drafted.write_draft.Statement.{statement}
+use Rattle.compose.proofs.drafted.write_draft.Tie as tie
 
 -- where the call began, from where the dependencies are found
 abbrev began : tie.After-find-dependencies → tie.Start

@@ -21,7 +21,7 @@ use Rattle.writing.specs.Writing.{messageFor}
 use Rattle.composing.specs.declared.drafting.Draft.{Draft}
 use Rattle.unneeded.specs.declared.Dependencies.{Dependencies}
 use Rattle.unneeded.specs.Unneeded.{IsDependencies}
-use Rattle.compose_writing.specs.Answer.{refusal}
+use Rattle.compose.specs.Answer.{refusal}
 
 -- ---- codes 9 to 11, and the message
 abbrev pub lateConditions : State → ℕ → ℕ → Conditions
