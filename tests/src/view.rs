@@ -1,4 +1,5 @@
-//! What an image says, read by the paper's offsets and apart from the second implementation.
+//! What images and steps say, read by the paper's offsets and apart from the second
+//! implementation.
 
 use crate::wire::Sequence;
 
@@ -41,4 +42,68 @@ pub fn log(image: &[u8]) -> Vec<Sequence> {
 pub fn sequence_of(message: &[u8]) -> Sequence {
     let found = message.get(12..24).and_then(|part| part.try_into().ok());
     found.unwrap_or([0; 12])
+}
+
+/// The 64 values of an image, by tag.
+pub fn values(image: &[u8]) -> [i32; 64] {
+    let mut values = [0; 64];
+    for (tag, value) in values.iter_mut().enumerate() {
+        *value = u32_at(image, 16 + 4 * tag) as i32;
+    }
+    values
+}
+
+/// The size of a step.
+pub const STEP: usize = 80;
+
+/// What a step does.
+#[derive(Clone, Copy, Debug, PartialEq, Eq)]
+pub enum Kind {
+    Undo,
+    Execute,
+}
+
+/// A step, with the tag and the value of each pair that it counts.
+#[derive(Clone, Debug, PartialEq, Eq)]
+pub struct Step {
+    pub kind: Kind,
+    pub sequence: Sequence,
+    pub pairs: Vec<(usize, i32)>,
+}
+
+/// The step of these bytes, if they are one: a kind, one to eight pairs with tags up to 63,
+/// and zeros in the pairs beyond.
+pub fn step(bytes: &[u8]) -> Option<Step> {
+    if bytes.len() != STEP {
+        return None;
+    }
+    let kind = match bytes[0] {
+        1 => Kind::Undo,
+        2 => Kind::Execute,
+        _ => return None,
+    };
+    let count = 65_536 * usize::from(bytes[1]) + u16_at(bytes, 2);
+    if !(1..=8).contains(&count) || bytes[16 + 8 * count..].iter().any(|byte| *byte != 0) {
+        return None;
+    }
+    let pair = |at| (u32_at(bytes, at) as usize, u32_at(bytes, at + 4) as i32);
+    let pairs: Vec<(usize, i32)> = (0..count).map(|place| pair(16 + 8 * place)).collect();
+    let sequence = bytes[4..16].try_into().ok()?;
+    pairs.iter().all(|(tag, _)| *tag < 64).then_some(Step {
+        kind,
+        sequence,
+        pairs,
+    })
+}
+
+/// The steps at the front of a buffer, if they are so many undos and then so many
+/// executions.
+pub fn steps(buffer: &[u8], undos: usize, executions: usize) -> Option<Vec<Step>> {
+    let records = buffer.chunks(STEP).take(undos + executions);
+    let steps: Vec<Step> = records.map(step).collect::<Option<_>>()?;
+    let kind = |place| [Kind::Execute, Kind::Undo][usize::from(place < undos)];
+    let right = (0..)
+        .zip(&steps)
+        .all(|(place, step)| step.kind == kind(place));
+    (right && steps.len() == undos + executions).then_some(steps)
 }

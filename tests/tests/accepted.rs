@@ -59,7 +59,7 @@ fn every_other_delta_is_accepted() {
             if known.contains(&draft.sequence()) {
                 continue;
             }
-            let size = random.pick(&[STEPS, STEPS, STEPS + 1, 5_000]);
+            let size = random.pick(&[STEPS, STEPS, STEPS + 1, 20_000]);
             accept(&mut station, &draft, size);
             known.push(draft.sequence());
             let mut mark = |name, is| *seen.entry(name).or_default() += usize::from(is);

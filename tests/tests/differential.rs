@@ -70,7 +70,7 @@ fn what_a_call_reads_is_in_its_outcome() {
     assert_eq!(composed.line, composing.line);
     assert_eq!(composed.commands, composing.commands);
     assert!(composed.image == image);
-    let (_, delivered) = perform(Action::DeliverComposed { steps: 2_032 });
+    let (_, delivered) = perform(Action::DeliverComposed { steps: 10_160 });
     assert_eq!(delivered.message[40..], composing.commands);
     let (image, found) = perform(Action::Setpoint(2));
     assert_eq!(value(found.answer), 3);

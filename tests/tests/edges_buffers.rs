@@ -80,11 +80,12 @@ fn image_sizes_of_the_calls_that_read() {
 fn step_buffer_sizes() {
     for (size, expected) in [
         (0, 1),
-        (16, 1),
-        (2_031, 1),
-        (2_032, 0),
-        (2_033, 0),
-        (9_000, 0),
+        (80, 1),
+        (2_032, 1),
+        (10_159, 1),
+        (10_160, 0),
+        (10_161, 0),
+        (40_000, 0),
     ] {
         let mut station = Station::new();
         let (code, _) = station.deliver_into(&a1().bytes(), size);
@@ -96,8 +97,8 @@ fn step_buffer_sizes() {
 #[test]
 fn a_repeat_still_asks_for_a_step_buffer() {
     let mut station = Station::with(&[a1()]);
-    assert_eq!(station.deliver_into(&a1().bytes(), 2_031).0, 1);
-    assert_eq!(station.deliver_into(&a1().bytes(), 2_032).0, 0);
+    assert_eq!(station.deliver_into(&a1().bytes(), 10_159).0, 1);
+    assert_eq!(station.deliver_into(&a1().bytes(), 10_160).0, 0);
 }
 
 #[test]
@@ -106,13 +107,13 @@ fn bytes_past_the_steps_stay() {
         (0x00, STEPS),
         (0xFF, STEPS),
         (0x02, STEPS + 5),
-        (0x01, 9_000),
+        (0x01, 40_000),
     ] {
         let mut image = Station::with(&[b1()]).image;
         let mut buffer = vec![byte; size];
         let answer = SUBJECT.deliver(&mut image, &a1().bytes(), &mut buffer);
         assert_eq!(answer, 256 + 2 * 65_536);
-        assert!(buffer[48..].iter().all(|left| *left == byte));
+        assert!(buffer[240..].iter().all(|left| *left == byte));
         // A delta that is held writes no step, nor does a repeat or a refusal.
         let mut untouched = vec![byte; size];
         for draft in [delta(A, 9), a1(), a1().group(2), delta(A, 0)] {
@@ -193,8 +194,8 @@ const WRONG: Request = Request {
 fn sizes_come_before_everything_else() {
     let mut station = Station::new();
     station.image[15] = 1;
-    assert_eq!(station.deliver_into(&[], 2_031).0, 1);
-    assert_eq!(station.deliver_into(&[], 2_032).0, 2);
+    assert_eq!(station.deliver_into(&[], 10_159).0, 1);
+    assert_eq!(station.deliver_into(&[], 10_160).0, 2);
     let short_line = Request {
         line: &[7; 9],
         ..WRONG
@@ -204,7 +205,7 @@ fn sizes_come_before_everything_else() {
     assert_eq!(station.compose(&WRONG).0, 2);
     station.image[15] = 0;
     assert_eq!(station.compose(&WRONG).0, 3);
-    assert_eq!(station.deliver_into(&[], 2_032).0, 3);
+    assert_eq!(station.deliver_into(&[], 10_160).0, 3);
 }
 
 #[test]

@@ -11,6 +11,7 @@ use bivamolune_tests::call::{Action, Call, Composing, Outcome, View, World};
 use bivamolune_tests::edit::Edit;
 use bivamolune_tests::generate::{any_draft, case, damaged_message, drafts, nearly_right, LIMIT};
 use bivamolune_tests::random::Random;
+use bivamolune_tests::view::{steps, Step};
 use common::{delta, messages, u16_at, u32_at, Station, A, B, C, IMAGE};
 
 /// How often each (call, code) was answered, and each mark was seen.
@@ -54,6 +55,7 @@ fn run(seed: u64, seen: &mut Seen) {
         if let (Action::Compose(composing), 10) = (&call.action, answered) {
             mark_limit(seen, &view, composing);
         }
+        mark_room(seen, &call.action, answered);
         mark_edit(seen, &call, answered);
         mark_reading(seen, &call.action, answered);
         world.follow(&call, &outcome);
@@ -68,6 +70,13 @@ fn mark_delivery(seen: &mut Seen, outcome: &Outcome) {
     seen.mark("ten undos", undone >= 10);
     seen.mark("127 steps", undone + executed == 127);
     seen.mark("a release", executed > undone + 1);
+    let steps = steps(&outcome.buffer, undone, executed).expect("undos, then executions");
+    let any = |is: fn(&Step) -> bool| steps.iter().any(is);
+    seen.mark("eight pairs", any(|step| step.pairs.len() == 8));
+    seen.mark("one pair", any(|step| step.pairs.len() == 1));
+    seen.mark("a tag twice", any(has_a_tag_twice));
+    let still = |step: &Step| step.pairs.windows(2).any(|two| two[0] == two[1]);
+    seen.mark("a value that stays", any(still));
     seen.mark("held", held > 0);
     seen.mark("full", log + held == 64);
     seen.mark("full log", log == 64);
@@ -80,6 +89,19 @@ fn mark_delivery(seen: &mut Seen, outcome: &Outcome) {
     let lone = all[..log].iter().all(|m| first(m) && !named(m));
     seen.mark("63 lone lines", log == 63 && lone);
     seen.mark("00FF and 0100", crosses(&all));
+}
+
+/// Whether two pairs of a step have the same tag.
+fn has_a_tag_twice(step: &Step) -> bool {
+    let tags: BTreeSet<usize> = step.pairs.iter().map(|(tag, _)| *tag).collect();
+    tags.len() < step.pairs.len()
+}
+
+/// Marks of a step buffer one byte off.
+fn mark_room(seen: &mut Seen, action: &Action, answered: u32) {
+    let room = |size| matches!(action, Action::Deliver { steps, .. } if *steps == size);
+    seen.mark("10,159 refused", room(10_159) && answered == 1);
+    seen.mark("10,161 taken", room(10_161) && answered == 0);
 }
 
 /// Whether a line has the numbers 00FF and 0100.
@@ -148,7 +170,7 @@ fn every_code_of_every_call_and_hard_logs() {
     for (call, count) in &seen.codes {
         assert!(*count >= 10, "{call:?} only {count} times");
     }
-    assert_eq!(seen.marks.len(), 18);
+    assert_eq!(seen.marks.len(), 24);
     for (mark, count) in &seen.marks {
         assert!(*count >= 10, "{mark} only {count} times");
     }

@@ -40,7 +40,7 @@ fn any_bytes_are_answered() {
         let mut image = any_image(&mut random);
         let sizes = [0, 1, 6, 39, 40, 47, 48, 60, 200, 201, 70_000];
         let message = noise(&mut random, &sizes);
-        let mut steps = noise(&mut random, &[0, 15, STEPS - 1, STEPS, STEPS + 1]);
+        let mut steps = noise(&mut random, &[0, 79, STEPS - 1, STEPS, STEPS + 1]);
         let (old, before) = (image.clone(), steps.clone());
         let answer = SUBJECT.deliver(&mut image, &message, &mut steps);
         assert!((1..=6).contains(&answer), "seed {seed}: {answer}");
@@ -106,7 +106,7 @@ fn nearly_right_deliveries_are_refused_by_their_number() {
         let (mut station, expected, message) = nearly_right_delivery(&mut random);
         let short = random.chance(10);
         let (size, expected) = match short {
-            true => (random.pick(&[0, 16, STEPS - 1]), 1),
+            true => (random.pick(&[0, 80, STEPS - 1]), 1),
             false => (STEPS, expected),
         };
         let (code, _) = station.deliver_into(&message, size);

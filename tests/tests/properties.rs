@@ -14,8 +14,8 @@ use bivamolune_tests::reference::plain::PlainStation;
 use bivamolune_tests::reference::reader::Reader;
 use bivamolune_tests::wire::{Draft, Sequence};
 use common::{
-    log_message, log_message_code, messages, setpoint, u16_at, u32_at, Station, PATTERN, STEPS,
-    SUBJECT,
+    log_message, log_message_code, messages, setpoint, u16_at, u32_at, Station, PATTERN, STEP,
+    STEPS, SUBJECT,
 };
 
 /// The sequences of an image's log.
@@ -129,7 +129,7 @@ fn deliver<'a>(image: &[u8], message: &'a [u8], size: usize) -> Delivery<'a> {
 
 /// A refusal changes no byte; bytes past the steps are unchanged.
 fn check_buffers(delivery: &Delivery) {
-    let end = 16 * (undos(delivery.answer) + executions(delivery.answer));
+    let end = STEP * (undos(delivery.answer) + executions(delivery.answer));
     assert_eq!(delivery.steps[end..], delivery.before[end..]);
     if code(delivery.answer) != 0 {
         assert_eq!(end, 0);
@@ -160,13 +160,14 @@ fn check_counts(delivery: &Delivery) {
 fn play(played: &mut Vec<Vec<u8>>, delivery: &Delivery) {
     let undone = undos(delivery.answer);
     let count = undone + executions(delivery.answer);
-    for (place, record) in delivery.steps.chunks(16).take(count).enumerate() {
+    for (place, record) in delivery.steps.chunks(STEP).take(count).enumerate() {
+        let sequence = &record[4..16];
         if place < undone {
-            assert_eq!(record[..4], [1, 0, 0, 0]);
-            assert_eq!(played.pop().as_deref(), Some(&record[4..]));
+            assert_eq!(record[0], 1);
+            assert_eq!(played.pop().as_deref(), Some(sequence));
         } else {
-            assert_eq!(record[..4], [2, 0, 0, 0]);
-            played.push(record[4..].to_vec());
+            assert_eq!(record[0], 2);
+            played.push(sequence.to_vec());
         }
     }
 }
@@ -290,7 +291,7 @@ fn check_delivered(image: &[u8], message: &[u8]) {
     }
     assert_eq!((code(answer), undos(answer)), (0, 0));
     assert!(executions(answer) >= 1);
-    assert_eq!(steps[..4], [2, 0, 0, 0]);
+    assert_eq!(steps[..4], [2, 0, 0, message[3]]);
     assert_eq!(steps[4..16], message[12..24]);
 }
 

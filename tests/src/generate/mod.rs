@@ -18,6 +18,8 @@ use sets::{styled_drafts, Kind, Style};
 
 /// The place of an image's last byte.
 const LAST: usize = 16_383;
+/// The least size of a step buffer.
+const STEPS: usize = 10_160;
 /// Sizes that are not an image's.
 const SIZES: [usize; 6] = [0, 10, 272, 16_383, 16_385, 20_000];
 
@@ -142,7 +144,7 @@ fn call(action: Action) -> Call {
 fn deliver(message: Vec<u8>) -> Action {
     Action::Deliver {
         message,
-        steps: 2_032,
+        steps: STEPS,
     }
 }
 
@@ -151,7 +153,7 @@ fn deliver(message: Vec<u8>) -> Action {
 fn compose_and_deliver(random: &mut Random, style: &Style, calls: &mut Vec<Call>) {
     calls.push(call(Action::Compose(compose(random, style))));
     if style.kind == Kind::Woven {
-        calls.push(call(Action::DeliverComposed { steps: 2_032 }));
+        calls.push(call(Action::DeliverComposed { steps: STEPS }));
     }
 }
 
@@ -167,7 +169,7 @@ fn disturb(random: &mut Random, style: &Style, draft: &Draft, calls: &mut Vec<Ca
         12 => calls.push(call(Action::Compose(compose(random, style)))),
         13 => calls.push(call(Action::Compose(odd_compose(random, style)))),
         14 => {
-            let steps = random.pick(&[0, 16, 2_031, 2_033, 5_000]);
+            let steps = random.pick(&[0, 80, 2_032, 10_159, 10_161, 20_000]);
             let message = bytes;
             calls.push(call(Action::Deliver { message, steps }));
         }
@@ -209,7 +211,7 @@ fn any_action(random: &mut Random, style: &Style, draft: &Draft) -> Action {
         0 => Action::Empty,
         1..=4 => deliver(draft.bytes()),
         5 => deliver(damaged_message(random, draft)),
-        6 => Action::DeliverComposed { steps: 2_032 },
+        6 => Action::DeliverComposed { steps: STEPS },
         7 => Action::Compose(compose(random, style)),
         _ => reading(random),
     }

@@ -4,7 +4,7 @@
 pub mod trial;
 
 /// The tests that are run on each change first: those of few inputs.
-pub const QUICK: [&str; 12] = [
+pub const QUICK: [&str; 13] = [
     "examples",
     "codes",
     "edges_message",
@@ -12,6 +12,7 @@ pub const QUICK: [&str; 12] = [
     "edges_log",
     "edges_compose",
     "edges_buffers",
+    "edges_steps",
     "published",
     "plant_fault",
     "story",
@@ -21,12 +22,13 @@ pub const QUICK: [&str; 12] = [
 
 /// The tests that are run after those: of many inputs. The tests of the differential runner
 /// are not among them, as they would compare the second implementation with itself.
-pub const SLOW: [&str; 6] = [
+pub const SLOW: [&str; 7] = [
     "accepted",
     "generator",
     "brute_force",
     "hostile",
     "properties",
+    "hardware",
     "plant",
 ];
 

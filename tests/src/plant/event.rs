@@ -2,9 +2,9 @@
 
 use std::fmt::{self, Display, Formatter};
 
-use super::station::{Delivery, Step};
+use super::station::Delivery;
 use crate::call::hex;
-use crate::view::{sequence_of, u32_at};
+use crate::view::{sequence_of, u32_at, Kind};
 use crate::wire::Sequence;
 
 /// Something that happened at a time, which is counted from 1.
@@ -50,9 +50,9 @@ impl What {
     /// That a message was delivered at a station, and the steps.
     pub fn delivered(at: usize, message: &[u8], delivery: &Delivery) -> Vec<What> {
         let mut all = vec![What::Delivered(at, sequence_of(message), delivery.code)];
-        all.extend(delivery.steps.iter().map(|step| match *step {
-            Step::Undo(sequence) => What::Undone(at, sequence),
-            Step::Execute(sequence) => What::Executed(at, sequence),
+        all.extend(delivery.steps.iter().map(|step| match step.kind {
+            Kind::Undo => What::Undone(at, step.sequence),
+            Kind::Execute => What::Executed(at, step.sequence),
         }));
         all
     }

@@ -10,7 +10,7 @@ mod traffic;
 
 pub use event::{Event, What};
 pub use run::Run;
-pub use station::{Delivery, Station, Step};
+pub use station::{Delivery, Hardware, Station};
 
 use crate::boundary::Calls;
 use motion::Plant;

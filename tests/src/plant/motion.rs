@@ -5,13 +5,13 @@ use std::collections::{BTreeMap, BTreeSet};
 use super::event::{Event, What};
 use super::network::Network;
 use super::run::Run;
-use super::station::{Delivery, Station, Step};
+use super::station::{Delivery, Station};
 use super::Duty;
 use crate::boundary::Calls;
 use crate::call::Composing;
 use crate::generate::{drafts, nearly_right, LINES};
 use crate::random::Random;
-use crate::view::sequence_of;
+use crate::view::{sequence_of, Kind};
 use crate::wire::{command, Draft, Line, Sequence};
 
 /// The stations, the network between, and all that has happened.
@@ -176,9 +176,9 @@ impl<'a> Plant<'a> {
     /// Delivers a composed delta to its own station: no undo, and executed first.
     fn deliver_own(&mut self, at: usize, message: &[u8]) -> Result<(), String> {
         let delivery = self.deliver(at, message)?;
-        let first = delivery.steps.first().copied();
-        let undone = delivery.steps.iter().any(|s| matches!(s, Step::Undo(_)));
-        if delivery.code != 0 || undone || first != Some(Step::Execute(sequence_of(message))) {
+        let first = delivery.steps.first().map(|step| step.sequence);
+        let undone = delivery.steps.iter().any(|step| step.kind == Kind::Undo);
+        if delivery.code != 0 || undone || first != Some(sequence_of(message)) {
             return Err(format!("own delta at {at}: {delivery:?}"));
         }
         Ok(())
@@ -226,6 +226,7 @@ impl<'a> Plant<'a> {
         Run {
             reused: self.sent.iter().filter_map(reused).collect(),
             sent: self.sent.into_values().flatten().collect(),
+            hardware: self.stations.iter().map(|s| s.hardware.clone()).collect(),
             memories: self.stations.into_iter().map(|s| s.memory).collect(),
             events: self.events,
         }

@@ -3,7 +3,7 @@
 use std::collections::BTreeSet;
 
 use super::event::{Event, What};
-use super::station::{Memory, Station};
+use super::station::{Hardware, Memory, Station};
 use crate::boundary::Calls;
 use crate::call::hex;
 use crate::view::{all_messages, log, sequence_of};
@@ -14,6 +14,8 @@ use crate::wire::Sequence;
 pub struct Run {
     /// Images and host models, by station.
     pub memories: Vec<Memory>,
+    /// The burner hardware of each station.
+    pub hardware: Vec<Hardware>,
     /// Every right message that ever set out.
     pub sent: BTreeSet<Vec<u8>>,
     /// Sequences under which different messages set out.
@@ -41,7 +43,8 @@ impl Run {
     }
 
     /// What holds where the duty is kept: equal images, which are those of a station that
-    /// got all deltas one after another; host models that show the log; nothing lost.
+    /// got all deltas one after another; host models that show the log, and hardware that
+    /// shows the setpoints; nothing lost.
     pub fn check(&self, calls: &dyn Calls) -> Result<(), String> {
         if let Some(sequence) = self.reused.iter().next() {
             return Err(format!("{} was used again", hex(sequence)));
@@ -49,9 +52,12 @@ impl Run {
         if !self.agrees() {
             return Err("the images differ".to_string());
         }
-        for memory in &self.memories {
+        for (memory, hardware) in self.memories.iter().zip(&self.hardware) {
             if memory.host.log != log(&memory.image) {
                 return Err("a host's log is not its image's".to_string());
+            }
+            if !hardware.shows(&memory.image) {
+                return Err("a station's hardware does not show its image".to_string());
             }
             let known: BTreeSet<Vec<u8>> = all_messages(&memory.image).into_iter().collect();
             if let Some(lost) = self.sent.difference(&known).next() {

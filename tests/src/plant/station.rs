@@ -1,24 +1,17 @@
-//! A station of the plant: its image, what it saved, and its host, which knows the log by
-//! the steps alone.
+//! A station of the plant: its image, what it saved, its host, which knows the log by the
+//! steps alone, and its burner hardware, which knows the setpoints by their pairs alone.
 
 use crate::boundary::{code, executions, length, undos, Calls};
 use crate::call::{hex, Composing};
-use crate::view::log;
+use crate::view::{log, steps, values, Kind, Step, STEP};
 use crate::wire::{Line, Sequence};
 
 /// The size of an image.
 const IMAGE: usize = 16_384;
 /// The size of a step buffer.
-const STEPS: usize = 2_032;
+const STEPS: usize = 10_160;
 /// What bytes hold that nobody has written.
 const PATTERN: u8 = 0xA5;
-
-/// A record of a step buffer.
-#[derive(Clone, Copy, Debug, PartialEq, Eq)]
-pub enum Step {
-    Undo(Sequence),
-    Execute(Sequence),
-}
 
 /// The host's model: the log as the steps played it.
 #[derive(Clone, Debug, Default, PartialEq, Eq)]
@@ -28,16 +21,42 @@ pub struct Host {
 
 impl Host {
     /// An undo must name the last delta; an execution adds one at the end.
-    fn play(&mut self, step: Step) -> Result<(), String> {
-        match step {
-            Step::Execute(sequence) => self.log.push(sequence),
-            Step::Undo(sequence) => {
-                if self.log.pop() != Some(sequence) {
-                    return Err(format!("undo of {}, which is not the last", hex(&sequence)));
-                }
-            }
+    fn play(&mut self, step: &Step) -> Result<(), String> {
+        let own = step.sequence;
+        match step.kind {
+            Kind::Execute => self.log.push(own),
+            Kind::Undo if self.log.pop() == Some(own) => {}
+            Kind::Undo => return Err(format!("undo of {}, which is not the last", hex(&own))),
         }
         Ok(())
+    }
+}
+
+/// Burner hardware: 64 setpoints, all zero at first. Deliveries reach it by the pairs of
+/// their steps alone, never by the image.
+#[derive(Clone, Debug, PartialEq, Eq)]
+pub struct Hardware {
+    setpoints: [i32; 64],
+}
+
+impl Default for Hardware {
+    fn default() -> Hardware {
+        let setpoints = [0; 64];
+        Hardware { setpoints }
+    }
+}
+
+impl Hardware {
+    /// Each pair sets its tag to its value.
+    fn feed(&mut self, step: &Step) {
+        for (tag, value) in &step.pairs {
+            self.setpoints[*tag] = *value;
+        }
+    }
+
+    /// Whether its setpoints are those of an image.
+    pub fn shows(&self, image: &[u8]) -> bool {
+        self.setpoints == values(image)
     }
 }
 
@@ -48,11 +67,12 @@ pub struct Memory {
     pub host: Host,
 }
 
-/// A station with what it has in memory and what it has saved.
+/// A station with what it has in memory, what it has saved, and its hardware.
 #[derive(Clone, Debug)]
 pub struct Station {
     pub lines: Vec<Line>,
     pub memory: Memory,
+    pub hardware: Hardware,
     saved: Memory,
 }
 
@@ -77,6 +97,7 @@ impl Station {
         Ok(Station {
             lines,
             memory,
+            hardware: Hardware::default(),
             saved,
         })
     }
@@ -86,29 +107,55 @@ impl Station {
         self.saved.clone_from(&self.memory);
     }
 
-    /// Begins again from the disk.
+    /// Begins again from the disk. The hardware kept its values, which may be those of
+    /// deltas that were not saved, so the host sets it once from the saved image; from there
+    /// on it follows the pairs again.
     pub fn restart(&mut self) {
         self.memory.clone_from(&self.saved);
+        self.hardware.setpoints = values(&self.saved.image);
     }
 
     /// Delivers and lets the host play the steps. Whatever the answer, the host's log is
-    /// the image's; a refusal writes nothing, nor does anything past the steps.
+    /// the image's, and so are the setpoints of the hardware; a refusal writes nothing, nor
+    /// does anything past the steps.
     pub fn deliver(&mut self, calls: &dyn Calls, message: &[u8]) -> Result<Delivery, String> {
         let before = self.memory.image.clone();
         let mut buffer = vec![PATTERN; STEPS];
         let answer = calls.deliver(&mut self.memory.image, message, &mut buffer);
-        let steps = steps(&buffer, undos(answer), executions(answer))?;
-        for step in &steps {
-            self.memory.host.play(*step)?;
-        }
+        let steps = self.play(&buffer, undos(answer), executions(answer))?;
         if code(answer) != 0 && (self.memory.image != before || !steps.is_empty()) {
             return Err(format!("a refusal by {} wrote", code(answer)));
         }
         if self.memory.host.log != log(&self.memory.image) {
             return Err("the host's log is not the image's".to_string());
         }
+        if !self.hardware.shows(&self.memory.image) {
+            return Err("the hardware's setpoints are not the image's".to_string());
+        }
         let code = code(answer);
         Ok(Delivery { code, steps })
+    }
+
+    /// Plays the steps at the front of a buffer, behind which nothing is written.
+    fn play(
+        &mut self,
+        buffer: &[u8],
+        undos: usize,
+        executions: usize,
+    ) -> Result<Vec<Step>, String> {
+        let steps = steps(buffer, undos, executions);
+        let steps = steps.ok_or(format!("not {undos} undos, then {executions} executions"))?;
+        if buffer[STEP * steps.len()..]
+            .iter()
+            .any(|byte| *byte != PATTERN)
+        {
+            return Err("bytes past the steps were written".to_string());
+        }
+        for step in &steps {
+            self.memory.host.play(step)?;
+            self.hardware.feed(step);
+        }
+        Ok(steps)
     }
 
     /// Composes; the code, and the message where it is 0.
@@ -117,29 +164,5 @@ impl Station {
         let answer = calls.compose(&self.memory.image, &composing.request(), &mut buffer);
         buffer.truncate(length(answer));
         (code(answer), buffer)
-    }
-}
-
-/// The records at the front of a step buffer: undos, then executions, and nothing behind.
-fn steps(buffer: &[u8], undos: usize, executions: usize) -> Result<Vec<Step>, String> {
-    let mut steps = Vec::new();
-    let mut rest = buffer;
-    for place in 0..undos + executions {
-        let kind = if place < undos { 1 } else { 2 };
-        let (record, after) = rest.split_at(16.min(rest.len()));
-        let sequence = match record {
-            [first, 0, 0, 0, sequence @ ..] if *first == kind => sequence.try_into().ok(),
-            _ => None,
-        };
-        match sequence {
-            Some(sequence) if place < undos => steps.push(Step::Undo(sequence)),
-            Some(sequence) => steps.push(Step::Execute(sequence)),
-            None => return Err(format!("record {place} is no step of kind {kind}")),
-        }
-        rest = after;
-    }
-    match rest.iter().all(|byte| *byte == PATTERN) {
-        true => Ok(steps),
-        false => Err("bytes past the steps were written".to_string()),
     }
 }

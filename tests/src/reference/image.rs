@@ -76,7 +76,7 @@ fn listed(buffer: &[u8]) -> Option<Set<'_>> {
 /// The setpoints as the log leaves them, all zero at first.
 fn log_setpoints(order: &Order) -> Setpoints {
     order.log.iter().fold([0; COUNT], |setpoints, placed| {
-        run(placed.delta.commands(), setpoints)
+        run(placed.delta.commands(), setpoints).0
     })
 }
 

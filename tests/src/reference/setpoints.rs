@@ -8,16 +8,29 @@ pub const COUNT: usize = 64;
 /// One value for each tag.
 pub type Setpoints = [i32; COUNT];
 
-/// Runs commands of eight bytes, first to last, and gives the setpoints back.
-pub fn run(commands: &[u8], setpoints: Setpoints) -> Setpoints {
+/// What a command did: its tag, and the tag's value from before and after.
+#[derive(Clone, Copy, Debug, PartialEq, Eq)]
+pub struct Change {
+    pub tag: u8,
+    pub before: i32,
+    pub after: i32,
+}
+
+/// Runs commands of eight bytes, first to last, and gives back the setpoints and what
+/// each command did.
+pub fn run(commands: &[u8], setpoints: Setpoints) -> (Setpoints, Vec<Change>) {
     let mut setpoints = setpoints;
+    let mut changes = Vec::with_capacity(commands.len() / COMMAND);
     for command in commands.chunks(COMMAND) {
-        let value = i32_at(command, 4);
-        if let Some(setpoint) = setpoints.get_mut(usize::from(u8_at(command, 1))) {
-            *setpoint = apply(u8_at(command, 0), *setpoint, value);
+        let (tag, value) = (u8_at(command, 1), i32_at(command, 4));
+        if let Some(setpoint) = setpoints.get_mut(usize::from(tag)) {
+            let before = *setpoint;
+            let after = apply(u8_at(command, 0), before, value);
+            *setpoint = after;
+            changes.push(Change { tag, before, after });
         }
     }
-    setpoints
+    (setpoints, changes)
 }
 
 /// 1 sets, 2 adds and stops the sum at the limits, 3 raises if lower.

@@ -53,7 +53,7 @@ pub fn is_new(set: &Set, delta: &Delta) -> Result<bool, Code> {
 
 /// Writes the steps from the old log to the new one and counts them.
 fn write_steps(old: &Order, new: &Order, buffer: &mut [u8]) -> Counts {
-    let steps = steps::steps(&old.log_sequences(), &new.log_sequences());
+    let steps = steps::steps(&steps::run_log(old), &steps::run_log(new));
     steps::write(&steps, buffer);
     Counts {
         undos: steps.undos.len(),

@@ -7,6 +7,7 @@ pub use bivamolune_tests::boundary::SUBJECT;
 use bivamolune_tests::boundary::{code, executions, length, offset, packed, undos, value, Calls};
 use bivamolune_tests::reference::compose::Request;
 pub use bivamolune_tests::view::{messages, u16_at, u32_at};
+use bivamolune_tests::view::{steps as steps_of, Kind, Step};
 use bivamolune_tests::wire::{add, line, set, Draft, Line};
 
 pub const A: u8 = 0x0A;
@@ -15,7 +16,9 @@ pub const C: u8 = 0x0C;
 pub const D: u8 = 0x0D;
 
 pub const IMAGE: usize = 16_384;
-pub const STEPS: usize = 2_032;
+pub const STEPS: usize = 10_160;
+/// The size of a step.
+pub const STEP: usize = 80;
 pub const MESSAGE: usize = 200;
 
 /// What unwritten bytes of step and message buffers hold.
@@ -102,9 +105,21 @@ impl Station {
             assert_eq!((undone, executed), (0, 0), "counts of a refusal");
             assert!(before == self.image, "a refusal wrote the image");
         }
-        let end = 16 * (undone + executed);
+        let end = STEP * (undone + executed);
         assert!(steps[end..].iter().all(|byte| *byte == PATTERN));
-        (code(answer), played(&steps[..end], undone))
+        let read = steps_of(&steps, undone, executed).expect("undos, then executions");
+        let words: Vec<String> = read.iter().map(signed_name).collect();
+        (code(answer), words.join(" "))
+    }
+
+    /// Delivers what must be accepted; the steps with their pairs, such as "-B1 3=0".
+    pub fn pairs(&mut self, draft: &Draft) -> Vec<String> {
+        let mut steps = vec![PATTERN; STEPS];
+        let answer = SUBJECT.deliver(&mut self.image, &draft.bytes(), &mut steps);
+        assert_eq!(code(answer), 0, "{draft:?}");
+        let read = steps_of(&steps, undos(answer), executions(answer));
+        let read = read.expect("undos, then executions");
+        read.iter().map(with_pairs).collect()
     }
 
     /// Composes into a buffer of 200 bytes.
@@ -210,16 +225,20 @@ pub fn plain_request(line: &[u8]) -> Request<'_> {
     }
 }
 
-/// Step records as "-B1 +A1"; the first `undone` must be undos, the rest executions.
-fn played(records: &[u8], undone: usize) -> String {
-    let mut played = Vec::new();
-    for (place, record) in records.chunks(16).enumerate() {
-        let kind = if place < undone { 1 } else { 2 };
-        assert_eq!(record[..4], [kind, 0, 0, 0]);
-        let sign = if kind == 1 { '-' } else { '+' };
-        played.push(format!("{sign}{}", name(&record[4..])));
-    }
-    played.join(" ")
+/// A step as "-B1" or "+A1".
+fn signed_name(step: &Step) -> String {
+    let sign = match step.kind {
+        Kind::Undo => '-',
+        Kind::Execute => '+',
+    };
+    format!("{sign}{}", name(&step.sequence))
+}
+
+/// A step as "-B1 3=0 4=-20": its name, then tag and value of each pair.
+fn with_pairs(step: &Step) -> String {
+    let pairs = step.pairs.iter();
+    let words = pairs.map(|(tag, value)| format!(" {tag}={value}"));
+    signed_name(step) + &words.collect::<String>()
 }
 
 /// A code and steps, for comparing.

@@ -1,13 +1,16 @@
 //! Deliberately wrong variants of the second implementation. Each shows that the
 //! differential runner finds its fault.
 
+mod pairs;
+
 use crate::boundary::{code, executions, length, packed, undos, value, Calls, Reference};
 use crate::reference::bytes::{i32_at, u16_at, u8_at};
 use crate::reference::compose::Request;
 use crate::reference::image::{self, read_sized};
 use crate::reference::message::Delta;
 use crate::reference::order::{key, order, Order, Set};
-use crate::reference::steps::{self, Steps};
+use crate::reference::setpoints::run;
+use crate::reference::steps::{self, run_log, Steps, STEP};
 use crate::view::messages;
 
 /// What is wrong.
@@ -69,10 +72,24 @@ pub enum Fault {
     SetpointUnjudged,
     /// Answers a value below zero as its distance from zero.
     SignLost,
+    /// A step lists before for after and after for before.
+    BeforeForAfter,
+    /// An undo lists the first command first.
+    UndoFirstFirst,
+    /// An undo takes an addition's value off again, instead of restoring.
+    UndoSubtracts,
+    /// A step counts eight pairs always.
+    CountsEight,
+    /// A step leaves the bytes of unused pairs.
+    UnusedNotCleared,
+    /// A command that leaves its tag's value has no pair.
+    StillLeftOut,
+    /// Takes a step buffer of 10,159 bytes.
+    ShortRoom,
 }
 
 /// Every fault. Those that the paper names as programs that come close are among them.
-pub const FAULTS: [Fault; 28] = [
+pub const FAULTS: [Fault; 35] = [
     Fault::FullAt63,
     Fault::KeyAlone,
     Fault::TailNotCleared,
@@ -101,6 +118,13 @@ pub const FAULTS: [Fault; 28] = [
     Fault::TagWraps,
     Fault::SetpointUnjudged,
     Fault::SignLost,
+    Fault::BeforeForAfter,
+    Fault::UndoFirstFirst,
+    Fault::UndoSubtracts,
+    Fault::CountsEight,
+    Fault::UnusedNotCleared,
+    Fault::StillLeftOut,
+    Fault::ShortRoom,
 ];
 
 /// The second implementation with one fault.
@@ -121,6 +145,9 @@ impl Calls for Faulty {
         if self.0 == Fault::FullAt63 && makes_64(image, message) {
             return if buffer.len() < steps::BUFFER { 1 } else { 8 };
         }
+        if self.0 == Fault::ShortRoom && buffer.len() + 1 == steps::BUFFER {
+            return pairs::with_short_room(image, message, buffer);
+        }
         let (before, untouched) = (image.to_vec(), buffer.to_vec());
         let answer = Reference.deliver(image, message, buffer);
         if code(answer) == 0 {
@@ -137,11 +164,11 @@ impl Calls for Faulty {
             (Fault::WaitsBehindHeld, 0) => waits_behind_held(&before, image, message, answer),
             (Fault::Subtracts, 0) => subtracts(&before, image, answer),
             (Fault::RefusalWrites, 7) => {
-                buffer[..16].fill(0);
+                buffer[..STEP].fill(0);
                 answer
             }
             (Fault::StepsCleared, 0) => {
-                buffer[16 * (undos(answer) + executions(answer))..].fill(0);
+                buffer[STEP * (undos(answer) + executions(answer))..].fill(0);
                 answer
             }
             (Fault::FullBeforeConflict, 7) if count(&before) == 64 => 8,
@@ -150,6 +177,10 @@ impl Calls for Faulty {
             (Fault::SetpointsUnchecked, 2) => without_setpoints(image, message, buffer),
             (Fault::LeavesImage, 0) => {
                 image.copy_from_slice(&before);
+                answer
+            }
+            (fault, 0) => {
+                pairs::spoil(fault, (&before, image), &untouched, buffer);
                 answer
             }
             _ => answer,
@@ -258,9 +289,8 @@ fn repeat_writes(
     answer: u32,
 ) -> u32 {
     if before == image {
-        let mut record = [2, 0, 0, 0].to_vec();
-        record.extend(&message[12..24]);
-        buffer[..16].copy_from_slice(&record);
+        buffer[..4].copy_from_slice(&[2, 0, 0, message[3]]);
+        buffer[4..16].copy_from_slice(&message[12..24]);
     }
     answer
 }
@@ -271,9 +301,8 @@ fn undoes_everything(before: &[u8], image: &[u8], buffer: &mut [u8], answer: u32
         (Ok((_, old)), Ok((_, new))) => (old, new),
         _ => return answer,
     };
-    let mut undos = old.log_sequences();
+    let (mut undos, executions) = (run_log(&old), run_log(&new));
     undos.reverse();
-    let executions = new.log_sequences();
     let all = 256 * undos.len() as u32 + 65_536 * executions.len() as u32;
     steps::write(&Steps { undos, executions }, buffer);
     all
@@ -314,7 +343,7 @@ fn subtracts(before: &[u8], image: &mut [u8], answer: u32) -> u32 {
         setpoints[usize::from(command[1])] -= i32_at(command, 4);
     }
     for placed in &new.log[kept..] {
-        setpoints = crate::reference::setpoints::run(placed.delta.commands(), setpoints);
+        (setpoints, _) = run(placed.delta.commands(), setpoints);
     }
     for (tag, setpoint) in setpoints.iter().enumerate() {
         image[16 + 4 * tag..20 + 4 * tag].copy_from_slice(&setpoint.to_be_bytes());
@@ -360,7 +389,7 @@ fn rebuilt(image: &[u8]) -> Option<Vec<u8>> {
     for _ in 0..u16_at(image, 0).min(64) {
         let length = usize::from(u16_at(image, at + 4));
         let delta = Delta::check(image.get(at..at + length)?).ok()?;
-        setpoints = crate::reference::setpoints::run(delta.commands(), setpoints);
+        (setpoints, _) = run(delta.commands(), setpoints);
         at += length;
     }
     let mut image = image.to_vec();
