@@ -10,6 +10,8 @@
  *   image.
  * - A composed message that is delivered to the image it was composed on, if that holds fewer than 64 deltas, is accepted
  *   with no undo, and its execution is the first step.
+ * - The pairs of a delivery's steps, each of which sets its tag to its value, lead in turn from the image's 64 values before
+ *   the call to those after it. Hardware that is fed by the pairs shows the image's values after each call.
  * - A buffer may start at any address. A call takes less than BIVAMOLUNE_STACK bytes of stack (measured, not proved).
  *
  * What the host owes
@@ -20,6 +22,8 @@
  * - An answer is several numbers in one. `if (bivamolune_deliver(..) != 0)` takes most successes for failures: ask
  *   bivamolune_accepted(answer), or bivamolune_code(answer). Those of setpoint and log message have 64 bits and functions of
  *   their own; in a variable of 32 bits nothing but the code is left of them.
+ * - Hardware that is fed by the pairs begins with the image's values, all zero after empty. It gets the pairs of every delivery,
+ *   the steps in order. A host that begins again from a saved image sets its hardware to that image's values first.
  * - What log message hands back is a part of the image itself. It is the message until the image is written again.
  * - An image in memory is not written in one blow. If power may fail, or the process may be killed, keep the last image in
  *   safe storage until the next one is there whole; what an interrupted call left may be no image (code 2).
@@ -39,15 +43,16 @@ extern "C" {
 
 /* The version of this header and of the archive that it goes with. */
 #define BIVAMOLUNE_VERSION_MAJOR 0
-#define BIVAMOLUNE_VERSION_MINOR 2
+#define BIVAMOLUNE_VERSION_MINOR 3
 #define BIVAMOLUNE_VERSION_PATCH 0
-#define BIVAMOLUNE_VERSION "0.2.0"
+#define BIVAMOLUNE_VERSION "0.3.0"
 
 /* Sizes in bytes. */
 #define BIVAMOLUNE_IMAGE_SIZE 16384  /* an image, exactly */
-#define BIVAMOLUNE_STEP_ROOM 2032    /* a step buffer, at least: 127 steps */
+#define BIVAMOLUNE_STEP_ROOM 10160   /* a step buffer, at least: 127 steps */
 #define BIVAMOLUNE_MESSAGE_ROOM 200  /* compose's message buffer, at least */
-#define BIVAMOLUNE_STEP_SIZE 16      /* a step: one of the two below, three zeros, the sequence */
+#define BIVAMOLUNE_STEP_SIZE 80      /* a step: kind, count of pairs, sequence, eight pairs */
+#define BIVAMOLUNE_PAIR_SIZE 8       /* a pair of a step: tag and value, four bytes each */
 #define BIVAMOLUNE_SEQUENCE_SIZE 12  /* a sequence: endpoint UID 6, creator identifier 4, number 2 */
 #define BIVAMOLUNE_LINE_SIZE 10      /* a line: a sequence without its number */
 #define BIVAMOLUNE_VALUES_AT 16      /* where the 64 values of an image begin, four bytes each */
@@ -68,9 +73,15 @@ extern "C" {
 #define BIVAMOLUNE_VALUE_LEAST (-1000000)
 #define BIVAMOLUNE_VALUE_MOST 1000000
 
-/* The first byte of a step. */
+/* A step. Its first byte is the kind, one of the two. It has a pair for each command of the delta, also for one that changes
+ * nothing: an execution has the value after each command, an undo the value that each command had found, from the last
+ * command to the first. Unused pairs are zero. */
 #define BIVAMOLUNE_UNDO 1
 #define BIVAMOLUNE_EXECUTE 2
+#define BIVAMOLUNE_STEP_COUNT_AT 1       /* where in a step the count of pairs stands, three bytes */
+#define BIVAMOLUNE_STEP_SEQUENCE_AT 4    /* where the delta's sequence stands */
+#define BIVAMOLUNE_STEP_PAIRS_AT 16      /* where the pairs begin */
+#define BIVAMOLUNE_PAIRS_MOST 8          /* of a step, and at least one */
 
 /* Codes. */
 enum bivamolune_result {
@@ -114,8 +125,9 @@ static inline const char *bivamolune_code_name(uint32_t code) {
 uint32_t bivamolune_empty(uint8_t *image, size_t image_size);
 
 /* Delivers a message to a station. On acceptance the image is the new one, and the steps stand at the front of the step
- * buffer: first the undos, then the executions. The bytes behind them are unchanged. A delta that is there already with
- * equal bytes is accepted with no step. Take the answer apart with the functions below. */
+ * buffer: first the undos, then the executions, each with the values that its commands restore or give. The bytes behind
+ * them are unchanged. A delta that is there already with equal bytes is accepted with no step. Take the answer and the steps
+ * apart with the functions below. */
 uint32_t bivamolune_deliver(uint8_t *image, size_t image_size,
                             const uint8_t *message, size_t message_size,
                             uint8_t *steps, size_t steps_size);
@@ -136,9 +148,39 @@ static inline uint32_t bivamolune_undos(uint32_t answer) { return answer / 256u 
 static inline uint32_t bivamolune_executions(uint32_t answer) { return answer / 65536u; }
 static inline size_t bivamolune_composed_length(uint32_t answer) { return answer / 256u; }
 
+/* The numbers of two and of four bytes that begin at a place of a buffer. */
+static inline uint32_t bivamolune_two_bytes_at(const uint8_t *bytes, size_t at) {
+    return (uint32_t)bytes[at] * 256u + bytes[at + 1];
+}
+static inline uint32_t bivamolune_four_bytes_at(const uint8_t *bytes, size_t at) {
+    return bivamolune_two_bytes_at(bytes, at) * 65536u + bivamolune_two_bytes_at(bytes, at + 2);
+}
+
 /* A number of four bytes as two's complement, with no conversion that a compiler may choose. */
 static inline int32_t bivamolune_signed(uint32_t word) {
     return word <= 0x7FFFFFFFu ? (int32_t)word : -(int32_t)(0xFFFFFFFFu - word) - 1;
+}
+
+/* What stands in a step. These look at BIVAMOLUNE_STEP_SIZE bytes and judge nothing: hand them the steps that deliver counted,
+ * the first at the front of the step buffer, each of the others BIVAMOLUNE_STEP_SIZE bytes past the one before. */
+
+/* BIVAMOLUNE_UNDO or BIVAMOLUNE_EXECUTE. */
+static inline uint32_t bivamolune_step_kind(const uint8_t *step) { return step[0]; }
+/* The sequence of the delta, BIVAMOLUNE_SEQUENCE_SIZE bytes of the step itself. */
+static inline const uint8_t *bivamolune_step_sequence(const uint8_t *step) { return step + BIVAMOLUNE_STEP_SEQUENCE_AT; }
+/* How many pairs the step has. */
+static inline uint32_t bivamolune_pair_count(const uint8_t *step) {
+    return (uint32_t)step[BIVAMOLUNE_STEP_COUNT_AT] * 65536u + bivamolune_two_bytes_at(step, BIVAMOLUNE_STEP_COUNT_AT + 1);
+}
+/* The tag and the value of a pair, counted from 0; both are 0 where the step has no such pair. */
+static inline uint32_t bivamolune_pair_part(const uint8_t *step, uint32_t pair, size_t part) {
+    size_t at = BIVAMOLUNE_STEP_PAIRS_AT + BIVAMOLUNE_PAIR_SIZE * (size_t)pair;
+    if (pair >= BIVAMOLUNE_PAIRS_MOST) return 0;
+    return bivamolune_four_bytes_at(step, at + part);
+}
+static inline uint32_t bivamolune_pair_tag(const uint8_t *step, uint32_t pair) { return bivamolune_pair_part(step, pair, 0); }
+static inline int32_t bivamolune_pair_value(const uint8_t *step, uint32_t pair) {
+    return bivamolune_signed(bivamolune_pair_part(step, pair, 4));
 }
 
 /* Looks up the value of a tag in an image, which is judged first. */
@@ -159,19 +201,17 @@ static inline size_t bivamolune_log_message_offset(uint64_t answer) { return (si
 
 /* What stands in an image. These look at BIVAMOLUNE_IMAGE_SIZE bytes and judge nothing: hand them what empty or deliver
  * accepted. */
-static inline uint32_t bivamolune_pair_at(const uint8_t *image, size_t at) {
-    return (uint32_t)image[at] * 256u + image[at + 1];
-}
+
 /* How many deltas the log has, and how many are held. */
-static inline uint32_t bivamolune_log_count(const uint8_t *image) { return bivamolune_pair_at(image, 0); }
-static inline uint32_t bivamolune_held_count(const uint8_t *image) { return bivamolune_pair_at(image, 2); }
+static inline uint32_t bivamolune_log_count(const uint8_t *image) { return bivamolune_two_bytes_at(image, 0); }
+static inline uint32_t bivamolune_held_count(const uint8_t *image) { return bivamolune_two_bytes_at(image, 2); }
 /* How many bytes of the image are in use. */
-static inline uint32_t bivamolune_bytes_used(const uint8_t *image) { return bivamolune_pair_at(image, 8); }
+static inline uint32_t bivamolune_bytes_used(const uint8_t *image) { return bivamolune_two_bytes_at(image, 8); }
 /* The value of a setpoint; 0 where the tag is above 63. (bivamolune_setpoint judges the image first.) */
 static inline int32_t bivamolune_value(const uint8_t *image, uint32_t tag) {
     size_t at = BIVAMOLUNE_VALUES_AT + 4u * (size_t)tag;
     if (tag >= BIVAMOLUNE_TAGS) return 0;
-    return bivamolune_signed(bivamolune_pair_at(image, at) * 65536u + bivamolune_pair_at(image, at + 2));
+    return bivamolune_signed(bivamolune_four_bytes_at(image, at));
 }
 
 #ifdef __cplusplus

@@ -64,7 +64,7 @@ static void run_composed(void) {
     check(composes(urgent, 0, prioritised(a1, 1, 5)), "compose with priority");
     deliver(b1);
     check(composes(request(10, a1), 0, grouped(naming(a1, 11, 1), 2)), "compose on A, log B1");
-    check(answers(deliver(grouped(naming(a1, 11, 1), 2)), 0, 0, 1, "xA1"), "delivered, it is the first step");
+    check(answers(deliver(grouped(naming(a1, 11, 1), 2)), 0, 0, 1, "xA1 3=1500"), "delivered, it is the first step");
 
     begin();
     deliver(a1);

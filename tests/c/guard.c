@@ -213,7 +213,7 @@ static const uint8_t a1[48] = {1, 0, 0, 1, 0, 48, 0, 40, 0, 40, 0, 0, 0, 0, 0, 0
                                0, 0, 0, 1, 0, 0, 0, 0, 0, 0, 0, 0, 0, 0, 0, 0, 1, 3, 0, 0, 0, 0, 5, 220};
 static const size_t image_sizes[] = {0, 1, 2, 15, 16, 17, 271, 272, 273, 16383, 16384, 16385, 20000};
 static const size_t message_sizes[] = {0, 1, 2, 11, 39, 40, 41, 47, 48, 49, 199, 200, 201, 4096};
-static const size_t step_sizes[] = {0, 1, 15, 16, 17, 2031, 2032, 2033, 4096};
+static const size_t step_sizes[] = {0, 1, 79, 80, 81, 2032, 10159, 10160, 10161, 20480};
 static const size_t line_sizes[] = {0, 1, 9, 10, 11, 12};
 static const size_t command_sizes[] = {0, 1, 7, 8, 9, 63, 64, 65, 72};
 static const size_t room_sizes[] = {0, 1, 48, 199, 200, 201};

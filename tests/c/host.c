@@ -8,22 +8,22 @@ static void run_examples(void) {
     begin();
     check(counts(0, 0, 272), "no deltas");
 
-    check(answers(deliver(a1), 0, 0, 1, "xA1") && setpoint(3) == 1500, "A1");
+    check(answers(deliver(a1), 0, 0, 1, "xA1 3=1500") && setpoint(3) == 1500, "A1");
     check(answers(deliver(a1), 0, 0, 0, ""), "A1 again");
 
     begin();
     check(answers(deliver(a2), 0, 0, 0, "") && counts(0, 1, 320), "A2 is held");
-    check(answers(deliver(a1), 0, 0, 2, "xA1xA2") && counts(2, 0, 368), "then A1");
+    check(answers(deliver(a1), 0, 0, 2, "xA1 3=1500,xA2 3=7") && counts(2, 0, 368), "then A1");
 
     begin();
-    check(answers(deliver(b1), 0, 0, 1, "xB1"), "B1");
-    check(answers(deliver(a1), 0, 1, 2, "uB1xA1xB1") && setpoint(3) == 1480, "then A1 undoes B1");
+    check(answers(deliver(b1), 0, 0, 1, "xB1 3=-20"), "B1");
+    check(answers(deliver(a1), 0, 1, 2, "uB1 3=0,xA1 3=1500,xB1 3=1480") && setpoint(3) == 1480, "then A1 undoes B1");
 
     begin();
     deliver(prioritised(b1, 1, 5));
     deliver(prioritised(delta(12, 1, 2, 4, 20), 1, 7));
-    check(answers(deliver(a1), 0, 2, 3, "uB1uC1xA1xC1xB1"), "priorities");
-    check(answers(deliver(delta(12, 2, 2, 4, 1)), 0, 0, 1, "xC2") && counts(4, 0, 464), "with plain C2");
+    check(answers(deliver(a1), 0, 2, 3, "uB1 3=0,uC1 4=0,xA1 3=1500,xC1 4=20,xB1 3=1480"), "priorities");
+    check(answers(deliver(delta(12, 2, 2, 4, 1)), 0, 0, 1, "xC2 4=21") && counts(4, 0, 464), "with plain C2");
 
     begin();
     deliver(naming(a1, 11, 1));
@@ -40,7 +40,7 @@ static void run_refusals(void) {
     memcpy(before, image, sizeof image);
     check(bivamolune_empty(image, sizeof image - 1) == 1, "an image of 16,383 to empty");
     check(bivamolune_deliver(image, sizeof image - 1, a1.bytes, a1.size, steps, sizeof steps) == 1, "an image of 16,383");
-    check(bivamolune_deliver(image, sizeof image, a1.bytes, a1.size, steps, sizeof steps - 1) == 1, "2,031 bytes for steps");
+    check(bivamolune_deliver(image, sizeof image, a1.bytes, a1.size, steps, sizeof steps - 1) == 1, "10,159 bytes for steps");
     check(bivamolune_deliver(image, sizeof image, a1.bytes, a1.size - 1, steps, sizeof steps) == 3, "a message of 47");
     check(bivamolune_deliver(image, sizeof image, NULL, 0, steps, sizeof steps) == 3, "no message");
     check(bivamolune_deliver(NULL, 0, a1.bytes, a1.size, steps, sizeof steps) == 1, "no image");
@@ -59,6 +59,96 @@ static void run_refusals(void) {
 
     image[1] = 65;
     check(answers(deliver(a1), 2, 0, 0, ""), "a damaged count");
+}
+
+/* The steps of B1 and then A1, written out, and the bytes past them. */
+static void run_step_bytes(void) {
+    static const uint8_t three[240] = {
+        /* undo B1: tag 3 is 0 */
+        1, 0, 0, 1, 0, 0, 0, 0, 0, 11, 0, 0, 0, 1, 0, 1, 0, 0, 0, 3, 0, 0, 0, 0,
+        0, 0, 0, 0, 0, 0, 0, 0, 0, 0, 0, 0, 0, 0, 0, 0, 0, 0, 0, 0, 0, 0, 0, 0, 0, 0, 0, 0, 0, 0, 0, 0,
+        0, 0, 0, 0, 0, 0, 0, 0, 0, 0, 0, 0, 0, 0, 0, 0, 0, 0, 0, 0, 0, 0, 0, 0,
+        /* execute A1: tag 3 is 1500 */
+        2, 0, 0, 1, 0, 0, 0, 0, 0, 10, 0, 0, 0, 1, 0, 1, 0, 0, 0, 3, 0, 0, 0x05, 0xDC,
+        0, 0, 0, 0, 0, 0, 0, 0, 0, 0, 0, 0, 0, 0, 0, 0, 0, 0, 0, 0, 0, 0, 0, 0, 0, 0, 0, 0, 0, 0, 0, 0,
+        0, 0, 0, 0, 0, 0, 0, 0, 0, 0, 0, 0, 0, 0, 0, 0, 0, 0, 0, 0, 0, 0, 0, 0,
+        /* execute B1: tag 3 is 1480 */
+        2, 0, 0, 1, 0, 0, 0, 0, 0, 11, 0, 0, 0, 1, 0, 1, 0, 0, 0, 3, 0, 0, 0x05, 0xC8,
+    };
+    int kept = 1;
+
+    begin();
+    deliver(delta(11, 1, 2, 3, -20));
+    check(steps[0] == 2 && steps[3] == 1 && steps[19] == 3 && steps[20] == 0xFF && steps[23] == 0xEC, "the value -20 in a step");
+    check(deliver(delta(10, 1, 1, 3, 1500)) == 256 + 2 * 65536, "one undo, two executions");
+    check(memcmp(steps, three, sizeof three) == 0, "three steps byte by byte");
+    for (size_t i = sizeof three; i < sizeof steps; i++) kept = kept && steps[i] == 0xEE;
+    check(kept, "the bytes past three steps");
+}
+
+/* Values that are stopped, a tag twice, and commands that change nothing. */
+static void run_pairs(void) {
+    struct delta stopped = commanding(commanding(delta(11, 1, 1, 5, 999990), 2, 5, 20), 2, 5, -20);
+    struct delta still = commanding(commanding(delta(12, 1, 3, 5, 0), 2, 6, 0), 1, 5, 999980);
+    struct delta eight = delta(13, 1, 1, 0, -1);
+
+    begin();
+    deliver(delta(10, 1, 1, 5, 77));
+    check(answers(deliver(stopped), 0, 0, 1, "xB1 5=999990 5=1000000 5=999980"), "a stopped sum");
+    check(answers(deliver(still), 0, 0, 1, "xC1 5=999980 6=0 5=999980"), "commands that change nothing");
+    check(answers(deliver(delta(10, 2, 1, 6, 1)), 0, 2, 3, "uC1 5=999980 6=0 5=999980,uB1 5=1000000 5=999990 5=77,xA2 6=1,"
+        "xB1 5=999990 5=1000000 5=999980,xC1 5=999980 6=1 5=999980"), "restored from the last command");
+    for (uint8_t tag = 57; tag < 64; tag++) eight = commanding(eight, 2, tag, tag - 60);
+    check(answers(deliver(eight), 0, 0, 1, "xD1 0=-1 57=-3 58=-2 59=-1 60=0 61=1 62=2 63=3"), "eight pairs");
+}
+
+/* ---- burner hardware: 64 setpoints that the host feeds by the header's readers of steps, and by nothing else */
+static int32_t hardware[BIVAMOLUNE_TAGS];
+
+static void feed(const uint8_t *step) {
+    for (uint32_t pair = 0; pair < bivamolune_pair_count(step); pair++)
+        hardware[bivamolune_pair_tag(step, pair)] = bivamolune_pair_value(step, pair);
+}
+
+/* Delivers and feeds; whether the hardware then shows what the image has. */
+static int follows(struct delta d) {
+    uint32_t answer = deliver(d), count = bivamolune_undos(answer) + bivamolune_executions(answer);
+    int right = 1;
+    for (uint32_t i = 0; i < count; i++) feed(steps + (size_t)i * BIVAMOLUNE_STEP_SIZE);
+    for (uint32_t tag = 0; tag < BIVAMOLUNE_TAGS; tag++) right = right && hardware[tag] == setpoint(tag);
+    return right;
+}
+
+static void run_hardware(void) {
+    struct delta b1 = delta(11, 1, 2, 3, -20), many = delta(12, 1, 2, 3, -1000000);
+
+    begin();
+    memset(hardware, 0, sizeof hardware);
+    check(follows(b1) && hardware[3] == -20, "hardware after B1");
+    for (uint8_t tag = 0; tag < 7; tag++) many = commanding(many, (uint8_t)(tag % 3 + 1), tag, 1000 * tag - 2500);
+    check(follows(many) && hardware[0] == -2500 && hardware[2] == 0 && hardware[3] == 500, "hardware after eight commands");
+    check(follows(delta(10, 1, 1, 3, 1500)) && hardware[3] == 500, "hardware after A1, which undoes both");
+    check(follows(b1) && follows(delta(10, 3, 1, 63, 9)) && hardware[63] == 0, "a repeat and a held delta leave it");
+    check(follows(delta(10, 2, 3, 63, 8)) && hardware[63] == 9, "hardware after what was held");
+    check(follows(delta(10, 0, 1, 3, 1)) && hardware[63] == 9, "a refusal leaves it");
+}
+
+/* The readers of a step, on one that is written out. Its count is larger than any, to see all of its three bytes. */
+static void run_readers(void) {
+    uint8_t step[BIVAMOLUNE_STEP_SIZE] = {2, 1, 2, 3, 0xA0, 0, 0, 0, 0, 0, 0, 0, 0, 0, 0, 0xA1};
+    put(step + 16, 63, 4);
+    put(step + 20, 0xFFFFFFECu, 4);
+    put(step + 72, 0x01020304u, 4);
+    put(step + 76, 1000000, 4);
+    check(bivamolune_step_kind(step) == BIVAMOLUNE_EXECUTE, "the kind of a step");
+    check(bivamolune_pair_count(step) == 0x010203, "the count of pairs");
+    check(bivamolune_step_sequence(step)[0] == 0xA0 && bivamolune_step_sequence(step)[BIVAMOLUNE_SEQUENCE_SIZE - 1] == 0xA1,
+        "the sequence of a step");
+    check(bivamolune_pair_tag(step, 0) == 63 && bivamolune_pair_value(step, 0) == -20, "the first pair");
+    check(bivamolune_pair_tag(step, 1) == 0 && bivamolune_pair_value(step, 1) == 0, "an unused pair");
+    check(bivamolune_pair_tag(step, 7) == 0x01020304u && bivamolune_pair_value(step, 7) == 1000000, "the eighth pair");
+    check(bivamolune_pair_tag(step, 8) == 0 && bivamolune_pair_value(step, 8) == 0
+        && bivamolune_pair_tag(step, 0xFFFFFFFFu) == 0 && bivamolune_pair_value(step, 0xFFFFFFFFu) == 0, "no ninth pair");
 }
 
 /* ---- what the header gives beside the calls */
@@ -80,6 +170,9 @@ static void run_header(void) {
     check(BIVAMOLUNE_MESSAGE_LEAST == 40 + 8 && BIVAMOLUNE_STEP_ROOM == BIVAMOLUNE_STEPS_MOST * BIVAMOLUNE_STEP_SIZE
         && BIVAMOLUNE_MESSAGE_MOST == 40 + 12 * BIVAMOLUNE_DEPENDENCIES_MOST + 8 * BIVAMOLUNE_COMMANDS_MOST
         && BIVAMOLUNE_MESSAGE_ROOM == BIVAMOLUNE_MESSAGE_MOST, "limits");
+    check(BIVAMOLUNE_STEP_ROOM == 10160 && BIVAMOLUNE_STEP_SIZE == 80 && BIVAMOLUNE_PAIRS_MOST == BIVAMOLUNE_COMMANDS_MOST
+        && BIVAMOLUNE_STEP_SEQUENCE_AT + BIVAMOLUNE_SEQUENCE_SIZE == BIVAMOLUNE_STEP_PAIRS_AT
+        && BIVAMOLUNE_STEP_PAIRS_AT + BIVAMOLUNE_PAIRS_MOST * BIVAMOLUNE_PAIR_SIZE == BIVAMOLUNE_STEP_SIZE, "parts of a step");
 
     begin();
     success = deliver(delta(10, 1, 1, 0, BIVAMOLUNE_VALUE_LEAST));
@@ -114,6 +207,10 @@ static void run_answers(void) {
 int main(void) {
     run_examples();
     run_refusals();
+    run_step_bytes();
+    run_pairs();
+    run_hardware();
+    run_readers();
     run_header();
     run_answers();
     return report();

@@ -6,6 +6,7 @@
 #include "bivamolune.h"
 
 #include <stdio.h>
+#include <stdlib.h>
 #include <string.h>
 
 static unsigned passed, failed;
@@ -24,7 +25,7 @@ static inline int report(void) {
     return failed != 0;
 }
 
-/* A plain delta of group 1 with one command and at most one dependency. */
+/* A plain delta of group 1, with one command or more and at most one dependency. */
 struct delta {
     uint8_t bytes[200];
     size_t size;
@@ -53,6 +54,17 @@ static inline struct delta delta(uint8_t line, uint16_t number, uint8_t operatio
     d.bytes[40] = operation;
     d.bytes[41] = tag;
     put(d.bytes + 44, (uint32_t)value, 4);
+    return d;
+}
+
+/* With a command more, as a delta that has room for it. */
+static inline struct delta commanding(struct delta d, uint8_t operation, uint8_t tag, int32_t value) {
+    d.bytes[d.size] = operation;
+    d.bytes[d.size + 1] = tag;
+    put(d.bytes + d.size + 4, (uint32_t)value, 4);
+    d.bytes[3]++;
+    d.size += 8;
+    put(d.bytes + 4, (uint32_t)d.size, 2);
     return d;
 }
 
@@ -95,19 +107,36 @@ static inline int counts(uint32_t l, uint32_t h, uint32_t used) {
     return bivamolune_log_count(image) == l && bivamolune_held_count(image) == h && bivamolune_bytes_used(image) == used;
 }
 
-/* The answer, and the steps: "u" or "x", a line's letter and a digit for each; the rest of the buffer is as it was. */
-static inline int answers(uint32_t answer, uint32_t code, uint32_t undos, uint32_t executions, const char *names) {
-    size_t n = strlen(names) / 3;
-    int right = bivamolune_code(answer) == code && bivamolune_undos(answer) == undos
-        && bivamolune_executions(answer) == executions && n == undos + executions;
-    for (size_t i = 0; i < n; i++) {
-        uint8_t step[BIVAMOLUNE_STEP_SIZE] = {0};
-        step[0] = names[3 * i] == 'u' ? BIVAMOLUNE_UNDO : BIVAMOLUNE_EXECUTE;
-        put_sequence(step + 4, (uint8_t)(names[3 * i + 1] - 'A' + 10), (uint16_t)(names[3 * i + 2] - '0'));
-        right = right && memcmp(steps + i * sizeof step, step, sizeof step) == 0;
+/* Writes a step from its words, such as "xA1 3=1500 4=-20": "u" or "x", a line's letter and a digit, then a tag and a value
+ * for each pair. What follows the words is handed back. */
+static inline const char *put_step(uint8_t *step, const char *words) {
+    uint8_t *pair = step + 16;
+    memset(step, 0, 80);
+    step[0] = words[0] == 'u' ? 1 : 2;
+    put_sequence(step + 4, (uint8_t)(words[1] - 'A' + 10), (uint16_t)(words[2] - '0'));
+    for (words += 3; *words == ' '; pair += 8) {
+        char *end;
+        put(pair, (uint32_t)strtol(words, &end, 10), 4);
+        put(pair + 4, (uint32_t)strtol(end + 1, &end, 10), 4);
+        step[3]++;
+        words = end;
     }
-    for (size_t i = n * BIVAMOLUNE_STEP_SIZE; i < sizeof steps; i++) right = right && steps[i] == 0xEE;
-    return right;
+    return words;
+}
+
+/* The answer, and the steps in words, with a comma between; the rest of the buffer is as it was. */
+static inline int answers(uint32_t answer, uint32_t code, uint32_t undos, uint32_t executions, const char *words) {
+    static uint8_t expected[BIVAMOLUNE_STEP_ROOM];
+    uint8_t *end = expected;
+    memset(expected, 0xEE, sizeof expected);
+    while (*words != 0) {
+        words = put_step(end, words);
+        words += *words == ',';
+        end += 80;
+    }
+    return bivamolune_code(answer) == code && bivamolune_undos(answer) == undos
+        && bivamolune_executions(answer) == executions && end == expected + 80 * (undos + executions)
+        && memcmp(steps, expected, sizeof expected) == 0;
 }
 
 #endif
