@@ -63,12 +63,15 @@ pub enum Kind {
     Execute,
 }
 
-/// A step, with the tag and the value of each pair that it counts.
+/// Tag and value.
+pub type Pair = (usize, i32);
+
+/// A step, with the pairs that it counts.
 #[derive(Clone, Debug, PartialEq, Eq)]
 pub struct Step {
     pub kind: Kind,
     pub sequence: Sequence,
-    pub pairs: Vec<(usize, i32)>,
+    pub pairs: Vec<Pair>,
 }
 
 /// The step of these bytes, if they are one: a kind, one to eight pairs with tags up to 63,
@@ -87,7 +90,7 @@ pub fn step(bytes: &[u8]) -> Option<Step> {
         return None;
     }
     let pair = |at| (u32_at(bytes, at) as usize, u32_at(bytes, at + 4) as i32);
-    let pairs: Vec<(usize, i32)> = (0..count).map(|place| pair(16 + 8 * place)).collect();
+    let pairs: Vec<Pair> = (0..count).map(|place| pair(16 + 8 * place)).collect();
     let sequence = bytes[4..16].try_into().ok()?;
     pairs.iter().all(|(tag, _)| *tag < 64).then_some(Step {
         kind,

@@ -14,7 +14,7 @@ use bivamolune_tests::faulty::{Fault, Faulty};
 use bivamolune_tests::plant::{run, Duty, Run, Station, What};
 use bivamolune_tests::view::u16_at;
 use bivamolune_tests::wire::{line, set};
-use common::{A, B, SUBJECT};
+use common::{A, B, C, SUBJECT};
 
 /// The seeds that are run here; the program runs more.
 const SEEDS: std::ops::Range<u64> = 0..300;
@@ -26,8 +26,9 @@ fn kept(calls: &dyn Calls, seed: u64) -> Result<Run, String> {
     Ok(run)
 }
 
-/// After the last exchange all images are equal, nothing is lost, and every host's log, fed
-/// by the steps alone, was the image's after every call.
+/// After the last exchange all images are equal, nothing is lost, and after every call every
+/// host's log, fed by the steps alone, was the image's, and every hardware's setpoints, fed by
+/// their pairs alone, were the image's.
 #[test]
 fn stations_agree_in_the_end() {
     let mut seen: BTreeMap<&str, usize> = BTreeMap::new();
@@ -110,6 +111,12 @@ fn the_plant_finds_faults() {
         Fault::LeavesImage,
         Fault::SameLog,
         Fault::RefusesAll,
+        Fault::BeforeForAfter,
+        Fault::UndoFirstFirst,
+        Fault::UndoSubtracts,
+        Fault::CountsEight,
+        Fault::UnusedNotCleared,
+        Fault::StillLeftOut,
     ] {
         let found = SEEDS
             .clone()
@@ -134,6 +141,37 @@ fn compose_own(station: &mut Station, value: i32) -> Vec<u8> {
 
 fn deliver(station: &mut Station, message: &[u8]) -> u32 {
     station.deliver(&SUBJECT, message).expect("a delivery").code
+}
+
+/// A station shows what the pairs say, and that is held against the image.
+#[test]
+fn hardware_is_fed_by_the_pairs_alone() {
+    let mut a = station(A);
+    let message = compose_own(&mut a, 7);
+    assert_eq!(a.hardware.setpoints[0], 7);
+    let wrong = Faulty(Fault::BeforeForAfter);
+    let mut b = station(B);
+    let error = b.deliver(&wrong, &message).expect_err("wrong pairs");
+    assert_eq!(error, "the hardware's setpoints are not the image's");
+    assert_eq!((b.hardware.setpoints[0], b.memory.image[19]), (0, 7));
+}
+
+/// Begun again from a saved image, a station has its hardware at the values of that image, and
+/// the pairs lead on from there, also those of undos.
+#[test]
+fn hardware_begins_again_with_the_saved_image() {
+    let mut b = station(B);
+    compose_own(&mut b, 7);
+    b.save();
+    compose_own(&mut b, 8);
+    assert_eq!(b.hardware.setpoints[0], 8);
+    b.restart();
+    assert_eq!(b.hardware.setpoints[0], 7);
+    for (letter, value) in [(C, -9), (A, 3)] {
+        let other = compose_own(&mut station(letter), value);
+        assert_eq!(deliver(&mut b, &other), 0);
+        assert_eq!(b.hardware.setpoints[0], -9);
+    }
 }
 
 /// The host sends before it saves: after a restart the sequence is used again, each station

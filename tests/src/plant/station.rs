@@ -3,7 +3,7 @@
 
 use crate::boundary::{code, executions, length, undos, Calls};
 use crate::call::{hex, Composing};
-use crate::view::{log, steps, values, Kind, Step, STEP};
+use crate::view::{log, steps, values, Kind, Pair, Step, STEP};
 use crate::wire::{Line, Sequence};
 
 /// The size of an image.
@@ -13,22 +13,31 @@ const STEPS: usize = 10_160;
 /// What bytes hold that nobody has written.
 const PATTERN: u8 = 0xA5;
 
-/// The host's model: the log as the steps played it.
+/// The host's model: the log as the steps played it, and beside each delta what its commands
+/// had found when it was executed.
 #[derive(Clone, Debug, Default, PartialEq, Eq)]
 pub struct Host {
     pub log: Vec<Sequence>,
+    found: Vec<Vec<Pair>>,
 }
 
 impl Host {
-    /// An undo must name the last delta; an execution adds one at the end.
-    fn play(&mut self, step: &Step) -> Result<(), String> {
-        let own = step.sequence;
-        match step.kind {
-            Kind::Execute => self.log.push(own),
-            Kind::Undo if self.log.pop() == Some(own) => {}
-            Kind::Undo => return Err(format!("undo of {}, which is not the last", hex(&own))),
+    /// An execution adds a delta at the end. An undo must name the last one, and restore what
+    /// its commands had found, the last command first. `found` is what the step's pairs found.
+    fn play(&mut self, step: &Step, found: Vec<Pair>) -> Result<(), String> {
+        if step.kind == Kind::Execute {
+            self.log.push(step.sequence);
+            self.found.push(found);
+            return Ok(());
         }
-        Ok(())
+        let name = hex(&step.sequence);
+        if self.log.pop() != Some(step.sequence) {
+            return Err(format!("undo of {name}, which is not the last"));
+        }
+        match self.found.pop().iter().flatten().rev().eq(&step.pairs) {
+            true => Ok(()),
+            false => Err(format!("undo of {name} restores other values")),
+        }
     }
 }
 
@@ -36,7 +45,7 @@ impl Host {
 /// their steps alone, never by the image.
 #[derive(Clone, Debug, PartialEq, Eq)]
 pub struct Hardware {
-    setpoints: [i32; 64],
+    pub setpoints: [i32; 64],
 }
 
 impl Default for Hardware {
@@ -47,11 +56,14 @@ impl Default for Hardware {
 }
 
 impl Hardware {
-    /// Each pair sets its tag to its value.
-    fn feed(&mut self, step: &Step) {
+    /// Each pair sets its tag to its value; the tags, and what they showed before.
+    fn feed(&mut self, step: &Step) -> Vec<Pair> {
+        let mut found = Vec::new();
         for (tag, value) in &step.pairs {
+            found.push((*tag, self.setpoints[*tag]));
             self.setpoints[*tag] = *value;
         }
+        found
     }
 
     /// Whether its setpoints are those of an image.
@@ -152,8 +164,8 @@ impl Station {
             return Err("bytes past the steps were written".to_string());
         }
         for step in &steps {
-            self.memory.host.play(step)?;
-            self.hardware.feed(step);
+            let found = self.hardware.feed(step);
+            self.memory.host.play(step, found)?;
         }
         Ok(steps)
     }
