@@ -6,6 +6,7 @@
 mod common;
 
 use bivamolune_tests::boundary::Calls;
+use bivamolune_tests::view::{step, steps as steps_of, Kind};
 use bivamolune_tests::wire::{add, command, raise, set, Command, Draft};
 use common::{a1, b1, delta, steps, Station, A, B, C, STEP, STEPS, SUBJECT};
 
@@ -99,6 +100,16 @@ fn an_undo_lists_the_last_command_first() {
     let restored = "-B1 3=9 1=10 2=0 1=8";
     let all = [restored, "+A2 2=4", given];
     assert_eq!(station.pairs(&delta(A, 2).commands(&[set(2, 4)])), all);
+}
+
+#[test]
+fn a_tag_twice_in_one_delta() {
+    let mut station = Station::with(&[delta(A, 1).commands(&[set(1, 5)])]);
+    let twice = delta(B, 1).commands(&[set(1, 10), set(1, 20)]);
+    assert_eq!(station.pairs(&twice), ["+B1 1=10 1=20"]);
+    let all = ["-B1 1=10 1=5", "+A2 1=6", "+B1 1=10 1=20"];
+    let next = delta(A, 2).commands(&[add(1, 1)]);
+    assert_eq!(station.pairs(&next), all);
 }
 
 /// The value that a command finds is what the deltas before it leave, also after they are
@@ -255,4 +266,34 @@ fn one_hundred_and_twenty_seven_steps_of_eight_pairs() {
     }
     let short = station.deliver_into(&of(A, 1).bytes(), 10_159);
     assert_eq!(short, steps(1, ""));
+}
+
+/// The reader of steps that other tests use, on steps that are written out.
+#[test]
+fn the_reader_of_steps_itself() {
+    let mut right = vec![1, 0, 0, 2, 0, 0, 0, 0, 0, 0x0C, 0, 0, 0, 1, 0, 9];
+    right.extend([0, 0, 0, 63, 0xFF, 0xFF, 0xFF, 0xFE, 0, 0, 0, 0, 0, 0, 1, 1]);
+    right.extend([0; 48]);
+    let read = step(&right).expect("a step");
+    assert_eq!((read.kind, &read.sequence[..]), (Kind::Undo, &right[4..16]));
+    assert_eq!(read.pairs, [(63, -2), (0, 257)]);
+    // Kind, count and tag out of their ranges, and an unused pair that is not zero.
+    let wrong = [(0, 0), (0, 3), (1, 1), (2, 1), (3, 0), (3, 9), (3, 1)];
+    for (at, byte) in wrong.into_iter().chain([(19, 64), (18, 1), (79, 1)]) {
+        let mut changed = right.clone();
+        changed[at] = byte;
+        assert_eq!(step(&changed), None, "byte {at}");
+    }
+    assert_eq!(step(&right[..79]), None);
+    let two = [&right[..], &[2], &right[1..]].concat();
+    let kinds = |undos, executions| {
+        let read = steps_of(&two, undos, executions)?;
+        Some(read.iter().map(|step| step.kind).collect::<Vec<_>>())
+    };
+    assert_eq!(kinds(0, 0), Some(vec![]));
+    assert_eq!(kinds(1, 1), Some(vec![Kind::Undo, Kind::Execute]));
+    assert_eq!(kinds(1, 0), Some(vec![Kind::Undo]));
+    for (undos, executions) in [(2, 0), (0, 2), (0, 1), (1, 2)] {
+        assert_eq!(kinds(undos, executions), None);
+    }
 }

@@ -1,5 +1,5 @@
 //! Burner hardware: 64 setpoints that are fed by the pairs of the steps alone, over whole
-//! lists of calls. Steps are read here by their offsets.
+//! lists of calls.
 
 #![deny(warnings)]
 
@@ -10,10 +10,8 @@ use std::collections::BTreeMap;
 use bivamolune_tests::boundary::{code, executions, undos};
 use bivamolune_tests::call::{Action, Call, Outcome, View, World};
 use bivamolune_tests::generate::case;
-use common::{messages, u16_at, u32_at, STEP, SUBJECT};
-
-/// Tag and value.
-type Pair = (usize, i32);
+use bivamolune_tests::view::{steps, values, Kind, Pair};
+use common::{messages, u16_at, u32_at, SUBJECT};
 
 /// The setpoints, and for each executed delta what each of its commands had found, the last
 /// delta on top.
@@ -64,15 +62,15 @@ impl Hardware {
 
     /// Plays the steps of an accepted delivery.
     fn play(&mut self, outcome: &Outcome) {
-        let undone = undos(outcome.answer);
-        let count = undone + executions(outcome.answer);
-        for (place, step) in outcome.buffer.chunks(STEP).take(count).enumerate() {
-            if place < undone {
-                assert_eq!(step[0], 1);
-                self.undo(&pairs(step));
-            } else {
-                assert_eq!(step[0], 2);
-                self.execute(&pairs(step), &message(&outcome.image, &step[4..16]));
+        let counts = (undos(outcome.answer), executions(outcome.answer));
+        let steps = steps(&outcome.buffer, counts.0, counts.1);
+        for step in steps.expect("undos, then executions") {
+            match step.kind {
+                Kind::Undo => self.undo(&step.pairs),
+                Kind::Execute => {
+                    let message = message(&outcome.image, &step.sequence);
+                    self.execute(&step.pairs, &message);
+                }
             }
         }
     }
@@ -89,15 +87,6 @@ fn after(command: &[u8], before: i32) -> i32 {
         _ if before < value => value,
         _ => before,
     }
-}
-
-/// The pairs that a step counts; those beyond are zero.
-fn pairs(step: &[u8]) -> Vec<Pair> {
-    let count = u32_at(&[0, step[1], step[2], step[3]], 0) as usize;
-    let (used, unused) = step[16..].split_at(8 * count);
-    assert!(unused.iter().all(|byte| *byte == 0));
-    let pair = |pair: &[u8]| (u32_at(pair, 0) as usize, u32_at(pair, 4) as i32);
-    used.chunks(8).map(pair).collect()
 }
 
 /// The message of a sequence in an image's log.
@@ -130,10 +119,7 @@ fn pairs_lead_to_the_image_s_values() {
                 mark(&mut seen, &hardware, &outcome);
             }
             world.follow(&call, &outcome);
-            for (tag, setpoint) in hardware.setpoints.iter().enumerate() {
-                let value = u32_at(&world.image, 16 + 4 * tag) as i32;
-                assert_eq!(*setpoint, value, "seed {seed} tag {tag}");
-            }
+            assert_eq!(hardware.setpoints, values(&world.image), "seed {seed}");
         }
     }
     println!("{seen:?}");
