@@ -156,7 +156,8 @@ impl Station {
         executions: usize,
     ) -> Result<Vec<Step>, String> {
         let steps = steps(buffer, undos, executions);
-        let steps = steps.ok_or(format!("not {undos} undos, then {executions} executions"))?;
+        let steps =
+            steps.ok_or_else(|| format!("not {undos} undos, then {executions} executions"))?;
         if buffer[STEP * steps.len()..]
             .iter()
             .any(|byte| *byte != PATTERN)
