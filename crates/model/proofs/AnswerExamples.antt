@@ -7,9 +7,9 @@ use lib.ListN.{replicate}
 use lib.IntN.{ℤ, pos}
 use Rattle.model.specs.Message.{Message}
 use Rattle.model.specs.Order.{needs, executablesOf, logOf, heldOf}
-use Rattle.model.specs.Setpoints.{startValues, stop, raise, operate, changeOf, apply, runCommand, runDelta, setpointsOf}
+use Rattle.model.specs.Setpoints.{startValues, stop, raise, operate, changeOf, apply, runCommand, runDelta, changesOf, setpointsOf}
 use Rattle.model.specs.Image.{messagesStart, messagesOf, valuesOf, headerOf, sectionsOf, usedOf, messagesStartIn}
-use Rattle.model.specs.Steps.{undo, execute, stepBytes}
+use Rattle.model.specs.Steps.{Step, undo, execute, pairOf, executionOf, undoOf, recordsOf, recordBytes}
 use Rattle.model.specs.Calls.{written, emptyAnswer, Delivered, deliverAnswer, composeAnswer, setpointAnswer, start, nextMessage}
 use Rattle.model.proofs.ExampleMessages.{A, B, a1, a2, b1, c2, holding}
 
@@ -29,9 +29,13 @@ overwritten-holds : map (λ e. written (e .0 .0) (e .0 .1)) overwritten ≡ map 
 unfolding overwritten
 overwritten-holds = refl
 
--- ---- deliver with code 0: a set and a message; undos, executions, and a step buffer of 50 bytes as it is left
+-- ---- deliver with code 0: a set and a message; undos, executions, and a step buffer of 242 bytes as it is left
 abbrev lent : List ℕ
-lent = replicate 50 0xEE
+lent = replicate 242 0xEE
+
+-- a step that sets tag 3 alone
+abbrev stepTo : Step → ℤ → List ℕ
+stepTo step value = recordBytes (record { step = step; pairs = pairOf 3 value ∷ [] })
 
 abbrev counts : Delivered → ℕ × ℕ × ℕ × List ℕ
 counts d = (d .code, d .undos, d .executions, d .steps)
@@ -40,14 +44,14 @@ accepted : List ((List Message × Message) × (ℕ × ℕ × ℕ × List ℕ))
 accepted =
     -- A2 is held: no step. A1 then: execute A1, A2. A1 again: no step.
     (([], a2), (0, 0, 0, lent))
-    ∷ ((a2 ∷ [], a1), (0, 0, 2, stepBytes (execute (A 1)) ++ stepBytes (execute (A 2)) ++ replicate 18 0xEE))
+    ∷ ((a2 ∷ [], a1), (0, 0, 2, stepTo (execute (A 1)) (pos 1500) ++ stepTo (execute (A 2)) (pos 7) ++ replicate 82 0xEE))
     ∷ ((a1 ∷ [], a1), (0, 0, 0, lent))
     -- B1 then A1: undo B1, execute A1, B1.
-    ∷ ((b1 ∷ [], a1), (0, 1, 2, stepBytes (undo (B 1)) ++ stepBytes (execute (A 1)) ++ stepBytes (execute (B 1)) ++ 0xEE ∷ 0xEE ∷ []))
+    ∷ ((b1 ∷ [], a1), (0, 1, 2, stepTo (undo (B 1)) (pos 0) ++ stepTo (execute (A 1)) (pos 1500) ++ stepTo (execute (B 1)) (pos 1480) ++ 0xEE ∷ 0xEE ∷ []))
     ∷ []
 
 accepted-holds : map (λ e. counts (deliverAnswer 0 (holding (e .0 .0)) [] (e .0 .1) lent)) accepted ≡ map (λ e. e .1) accepted
-unfolding accepted logOf needs
+unfolding accepted recordBytes recordsOf executionOf undoOf changesOf startValues runDelta runCommand apply changeOf operate raise stop logOf needs
 accepted-holds = refl
 
 -- ---- refusals: deliver by 7, compose by 9, empty by 1, setpoint by 12
@@ -63,8 +67,8 @@ refused-empty = refl
 refused-setpoint : setpointAnswer 12 used 3 ≡ record { code = 12; value = pos 0 }
 refused-setpoint = refl
 
--- ---- compose with code 0: the message's 48 bytes, and the two past them as they were
-composes : composeAnswer 0 a1 lent ≡ record { code = 0; size = 48; message = a1 ++ 0xEE ∷ 0xEE ∷ [] }
+-- ---- compose with code 0: the message's 48 bytes, and those past them as they were
+composes : composeAnswer 0 a1 lent ≡ record { code = 0; size = 48; message = a1 ++ replicate 194 0xEE }
 composes = refl
 
 -- ---- setpoint with code 0: a tag and its value; 1500 - 20 at tag 3

@@ -42,9 +42,9 @@ imageSizes-hold : map (λ e. wrongSize (replicate (e .0) 0)) imageSizes ≡ map 
 unfolding imageSizes
 imageSizes-hold = refl
 
--- "The step buffer has at least 2,032 bytes."
+-- "The step buffer becomes at least 10,160 bytes"
 stepSizes : List (ℕ × Bool)
-stepSizes = (2031, true) ∷ (2032, false) ∷ (2033, false) ∷ []
+stepSizes = (10159, true) ∷ (10160, false) ∷ (10161, false) ∷ []
 
 stepSizes-hold : map (λ e. smallSteps (e .0)) stepSizes ≡ map (λ e. e .1) stepSizes
 unfolding stepSizes

@@ -6,6 +6,7 @@ pub mod SetpointExamples
 pub mod ImageExamples
 pub mod WholeImageExamples
 pub mod StepExamples
+pub mod RecordExamples
 pub mod ComposeExamples
 pub mod CodeLists
 pub mod ConditionExamples

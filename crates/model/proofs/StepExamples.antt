@@ -1,11 +1,8 @@
--- Two logs, the old one and the new one: the steps between them, how many they undo and execute, and the steps read back from
--- their bytes. A step's 16 bytes.
+-- Two logs, the old one and the new one: the steps between them, and how many they undo and execute.
 use mathlib.Core.Path.{_≡_, refl}
-use mathlib.Core.Option.{Option, some, none}
-use mathlib.Core.List.{List, [], _∷_, _++_, map}
-use Prim.Native.Nat.{ℕ, _+_}
-use lib.ListN.{take, drop}
-use Rattle.model.specs.Steps.{Step, undo, execute, stepsOf, undosOf, executionsOf, stepBytes, stepsBytes, readSteps}
+use mathlib.Core.List.{List, [], _∷_, map}
+use Prim.Native.Nat.{ℕ}
+use Rattle.model.specs.Steps.{Step, undo, execute, stepsOf, undosOf, executionsOf}
 use Rattle.model.proofs.ExampleMessages.{A, B, C}
 
 pub record Logs : Type 0 where
@@ -19,20 +16,12 @@ pub record Taken : Type 0 where
   pub undos : ℕ
   pub executions : ℕ
   pub steps : List Step
-  pub read : Option (List Step)
 
 abbrev between : List ℕ → List ℕ → Taken
-between old new =
-    let n = undosOf old new + executionsOf old new in
-    record {
-      undos = undosOf old new;
-      executions = executionsOf old new;
-      steps = stepsOf old new;
-      read = readSteps n (stepsBytes (stepsOf old new));
-    }
+between old new = record { undos = undosOf old new; executions = executionsOf old new; steps = stepsOf old new }
 
 abbrev taken : ℕ → ℕ → List Step → Taken
-taken undos executions steps = record { undos = undos; executions = executions; steps = steps; read = some steps }
+taken undos executions steps = record { undos = undos; executions = executions; steps = steps }
 
 logs : List (Logs × Taken)
 logs =
@@ -57,28 +46,3 @@ logs =
 logs-hold : map (λ e. between (e .0 .old) (e .0 .new)) logs ≡ map (λ e. e .1) logs
 unfolding logs
 logs-hold = refl
-
--- ---- "Each step is 16 bytes: 01 undo or 02 execute, three zeros, the sequence."
-steps : List (Step × List ℕ)
-steps =
-    (undo (A 1), 0x01 ∷ 0 ∷ 0 ∷ 0 ∷ 0 ∷ 0 ∷ 0 ∷ 0 ∷ 0 ∷ 0x0A ∷ 0 ∷ 0 ∷ 0 ∷ 0x01 ∷ 0 ∷ 0x01 ∷ [])
-    ∷ (execute (B 0x203), 0x02 ∷ 0 ∷ 0 ∷ 0 ∷ 0 ∷ 0 ∷ 0 ∷ 0 ∷ 0 ∷ 0x0B ∷ 0 ∷ 0 ∷ 0 ∷ 0x01 ∷ 0x02 ∷ 0x03 ∷ [])
-    ∷ []
-
-steps-hold : map (λ e. stepBytes (e .0)) steps ≡ map (λ e. e .1) steps
-unfolding steps
-steps-hold = refl
-
--- ---- bytes that are no step: 15 of them, a kind of 3, a zero that is none
-unread : List (List ℕ × Option (List Step))
-unread =
-    (take 15 (stepBytes (undo (A 1))), none)
-    ∷ (3 ∷ drop 1 (stepBytes (undo (A 1))), none)
-    ∷ (1 ∷ 1 ∷ drop 2 (stepBytes (undo (A 1))), none)
-    -- a step, and bytes past it
-    ∷ (stepBytes (undo (A 1)) ++ 0xEE ∷ [], some (undo (A 1) ∷ []))
-    ∷ []
-
-unread-holds : map (λ e. readSteps 1 (e .0)) unread ≡ map (λ e. e .1) unread
-unfolding unread
-unread-holds = refl

@@ -11,7 +11,7 @@ use Rattle.model.specs.Message.{Message}
 use Rattle.model.specs.Order.{State, stateOf, add, sequencesOf, logOf}
 use Rattle.model.specs.Setpoints.{setpointsOf}
 use Rattle.model.specs.Image.{imageOf, messagesStartIn, stateIn, logIn}
-use Rattle.model.specs.Steps.{stepsOf, undosOf, executionsOf, stepsBytes}
+use Rattle.model.specs.Steps.{undosOf, executionsOf, recordsBetween, recordsBytes}
 use Rattle.model.specs.Compose.{composed}
 use Rattle.model.specs.Codes.{lowestCode, emptyConditions, deliverConditions, composeConditions, readConditions, logMessageConditions, setpointConditions}
 
@@ -52,7 +52,7 @@ acceptedAnswer S next steps =
       undos = undosOf old new;
       executions = executionsOf old new;
       image = imageOf next;
-      steps = written (stepsBytes (stepsOf old new)) steps;
+      steps = written (recordsBytes (recordsBetween S next)) steps;
     }
 
 abbrev pub deliverAnswer : ℕ → State → List ℕ → Message → List ℕ → Delivered

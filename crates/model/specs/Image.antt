@@ -5,9 +5,10 @@ use mathlib.Core.List.{List, [], _∷_, _++_, map}
 use Prim.Native.Nat.{ℕ, zero, suc, _+_, _-_}
 use lib.ListN.{length, take, drop, replicate}
 use lib.Dec.{leb}
+use lib.IntN.{ℤ}
 use Rattle.model.specs.Lists.{every, same}
-use Rattle.model.specs.Bytes.{bytes, field, join, word}
-use Rattle.model.specs.Layout.{lengthAt, valueSize, valuesSize, imageSize, logCountAt, heldCountAt, zerosAt, setpointsStart, capacity}
+use Rattle.model.specs.Bytes.{number, bytes, field, parts, join, integer, word}
+use Rattle.model.specs.Layout.{lengthAt, valueSize, tagCount, valuesSize, imageSize, logCountAt, heldCountAt, zerosAt, setpointsStart, capacity}
 use Rattle.model.specs.Message.{Message, passes}
 use Rattle.model.specs.Order.{State, stateOf, RightSet, insert, logOf, heldOf}
 use Rattle.model.specs.Setpoints.{setpointsOf}
@@ -61,6 +62,10 @@ logCount b = field b logCountAt 2
 
 abbrev pub heldCount : List ℕ → ℕ
 heldCount b = field b heldCountAt 2
+
+-- The image's values, by their bytes.
+unfoldable pub valuesIn : List ℕ → List ℤ
+valuesIn b = map (λ p. integer (number p)) (parts tagCount valueSize (drop setpointsStart b))
 
 -- Where the messages of a buffer start: of an image, where its state's do.
 unfoldable pub messagesStartIn : List ℕ → ℕ

@@ -1,4 +1,4 @@
--- The offsets, sizes and limits of document 01, in bytes unless said otherwise.
+-- The offsets, sizes and limits of document 01 and of Paper 1 of document 02, in bytes unless said otherwise.
 use Prim.Native.Nat.{ℕ, _+_, _*_, _-_}
 use lib.IntN.{ℤ, pos, negsuc}
 
@@ -83,7 +83,7 @@ commandZerosAt = 2
 abbrev pub valueAt : ℕ
 valueAt = 4
 
--- of a value, in a command and in an image
+-- of a value, in a command, in an image and in a step's pair
 abbrev pub valueSize : ℕ
 valueSize = 4
 
@@ -133,17 +133,40 @@ abbrev pub capacity : ℕ
 capacity = 64
 
 -- ---- steps, and what compose writes to
-abbrev pub stepSize : ℕ
-stepSize = 16
+-- how many pairs a step has, in bytes 1-3
+abbrev pub pairCountAt : ℕ
+pairCountAt = 1
+
+abbrev pub pairCountSize : ℕ
+pairCountSize = 3
 
 -- where a step's sequence stands
 abbrev pub stepSequenceAt : ℕ
 stepSequenceAt = 4
 
+-- where its pairs start
+abbrev pub pairsAt : ℕ
+pairsAt = 16
+
+-- of a pair: tag and value, four bytes each
+abbrev pub pairTagSize : ℕ
+pairTagSize = 4
+
+abbrev pub pairSize : ℕ
+pairSize = pairTagSize + valueSize
+
+-- of all pairs that a step has room for, one a command
+abbrev pub pairsSize : ℕ
+pairsSize = pairSize * mostCommands
+
+abbrev pub stepSize : ℕ
+stepSize = pairsAt + pairsSize
+
 -- the most steps of a delivery: 63 undos, since the old log lacks the new delta, and 64 executions
 abbrev pub mostSteps : ℕ
 mostSteps = (capacity - 1) + capacity
 
+-- "The step buffer becomes at least 10,160 bytes"
 abbrev pub stepRoom : ℕ
 stepRoom = stepSize * mostSteps
 

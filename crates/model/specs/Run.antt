@@ -1,19 +1,20 @@
--- Demand 3 over a whole run, as one record. `Agreement` says what has to hold of an empty and a deliver call that are known by
+-- Demand 3 over a whole run, and what Paper 1 of document 02 adds to it, as one record. `Agreement` says what has to hold of an empty and a deliver call that are known by
 -- what they promise: `begins given b`, that empty was given this, answered 0 and wrote b, and `answers b c a`, that the call c on
 -- the image b answered a. `Begins` and `Answers` are those of the definitions; of the code they are the postconditions of its functions.
 use mathlib.Core.Path.{_≡_}
 use mathlib.Core.Logic.{_↔_}
 use mathlib.Core.Bool.{Bool, cond}
-use mathlib.Core.Option.{some}
+use mathlib.Core.Option.{Option, some}
 use mathlib.Core.List.{List, [], _∷_, _++_, map}
 use Prim.Native.Nat.{ℕ, _+_, _≤_}
 use lib.ListN.{length}
 use lib.Dec.{T, eqb}
+use lib.IntN.{ℤ}
 use Rattle.model.specs.Lists.{_∈_}
 use Rattle.model.specs.Message.{Message}
 use Rattle.model.specs.Order.{State, sequencesOf, logOf}
-use Rattle.model.specs.Image.{imageOf, logIn}
-use Rattle.model.specs.Steps.{Step, undo, execute, undosOf, executionsOf, readSteps, Plays}
+use Rattle.model.specs.Image.{imageOf, valuesIn, logIn}
+use Rattle.model.specs.Steps.{Step, undo, execute, undosOf, executionsOf, StepRecord, recordsBetween, readRecords, readSteps, Plays, Standing, PlaysPairs}
 use Rattle.model.specs.Calls.{Delivered, emptyState, empty, deliverCode, deliver}
 use Rattle.model.specs.PlainStation.{accepts, receive}
 
@@ -96,6 +97,17 @@ Played (e ∷ earlier) log =
     (old : List ℕ) × (undone : List ℕ) × (executed : List ℕ) × Played earlier old × StepsTaken e undone executed
     × Plays (playedFrom (e .call) old) (map undo undone ++ map execute executed) log
 
+-- The records of a call, with their pairs.
+abbrev pub recordsRead : Event → Option (List StepRecord)
+recordsRead e = readRecords (e .answer .undos + e .answer .executions) (e .answer .steps)
+
+-- The pairs of all steps, played in turn on setpoints that start as the image's do, beside the executions that stand.
+abbrev pub PairsPlayed : List ℕ → List Event → List Standing → List ℤ → Type 0
+PairsPlayed begun [] standing values = (standing ≡ []) × (values ≡ valuesIn begun)
+PairsPlayed begun (e ∷ earlier) standing values =
+    (before : List Standing) × (old : List ℤ) × (records : List StepRecord) × PairsPlayed begun earlier before old
+    × (recordsRead e ≡ some records) × PlaysPairs before old records standing values
+
 -- ---- the demand, of every list of calls from an image that empty wrote
 pub record Agreement (begins : Given → List ℕ → Type 0) (answers : List ℕ → Call → Delivered → Type 0) : Type 0 where
   -- "Deliver answers 0 exactly where the plain station accepts, and otherwise the lowest number that applies."
@@ -125,6 +137,14 @@ pub record Agreement (begins : Given → List ℕ → Type 0) (answers : List �
   pub fewest : (given : Given) (b : List ℕ) → begins given b → (e : Event) (earlier : List Event) → Run answers b (e ∷ earlier)
       → (rival : List Step) → Plays (oldLog given e earlier) rival (logAfter given (e ∷ earlier))
       → e .answer .undos + e .answer .executions ≤ length rival
+  -- "An execution lists the value after each command; an undo lists the value restored by each command, last command first": the records
+  -- of a call are those between its old log and its new one.
+  pub records : (given : Given) (b : List ℕ) → begins given b → (e : Event) (earlier : List Event) → Run answers b (e ∷ earlier)
+      → recordsRead e ≡ some (recordsBetween (stateAfter given earlier) (stateAfter given (e ∷ earlier)))
+  -- "Played on the setpoints, the pairs must lead to the image's values": they can be played, so that each pair of an undo restores
+  -- what its execution's pair had found, and they lead to these values alone.
+  pub setpoints : (given : Given) (b : List ℕ) → begins given b → (events : List Event) → Run answers b events
+      → (values : List ℤ) → ((standing : List Standing) × PairsPlayed b events standing values) ↔ (values ≡ valuesIn (imageAfter b events))
 
 -- ---- the calls of the definitions
 abbrev pub Begins : Given → List ℕ → Type 0

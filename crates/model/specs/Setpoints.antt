@@ -27,7 +27,8 @@ raise x v = cond (ltZ x v) v x
 unfoldable pub operate : ℕ → ℤ → ℤ → ℤ
 operate operation x v = cond (eqb operation 1) v (cond (eqb operation 2) (stop lowestValue highestValue (x +ℤ v)) (raise x v))
 
--- A command's change, a term of ours: its tag, and the tag's value before and after.
+-- A command's change, a term of ours: its tag, and the tag's value before and after. ("Running a command must therefore also give the
+-- value from before.")
 pub record Change : Type 0 where
   pub tag : ℕ
   pub before : ℤ
@@ -49,9 +50,18 @@ abbrev pub runCommands : List (List ℕ) → List ℤ → List ℤ
 runCommands [] values = values
 runCommands (c ∷ l) values = runCommands l (runCommand c values)
 
+-- The changes that commands make, one after the other.
+abbrev pub changesBy : List (List ℕ) → List ℤ → List Change
+changesBy [] values = []
+changesBy (c ∷ l) values = changeOf c values ∷ changesBy l (runCommand c values)
+
 -- "The commands that start past the dependencies are run on 64 setpoints"
 unfoldable pub runDelta : Message → List ℤ → List ℤ
 runDelta m values = runCommands (commandsOf m) values
+
+-- A delta's changes, where it finds these values.
+unfoldable pub changesOf : Message → List ℤ → List Change
+changesOf m values = changesBy (commandsOf m) values
 
 abbrev pub runLog : List Message → List ℤ → List ℤ
 runLog [] values = values
