@@ -12,9 +12,9 @@ use Rattle.model.specs.Bytes.{bytes}
 use Rattle.model.specs.Layout.{imageSize, stepSize, stepRoom, messageRoom, lineSize, fieldLimit}
 use Rattle.model.specs.Message.{Message, layoutRight, numbersRight, dependenciesRight, contentRight, commandRight, passes}
 use Rattle.model.specs.Order.{stateOf, needs, executablesOf, logOf, heldOf}
-use Rattle.model.specs.Setpoints.{startValues, stop, raise, operate, changeOf, apply, runCommand, runDelta, setpointsOf}
+use Rattle.model.specs.Setpoints.{startValues, stop, raise, operate, changeOf, apply, runCommand, runDelta, changesOf, setpointsOf}
 use Rattle.model.specs.Image.{messagesStart, messagesOf, valuesOf, headerOf, sectionsOf, usedOf, imageOf, messagesStartIn, setOf, isImage}
-use Rattle.model.specs.Steps.{Step, undo, execute, readSteps}
+use Rattle.model.specs.Steps.{Step, undo, execute, executionOf, undoOf, recordsOf, recordBytes, readRecord, readSteps}
 use Rattle.model.specs.Compose.{messageOf, newDependencies, composed}
 use Rattle.model.specs.Calls.{emptyState, Emptied, empty, Delivered, deliver, deliverCode, Composed, compose, composeCode, logMessage, logMessageCode, Setpoint, setpoint, Reader, start, next}
 use Rattle.model.specs.Program.{printedLine, lastLine, badCut, linesFrom, listing}
@@ -135,7 +135,7 @@ examples =
     (emptyOn (imageSize - 1), emptied 1 true)
     ∷ (emptyOn imageSize, emptied 0 false)
     ∷ (deliverTo short a1 stepRoom, refusedDelivery 1)
-    ∷ (deliverTo none a1 2031, refusedDelivery 1)
+    ∷ (deliverTo none a1 10159, refusedDelivery 1)
     ∷ (composePlain short lineA right, refusedCompose 1)
     ∷ (composeOn none lineA lineSize right 0 0 199, refusedCompose 1)
     ∷ (composeOn none lineA 9 right 0 0 messageRoom, refusedCompose 1)
@@ -174,7 +174,7 @@ examples =
     ∷ (logMessageOf none 0, part [] 12)
     ∷ (setpointOf none 64, value 12 (pos 0))
     -- ---- deliver: undos and executions apart, and every byte past the steps as it was, the 2,033rd too
-    ∷ (deliverTo (holding (b1 ∷ [])) a1 2033, delivered 0 1 2 (some (undo (B 1) ∷ execute (A 1) ∷ execute (B 1) ∷ [])) false true)
+    ∷ (deliverTo (holding (b1 ∷ [])) a1 10161, delivered 0 1 2 (some (undo (B 1) ∷ execute (A 1) ∷ execute (B 1) ∷ [])) false true)
     -- ---- compose with the flag: block 1 on an empty log, 2 after block 1
     ∷ (composeUrgent none lineA 0, composes 0 48 (messageOf true (A 1) 1 1 0 [] right) true)
     ∷ (composeUrgent (holding (b1-5 ∷ [])) lineC 7, composes 0 60 (messageOf true (C 1) 1 2 7 (B 1 ∷ []) right) true)
@@ -203,5 +203,5 @@ examples =
 
 -- Every example has the outcome that stands beside it.
 examples-hold : map (λ e. outcomeOf (e .0)) examples ≡ map (λ e. e .1) examples
-unfolding examples empty deliver deliverCode compose composeCode logMessage logMessageCode setpoint start next listing linesFrom badCut printedLine lastLine composed newDependencies isImage imageOf usedOf sectionsOf headerOf valuesOf messagesOf messagesStart messagesStartIn setpointsOf startValues logOf heldOf executablesOf needs runDelta runCommand apply changeOf operate raise stop passes layoutRight numbersRight dependenciesRight contentRight commandRight
+unfolding examples empty deliver deliverCode compose composeCode logMessage logMessageCode setpoint start next listing linesFrom badCut printedLine lastLine composed newDependencies isImage imageOf usedOf sectionsOf headerOf valuesOf messagesOf messagesStart messagesStartIn setpointsOf startValues logOf heldOf executablesOf needs readRecord recordBytes recordsOf executionOf undoOf changesOf runDelta runCommand apply changeOf operate raise stop passes layoutRight numbersRight dependenciesRight contentRight commandRight
 examples-hold = refl
