@@ -1,10 +1,11 @@
--- Laws of lists that every crate uses: items by their places, and the greatest of a list.
+-- Laws of lists that every crate uses: items by their places, the greatest of a list, and the members of its parts.
 use mathlib.Core.Path.{_≡_, refl, sym, ap}
-use mathlib.Core.List.{List, [], _∷_, map, List·Memᴰ·head, List·Memᴰ·tail}
+use mathlib.Core.Logic.{_⊎_, inl, inr, ⊎-elim}
+use mathlib.Core.List.{List, [], _∷_, map, reverse, reverseAux, List·Memᴰ·head, List·Memᴰ·tail, List·Memᴰ·not-nil, List·Memᴰ·cases-cons}
 use Prim.Native.Nat.{ℕ, zero, suc, _≤_, _<_, zero-le, suc-le-suc}
 use native.Mathlib.Omega.{arith}
 use native.Mathlib.Nat.{le-of-suc-le-suc}
-use lib.ListN.{length, take, getD}
+use lib.ListN.{length, take, drop, getD}
 use Rattle.model.specs.Lists.{_∈_, greatest}
 
 pub getD-∈ : {A : Type 0} (l : List A) (k : ℕ) (d : A) → k < length l → getD l k d ∈ l
@@ -33,3 +34,34 @@ pub take-map : {A B : Type 0} (n : ℕ) (f : A → B) (l : List A) → take n (m
 take-map zero f l = refl
 take-map (suc n) f [] = refl
 take-map {A} {B} (suc n) f (a ∷ l) = ap (λ (k : List B). f a ∷ k) (take-map n f l)
+
+pub drop-map : {A B : Type 0} (n : ℕ) (f : A → B) (l : List A) → drop n (map f l) ≡ map f (drop n l)
+drop-map zero f l = refl
+drop-map (suc n) f [] = refl
+drop-map (suc n) f (a ∷ l) = drop-map n f l
+
+map-reversed : {A B : Type 0} (f : A → B) (l r : List A) → map f (reverseAux l r) ≡ reverseAux (map f l) (map f r)
+map-reversed f [] r = refl
+map-reversed f (a ∷ l) r = map-reversed f l (a ∷ r)
+
+pub map-reverse : {A B : Type 0} (f : A → B) (l : List A) → map f (reverse l) ≡ reverse (map f l)
+map-reverse f l = map-reversed f l []
+
+-- ---- members of a part, and of a list turned round
+pub ∈-take : {A : Type 0} (n : ℕ) (l : List A) {a : A} → a ∈ take n l → a ∈ l
+∈-take zero l k = absurd (List·Memᴰ·not-nil k)
+∈-take (suc n) [] k = k
+∈-take (suc n) (x ∷ l) k = ⊎-elim (λ e. List·Memᴰ·head e) (λ j. List·Memᴰ·tail (∈-take n l j)) (List·Memᴰ·cases-cons k)
+
+pub ∈-drop : {A : Type 0} (n : ℕ) (l : List A) {a : A} → a ∈ drop n l → a ∈ l
+∈-drop zero l k = k
+∈-drop (suc n) [] k = k
+∈-drop (suc n) (x ∷ l) k = List·Memᴰ·tail (∈-drop n l k)
+
+∈-reversed : {A : Type 0} (l r : List A) {a : A} → a ∈ reverseAux l r → (a ∈ l) ⊎ (a ∈ r)
+∈-reversed [] r k = inr k
+∈-reversed (x ∷ l) r k =
+    ⊎-elim (λ j. inl (List·Memᴰ·tail j)) (λ j. ⊎-elim (λ e. inl (List·Memᴰ·head e)) inr (List·Memᴰ·cases-cons j)) (∈-reversed l (x ∷ r) k)
+
+pub ∈-reverse : {A : Type 0} (l : List A) {a : A} → a ∈ reverse l → a ∈ l
+∈-reverse l k = ⊎-elim (λ j. j) (λ j. absurd (List·Memᴰ·not-nil j)) (∈-reversed l [] k)
