@@ -98,6 +98,10 @@ module _ (S : State) (valid : Valid S) where
   sized : (m : Message) → m ∈ logOf S ++ heldOf S → Sized m
   sized m k = passes-sized m (valid .pass m (log-held S (valid .ascends) m .0 k))
 
+  -- the log's deltas pass
+  pub log-passes : (m : Message) → m ∈ logOf S → T (passes m)
+  log-passes m k = valid .pass m (log-received S (valid .ascends) m k)
+
   count-log : logCount (imageOf S) ≡ length (logOf S)
   unfolding imageOf usedOf sectionsOf headerOf
   count-log = number-bytes 2 (length (logOf S)) (omega (arith, log-length S (valid .ascends), valid .fits))
@@ -134,7 +138,7 @@ module _ (S : State) (valid : Valid S) where
   pub log-back : logIn (imageOf S) ≡ logOf S
   log-back =
       ap₂ cut count-log (image-body .body ∙ ap (λ (x : List ℕ). x ++ image-body .zeros) (sym (join-append (logOf S) (heldOf S))) ∙ append-assoc (join (logOf S)) (join (heldOf S)) (image-body .zeros))
-      ∙ cut-join (logOf S) (join (heldOf S) ++ image-body .zeros) (λ m k. passes-sized m (valid .pass m (log-received S (valid .ascends) m k)))
+      ∙ cut-join (logOf S) (join (heldOf S) ++ image-body .zeros) (λ m k. passes-sized m (log-passes m k))
 
   -- the image reads back to its state
   pub state-back : stateIn (imageOf S) ≡ S

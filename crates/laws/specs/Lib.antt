@@ -5,3 +5,6 @@ pub mod ImageLaws
 pub mod CodeLaws
 pub mod DeliverLaws
 pub mod UsedLaws
+pub mod ValueLaws
+pub mod RecordRange
+pub mod PairLaws

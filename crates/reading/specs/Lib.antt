@@ -3,5 +3,4 @@ pub mod Answers
 pub mod PartLaws
 pub mod ReadCodes
 pub mod PartCases
-pub mod ValueLaws
 pub mod ValueCases

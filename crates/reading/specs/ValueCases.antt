@@ -17,8 +17,8 @@ use Rattle.model.specs.Codes.{lowestCode, setpointConditions}
 use Rattle.model.specs.Calls.{setpoint, setpointAnswer}
 use Rattle.order.specs.TestLaws.{true-T}
 use Rattle.laws.specs.ImageLaws.{own-valid}
+use Rattle.laws.specs.ValueLaws.{in-range-mag, setpoints-range, value-at}
 use Rattle.reading.specs.ReadCodes.{all-right, tag-told}
-use Rattle.reading.specs.ValueLaws.{in-range-mag, setpoints-range, value-at}
 
 module _ (b : List ℕ) (tag : ℕ) where
   value-told : (n : ℕ) → n ≡ lowestCode (setpointConditions b tag) → setpointAnswer n b tag ≡ setpoint b tag

@@ -1,3 +1,5 @@
 pub mod BytesLaws
 pub mod MessageLaws
 pub mod StepBytesLaws
+pub mod RecordLaws
+pub mod RecordReading

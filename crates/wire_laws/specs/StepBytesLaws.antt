@@ -1,49 +1,45 @@
--- Steps in bytes: a list of steps is read back from the front of the buffer that it was written to.
-use mathlib.Core.Path.{_≡_, refl, sym, _∙_, ap, ap₂}
-use mathlib.Core.Bool.{Bool, true, false, cond, not}
-use mathlib.Core.Option.{some, none}
-use mathlib.Core.List.{List, [], _∷_, _++_, map, List·Memᴰ·head, List·Memᴰ·tail, Memᴰ·of-map, append-assoc}
-use Prim.Native.Nat.{ℕ, _*_, _^_, _<_}
+-- Records in bytes: a record of at most eight pairs has 80.
+use mathlib.Core.Path.{_≡_, refl, sym, _∙_, ap}
+use mathlib.Core.List.{List, _++_, map, Memᴰ·of-map}
+use Prim.Native.Nat.{ℕ, _*_, _-_, _≤_}
 use native.Mathlib.Omega.{arith}
-use lib.ListN.{length, length-append, length-map}
-use lib.Seq.{drop-at}
-use lib.Dec.{T, ltb, not-T, ltb→lt}
+use lib.ListN.{length, length-append, length-map, replicate, length-replicate}
 use Rattle.model.specs.Lists.{_∈_}
-use Rattle.model.specs.Bytes.{number, bytes}
-use Rattle.model.specs.Layout.{sequenceSize, stepSize}
-use Rattle.model.specs.Steps.{Step, undo, execute, stepBytes, stepsBytes, readStep, both, readSteps}
-use Rattle.wire_laws.specs.BytesLaws.{number-bytes, length-join}
+use Rattle.model.specs.Bytes.{bytes, word}
+use Rattle.model.specs.Layout.{mostCommands, valueSize, pairsAt, pairTagSize, pairSize, stepSize}
+use Rattle.model.specs.Steps.{Step, undo, execute, Pair, StepRecord, headBytes, pairBytes, pairsBytes, recordBytes, recordsBytes}
+use Rattle.wire_laws.specs.BytesLaws.{length-join}
 
-abbrev pub nameOf : Step → ℕ
-nameOf (undo s) = s
-nameOf (execute s) = s
+pub length-step : (s : Step) (count : ℕ) → length (headBytes s count) ≡ pairsAt
+length-step (undo s) count = refl
+length-step (execute s) count = refl
 
-pub cond-false : {A : Type 0} (b : Bool) (x y : A) → T (not b) → cond b x y ≡ y
-cond-false true x y t = absurd t
-cond-false false x y t = refl
+pub length-pair : (p : Pair) → length (pairBytes p) ≡ pairSize
+length-pair p = length-append (bytes pairTagSize (p .tag)) (bytes valueSize (word (p .value))) ∙ refl
 
-length-step : (s : Step) → length (stepBytes s) ≡ stepSize
-length-step (undo s) = refl
-length-step (execute s) = refl
+pub length-pairs : (l : List Pair) → length (pairsBytes l) ≡ pairSize * length l
+length-pairs l =
+    length-join pairSize (map pairBytes l) (λ b k. let r = Memᴰ·of-map pairBytes l k in ap length (sym (r .2)) ∙ length-pair (r .0))
+    ∙ omega (arith, length-map l pairBytes)
 
-enough : (s : Step) (rest : List ℕ) → T (not (ltb (length (stepBytes s ++ rest)) stepSize))
-enough s rest = not-T (ltb (length (stepBytes s ++ rest)) stepSize)
-    (λ t. let h : length (stepBytes s ++ rest) < stepSize = ltb→lt (length (stepBytes s ++ rest)) stepSize t in
-    let z : ⊥ = omega (arith, length-append (stepBytes s) rest, length-step s) in absurd z)
+-- A record that has room for its pairs.
+abbrev pub Fits : StepRecord → Type 0
+Fits r = length (r .pairs) ≤ mostCommands
 
-read-step : (s : Step) (rest : List ℕ) → nameOf s < 256 ^ sequenceSize → readStep (stepBytes s ++ rest) ≡ some s
-read-step (undo s) rest h =
-    cond-false (ltb (length (stepBytes (undo s) ++ rest)) stepSize) none (some (undo (number (bytes sequenceSize s)))) (enough (undo s) rest)
-    ∙ ap (λ (n : ℕ). some (undo n)) (number-bytes sequenceSize s h)
-read-step (execute s) rest h =
-    cond-false (ltb (length (stepBytes (execute s) ++ rest)) stepSize) none (some (execute (number (bytes sequenceSize s)))) (enough (execute s) rest)
-    ∙ ap (λ (n : ℕ). some (execute n)) (number-bytes sequenceSize s h)
+pub length-record : (r : StepRecord) → Fits r → length (recordBytes r) ≡ stepSize
+unfolding recordBytes
+length-record r fits =
+    let count = length (r .pairs) in
+    length-append (headBytes (r .step) count ++ pairsBytes (r .pairs)) (replicate (pairSize * (mostCommands - count)) 0)
+    ∙ omega (
+      arith,
+      length-append (headBytes (r .step) count) (pairsBytes (r .pairs)),
+      length-step (r .step) count,
+      length-pairs (r .pairs),
+      length-replicate {A = ℕ} (pairSize * (mostCommands - count)) 0,
+    )
 
-pub read-steps : (l : List Step) (rest : List ℕ) → ((s : Step) → s ∈ l → nameOf s < 256 ^ sequenceSize) → readSteps (length l) (stepsBytes l ++ rest) ≡ some l
-read-steps [] rest h = refl
-read-steps (s ∷ l) rest h =
-    rw (append-assoc, drop-at (stepBytes s) (stepsBytes l ++ rest) stepSize (length-step s))
-    (ap₂ both (read-step s (stepsBytes l ++ rest) (h s (List·Memᴰ·head refl))) (read-steps l rest (λ x k. h x (List·Memᴰ·tail k))))
-
-pub length-steps-bytes : (l : List Step) → length (stepsBytes l) ≡ length l * stepSize
-length-steps-bytes l = length-join stepSize (map stepBytes l) (λ b k. let r = Memᴰ·of-map stepBytes l k in ap length (sym (r .2)) ∙ length-step (r .0)) ∙ ap (λ (n : ℕ). n * stepSize) (length-map l stepBytes)
+pub length-records-bytes : (l : List StepRecord) → ((r : StepRecord) → r ∈ l → Fits r) → length (recordsBytes l) ≡ stepSize * length l
+length-records-bytes l fits =
+    length-join stepSize (map recordBytes l) (λ b k. let r = Memᴰ·of-map recordBytes l k in ap length (sym (r .2)) ∙ length-record (r .0) (fits (r .0) (r .1)))
+    ∙ omega (arith, length-map l recordBytes)
