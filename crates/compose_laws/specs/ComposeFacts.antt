@@ -17,6 +17,7 @@ use Rattle.model.specs.Compose.{newNumber, newSequence, unneeded, newDependenci
 use Rattle.model.specs.Codes.{heldOn}
 use Rattle.order.specs.TestLaws.{and-l, and-r, and-i, decide, has→∈, ∈→has, keep-∈, ∈-keep, ∈-every, ∈-some, greatest-≥}
 use Rattle.laws.specs.LogLaws.{Logged, log-received, log-held}
+use Rattle.laws.specs.ImageLaws.{log-passes}
 use Rattle.wire_laws.specs.MessageLaws.{passes-numbers}
 
 -- ---- lists
@@ -135,7 +136,7 @@ module _ (S : State) (valid : Valid S) (line : ℕ) (free : T (not (heldOn S lin
   unfolding numbersRight
   dependencies-numbered = ∈-every numbered dependencies (λ d k. let r = dependency-logged d k in
       subst (λ (s : ℕ). T (numbered s)) (r .2)
-      (and-l (numbered (sequenceOf (r .0))) (every numbered (dependenciesOf (r .0))) (passes-numbers (r .0) (valid .pass (r .0) (log-received S (valid .ascends) (r .0) (r .1))))))
+      (and-l (numbered (sequenceOf (r .0))) (every numbered (dependenciesOf (r .0))) (passes-numbers (r .0) (log-passes S valid (r .0) (r .1)))))
 
   pub dependencies-other : T (not (has own dependencies))
   dependencies-other = not-T (has own dependencies) (λ t. let r = dependency-logged own (has→∈ own dependencies t) in

@@ -33,9 +33,9 @@ use Rattle.laws.specs.LogLaws.{Logged, keys-differ, log-received}
 use Rattle.laws.specs.EffectiveLaws.{keys-agree}
 use Rattle.wire_laws.specs.MessageLaws.{sequence-range}
 use Rattle.wire_laws.specs.BytesLaws.{number-range}
-use Rattle.laws.specs.ImageLaws.{image-own, own-valid}
+use Rattle.laws.specs.ImageLaws.{log-passes, image-own, own-valid}
 use Rattle.laws.specs.DeliverLaws.{code-zero, receive-accepted}
-use Rattle.run_laws.specs.RunLaws.{CallFacts, call-facts}
+use Rattle.run_laws.specs.RunLaws.{CallFacts, steps-read, call-facts}
 use Rattle.compose_laws.specs.ComposedMessage.{Parts, made-passes, made-sequence, made-dependencies}
 use Rattle.compose_laws.specs.ComposeFacts.{own-numbered, own-new, predecessor-logged, dependency-logged, dependencies-ascend, dependencies-numbered, dependencies-other, dependencies-not-predecessor, unneeded-named}
 
@@ -142,7 +142,7 @@ module _ (b line commands : List ℕ) (flag priority room : ℕ) (g : Granted b 
     priority-fits = priority-fits;
     few = g .few;
     deps-fit = λ d k. let r = dependency-logged S valid (number line) (g .free) (g .number-small) d k in
-        subst (λ (n : ℕ). n < 256 ^ sequenceSize) (r .2) (sequence-range (r .0) (valid .pass (r .0) (log-received S (valid .ascends) (r .0) (r .1))));
+        subst (λ (n : ℕ). n < 256 ^ sequenceSize) (r .2) (sequence-range (r .0) (log-passes S valid (r .0) (r .1)));
     commands-sized = g .sized;
   }
 
@@ -244,7 +244,7 @@ granted-promise b line commands flag priority room g = record {
   accepted = λ h steps r. facts steps .accepted .1 (takes h steps r);
   no-undo = λ h steps r. facts steps .undos ∙ ap (λ (R : State). undosOf (sequencesOf (logOf S′)) (sequencesOf (logOf R))) (added h steps r) ∙ composed-undos b line commands flag priority room g;
   first-step = λ h steps r. let w = composed-steps b line commands flag priority room g in
-      (w .0, facts steps .read ∙ ap some (ap (λ (R : State). stepsOf (sequencesOf (logOf S′)) (sequencesOf (logOf R))) (added h steps r) ∙ w .1));
+      (w .0, steps-read S′ (receive S′ m (length steps)) (delivery m steps) (deliver b m steps) (facts steps) ∙ ap some (ap (λ (R : State). stepsOf (sequencesOf (logOf S′)) (sequencesOf (logOf R))) (added h steps r) ∙ w .1));
 }
   where
     S′ : State

@@ -1,1 +1,2 @@
+pub mod PairRuns
 pub mod RunLaws

@@ -1,33 +1,33 @@
 -- Demand 3 of the definitions' own calls: `Agreement` holds of them, and of every pair of calls that promises what they answer.
 use mathlib.Core.Path.{_≡_, refl, sym, _∙_, ap, ap₂, subst}
-use mathlib.Core.Logic.{_⊎_, inl, inr, ⊎-elim, _↔_}
+use mathlib.Core.Logic.{⊎-elim, _↔_}
 use mathlib.Core.Bool.{Bool, true, false, cond}
-use mathlib.Core.Option.{Option, some, none}
-use mathlib.Core.List.{List, [], _∷_, _++_, map, reverse, List·Memᴰ·head, List·Memᴰ·tail, List·Memᴰ·not-nil, List·Memᴰ·cases-cons, List·Memᴰ·append-cases, Memᴰ·cast, Memᴰ·of-map}
-use Prim.Native.Nat.{ℕ, zero, suc, _+_, _^_, _<_}
+use mathlib.Core.Option.{some, Option·some-injective}
+use mathlib.Core.List.{List, [], _∷_, _++_, map, reverse, List·Memᴰ·head, List·Memᴰ·tail, List·Memᴰ·not-nil, List·Memᴰ·cases-cons, Memᴰ·cast}
+use Prim.Native.Nat.{ℕ, zero, suc, _+_}
 use native.Mathlib.Omega.{arith}
 use native.Mathlib.Nat.{suc-ne-zero}
 use lib.ListN.{length, length-reverse, length-drop, drop}
-use lib.Seq.{drop-length}
 use lib.Dec.{T, eqb, eqb→eq}
 use Rattle.model.specs.Lists.{_∈_}
-use Rattle.model.specs.Layout.{sequenceSize}
-use Rattle.model.specs.Message.{Message, sequenceOf}
+use Rattle.model.specs.Message.{Message}
 use Rattle.model.specs.Order.{State, stateOf, add, sequencesOf, logOf}
-use Rattle.model.specs.Image.{imageOf, Valid, logIn}
-use Rattle.model.specs.Steps.{Step, undo, execute, common, stepsOf, undosOf, executionsOf, stepsBytes, readSteps, Plays}
+use Rattle.model.specs.Setpoints.{startValues}
+use Rattle.model.specs.Image.{imageOf, Valid, valuesIn, logIn}
+use Rattle.model.specs.Steps.{Step, undo, execute, common, stepsOf, undosOf, executionsOf, StepRecord, recordsBetween, recordsBytes, readRecords, stepsIn, readSteps, Plays}
 use Rattle.model.specs.Codes.{lowestCode, emptyConditions}
 use Rattle.model.specs.Calls.{Delivered, deliverAnswer, emptyState, emptyAnswer, empty}
-use Rattle.model.specs.PlainStation.{receive}
+use Rattle.model.specs.PlainStation.{accepts, receive}
 use Rattle.model.specs.Run.{Given, Call, delivery, Event, imageAfter, Run, accepts?, stateBegun, stateNext, stateAfter, logAfter, playedFrom, oldLog, codeFor, messageOfCall, acceptedIn, SameAccepted, StepsTaken, Played, Agreement, Begins, Answers}
 use Rattle.order.specs.StepLaws.{steps-play, steps-fewest, steps-counted, common-self, plays-unique}
 use Rattle.order.specs.TestLaws.{Same}
 use Rattle.laws.specs.SetLaws.{insert-from, insert-keeps, insert-has, ascending-unique}
-use Rattle.laws.specs.LogLaws.{log-received}
-use Rattle.wire_laws.specs.MessageLaws.{sequence-range}
+use Rattle.wire_laws.specs.RecordLaws.{records-steps, records-counted, records-self}
 use Rattle.laws.specs.ImageLaws.{log-back}
-use Rattle.wire_laws.specs.StepBytesLaws.{nameOf, read-steps}
+use Rattle.laws.specs.ValueLaws.{values-back}
+use Rattle.laws.specs.RecordRange.{records-back}
 use Rattle.laws.specs.DeliverLaws.{stateCode, deliver-code-is, deliver-is, code-zero, receive-refused, receive-accepted, accepts-same, receive-valid}
+use Rattle.run_laws.specs.PairRuns.{PairsLead, pairs-begun, pairs-next, pairs-values}
 
 -- ---- one call on the image of a valid state, after which the plain station's state is `next`
 pub record CallFacts (S next : State) (c : Call) (a : Delivered) : Type 0 where
@@ -36,43 +36,16 @@ pub record CallFacts (S next : State) (c : Call) (a : Delivered) : Type 0 where
   pub image : a .image ≡ imageOf next
   pub undos : a .undos ≡ undosOf (playedFrom c (sequencesOf (logOf S))) (sequencesOf (logOf next))
   pub executions : a .executions ≡ executionsOf (playedFrom c (sequencesOf (logOf S))) (sequencesOf (logOf next))
-  pub read : readSteps (a .undos + a .executions) (a .steps) ≡ some (stepsOf (playedFrom c (sequencesOf (logOf S))) (sequencesOf (logOf next)))
+  pub records : readRecords (a .undos + a .executions) (a .steps) ≡ some (recordsBetween S next)
+
+-- the steps alone
+pub steps-read : (S next : State) (c : Call) (a : Delivered) → CallFacts S next c a
+    → readSteps (a .undos + a .executions) (a .steps) ≡ some (stepsOf (playedFrom c (sequencesOf (logOf S))) (sequencesOf (logOf next)))
+steps-read S next (delivery m steps) a facts = ap stepsIn (facts .records) ∙ ap some (records-steps (startValues S) (logOf S) (logOf next))
 
 -- no step from a log to itself
 pub undos-self : (l : List ℕ) → undosOf l l ≡ 0
 undos-self l = omega (arith, common-self l)
-
-pub steps-self : (l : List ℕ) → stepsOf l l ≡ []
-steps-self l = ap (λ (r : List ℕ). map undo (reverse r) ++ map execute r) (ap (λ (n : ℕ). drop n l) (common-self l) ∙ drop-length l)
-
--- the names of the steps between two logs are of those logs
-∈-drop : {A : Type 0} (n : ℕ) (l : List A) {a : A} → a ∈ drop n l → a ∈ l
-∈-drop zero l k = k
-∈-drop (suc n) [] k = k
-∈-drop (suc n) (x ∷ l) k = List·Memᴰ·tail (∈-drop n l k)
-
-∈-reverse : {A : Type 0} (l r : List A) {a : A} → a ∈ mathlib.Core.List.reverseAux l r → (a ∈ l) ⊎ (a ∈ r)
-∈-reverse [] r k = inr k
-∈-reverse (x ∷ l) r k =
-    ⊎-elim (λ j. inl (List·Memᴰ·tail j)) (λ j. ⊎-elim (λ e. inl (List·Memᴰ·head e)) inr (List·Memᴰ·cases-cons j)) (∈-reverse l (x ∷ r) k)
-
-steps-name : (old new : List ℕ) (s : Step) → s ∈ stepsOf old new → (nameOf s ∈ old) ⊎ (nameOf s ∈ new)
-steps-name old new s k = ⊎-elim undone executed (List·Memᴰ·append-cases (map undo (reverse (drop (common old new) old))) k)
-  where
-    undone : s ∈ map undo (reverse (drop (common old new) old)) → (nameOf s ∈ old) ⊎ (nameOf s ∈ new)
-    undone j =
-        let r = Memᴰ·of-map undo (reverse (drop (common old new) old)) j in
-        inl (Memᴰ·cast (sym (ap nameOf (r .2))) (∈-drop (common old new) old (⊎-elim (λ i. i) (λ i. absurd (List·Memᴰ·not-nil i)) (∈-reverse (drop (common old new) old) [] (r .1)))))
-
-    executed : s ∈ map execute (drop (common old new) new) → (nameOf s ∈ old) ⊎ (nameOf s ∈ new)
-    executed j =
-        let r = Memᴰ·of-map execute (drop (common old new) new) j in
-        inr (Memᴰ·cast (sym (ap nameOf (r .2))) (∈-drop (common old new) new (r .1)))
-
-log-range : (S : State) → Valid S → (s : ℕ) → s ∈ sequencesOf (logOf S) → s < 256 ^ sequenceSize
-log-range S valid s k =
-    let r = Memᴰ·of-map sequenceOf (logOf S) k in
-    subst (λ (n : ℕ). n < 256 ^ sequenceSize) (r .2) (sequence-range (r .0) (valid .pass (r .0) (log-received S (valid .ascends) (r .0) (r .1))))
 
 module _ (S : State) (valid : Valid S) (m : Message) (steps : List ℕ) where
   code-is : (n : ℕ) → stateCode S m (length steps) ≡ n → n ≡ codeFor (imageOf S) (delivery m steps)
@@ -85,21 +58,18 @@ module _ (S : State) (valid : Valid S) (m : Message) (steps : List ℕ) where
     image = refl;
     undos = refl;
     executions = refl;
-    read = subst (λ (n : ℕ). readSteps n (stepsBytes (stepsOf old new) ++ drop (length (stepsBytes (stepsOf old new))) steps) ≡ some (stepsOf old new))
-        (steps-counted old new) (read-steps (stepsOf old new) (drop (length (stepsBytes (stepsOf old new))) steps) in-range);
+    records = subst (λ (n : ℕ). readRecords n (recordsBytes made ++ behind) ≡ some made) (records-counted (startValues S) (logOf S) (logOf (add m S)))
+        (records-back S (add m S) valid valid-next behind);
   }
     where
-      old : List ℕ
-      old = sequencesOf (logOf S)
+      made : List StepRecord
+      made = recordsBetween S (add m S)
 
-      new : List ℕ
-      new = sequencesOf (logOf (add m S))
+      behind : List ℕ
+      behind = drop (length (recordsBytes made)) steps
 
       valid-next : Valid (add m S)
       valid-next = subst Valid (receive-accepted S m (length steps) e) (receive-valid S valid m (length steps))
-
-      in-range : (s : Step) → s ∈ stepsOf old new → nameOf s < 256 ^ sequenceSize
-      in-range s k = ⊎-elim (log-range S valid (nameOf s)) (log-range (add m S) valid-next (nameOf s)) (steps-name old new s k)
 
   refused-facts : (n : ℕ) → stateCode S m (length steps) ≡ suc n → CallFacts S S (delivery m steps) (deliverAnswer (suc n) S (imageOf S) m steps)
   refused-facts n e = record {
@@ -108,7 +78,7 @@ module _ (S : State) (valid : Valid S) (m : Message) (steps : List ℕ) where
     image = refl;
     undos = sym (undos-self (sequencesOf (logOf S)));
     executions = sym (undos-self (sequencesOf (logOf S)));
-    read = ap some (sym (steps-self (sequencesOf (logOf S))));
+    records = ap some (sym (records-self (startValues S) (logOf S)));
   }
 
   answer-facts : (n : ℕ) → stateCode S m (length steps) ≡ n
@@ -202,17 +172,10 @@ taken : (old new : List ℕ) (S next : State) (e : Event) → CallFacts S next (
     → old ≡ playedFrom (e .call) (sequencesOf (logOf S)) → new ≡ sequencesOf (logOf next)
     → StepsTaken e (reverse (drop (common old new) old)) (drop (common old new) new)
 taken old new S next e facts p q = record {
-  read = facts .read ∙ ap₂ (λ (k l : List ℕ). some (stepsOf k l)) (sym p) (sym q);
+  read = steps-read S next (e .call) (e .answer) facts ∙ ap₂ (λ (k l : List ℕ). some (stepsOf k l)) (sym p) (sym q);
   undos = undone-length old new ∙ ap₂ undosOf p q ∙ sym (facts .undos);
   executions = length-drop (common old new) new ∙ ap₂ executionsOf p q ∙ sym (facts .executions);
 }
-
-some-inj : {A : Type 0} (x y : A) → some x ≡ some y → x ≡ y
-some-inj x y e = ap (or-else x) e
-  where
-    or-else : {A : Type 0} → A → Option A → A
-    or-else d none = d
-    or-else d (some a) = a
 
 pub plays-log : (given : Given) (b : List ℕ) → Begins given b → (events : List Event) → Run Answers b events → (log : List ℕ) → Played events log ↔ (log ≡ logAfter given events)
 unfolding logOf
@@ -232,7 +195,7 @@ plays-log given b begun (e ∷ earlier) run log = go (event-facts given b begun 
         → Played (e ∷ earlier) log ↔ (log ≡ new)
     go facts ih = (
       λ p. plays-unique (stepsOf old new) old log new
-          (subst (λ (ss : List Step). Plays old ss log) (some-inj _ _ (sym (p .4 .read) ∙ facts .read))
+          (subst (λ (ss : List Step). Plays old ss log) (Option·some-injective _ _ (sym (p .4 .read) ∙ steps-read (stateAfter given earlier) (stateAfter given (e ∷ earlier)) (e .call) (e .answer) facts))
           (subst (λ (l : List ℕ). Plays (playedFrom (e .call) l) (map undo (p .1) ++ map execute (p .2)) log) (ih (p .0) .0 (p .3)) (p .5)))
           (steps-play old new),
       λ q. (
@@ -244,6 +207,21 @@ plays-log given b begun (e ∷ earlier) run log = go (event-facts given b begun 
         subst (Plays old (stepsOf old new)) (sym q) (steps-play old new),
       ),
     )
+
+-- ---- the played pairs
+next-keeps : (S : State) (c : Call) (x : Message) → x ∈ S .deltas → x ∈ stateNext S c .deltas
+unfolding receive
+next-keeps S (delivery m steps) x k = go (accepts S m (length steps))
+  where
+    go : (t : Bool) → x ∈ cond t (add m S) S .deltas
+    go true = insert-keeps m (S .deltas) x k
+    go false = k
+
+pairs-lead : (given : Given) (b : List ℕ) → Begins given b → (events : List Event) → Run Answers b events → PairsLead b events (stateAfter given events)
+pairs-lead given b begun [] run = pairs-begun b (ap valuesIn (begins-image given b begun) ∙ values-back emptyState empty-valid)
+pairs-lead given b begun (e ∷ earlier) run =
+    pairs-next b e earlier (stateAfter given earlier) (stateAfter given (e ∷ earlier)) (state-valid given earlier) (state-valid given (e ∷ earlier))
+    (next-keeps (stateAfter given earlier) (e .call)) (event-facts given b begun e earlier run .records) (pairs-lead given b begun earlier (run .1))
 
 -- ---- the theorem
 pub agreement : Agreement Begins Answers
@@ -259,6 +237,9 @@ agreement = record {
   fewest = λ given b begun e earlier run rival plays.
       let f = event-facts given b begun e earlier run in
       omega (arith, f .undos, f .executions, steps-counted (oldLog given e earlier) (logAfter given (e ∷ earlier)), steps-fewest (oldLog given e earlier) (logAfter given (e ∷ earlier)) rival plays);
+  records = λ given b begun e earlier run. event-facts given b begun e earlier run .records;
+  setpoints = λ given b begun events run.
+      pairs-values b events (stateAfter given events) (state-valid given events) (imageAfter b events) (run-image given b begun events run) (pairs-lead given b begun events run);
 }
 
 -- ---- and so of every empty and deliver that promise what the definitions answer
@@ -279,6 +260,8 @@ agreement-of begins answers f g = record {
   undos = λ given b begun e earlier run. agreement .undos given b (f given b begun) e earlier (same-run b (e ∷ earlier) run);
   executions = λ given b begun e earlier run. agreement .executions given b (f given b begun) e earlier (same-run b (e ∷ earlier) run);
   fewest = λ given b begun e earlier run. agreement .fewest given b (f given b begun) e earlier (same-run b (e ∷ earlier) run);
+  records = λ given b begun e earlier run. agreement .records given b (f given b begun) e earlier (same-run b (e ∷ earlier) run);
+  setpoints = λ given b begun events run. agreement .setpoints given b (f given b begun) events (same-run b events run);
 }
   where
     same-run : (b : List ℕ) (events : List Event) → Run answers b events → Run Answers b events

@@ -1,17 +1,20 @@
 -- The laws of the definitions, each as one statement. Their proofs stand in the files beside this one.
 use mathlib.Core.Path.{_≡_, refl}
 use mathlib.Core.Logic.{_↔_}
-use mathlib.Core.List.{List}
+use mathlib.Core.Option.{some}
+use mathlib.Core.List.{List, _++_, map}
 use Prim.Native.Nat.{ℕ, _+_, _≤_, max}
 use native.Mathlib.Omega.{arith}
 use lib.ListN.{length, take}
 use lib.Dec.{T}
+use lib.IntN.{ℤ}
 use Rattle.model.specs.Lists.{_∈_, greatest}
 use Rattle.model.specs.Layout.{imageSize}
 use Rattle.model.specs.Message.{Message, blockOf}
-use Rattle.model.specs.Order.{State, find, needs, effectiveBlock, keyOf, less, Executable, Grounded, IsLog, logOf, heldOf}
-use Rattle.model.specs.Image.{imageOf, Valid, IsImage, stateIn, logIn, isImage}
-use Rattle.model.specs.Steps.{Step, common, undosOf, executionsOf, stepsOf, Plays}
+use Rattle.model.specs.Order.{State, find, sequencesOf, needs, effectiveBlock, keyOf, less, Executable, Grounded, IsLog, logOf, heldOf}
+use Rattle.model.specs.Setpoints.{startValues, setpointsOf}
+use Rattle.model.specs.Image.{imageOf, Valid, IsImage, stateIn, valuesIn, logIn, isImage}
+use Rattle.model.specs.Steps.{Step, common, undosOf, executionsOf, stepsOf, recordsBetween, recordsBytes, readRecords, Plays, Standing, PlaysPairs}
 use Rattle.model.specs.Codes.{lowestCode, deliverConditions, composeConditions, emptyConditions, logMessageConditions, setpointConditions}
 use Rattle.model.specs.Calls.{deliver, compose}
 use Rattle.model.specs.PlainStation.{receive}
@@ -22,7 +25,11 @@ use Rattle.order.specs.CommonLaws.{common-start, common-longest}
 use Rattle.order.specs.StepLaws.{steps-play, steps-counted, steps-fewest}
 use Rattle.laws.specs.LogLaws.{key-order, keys-differ, log-is, log-only, log-of-set, log-executable, log-grounded, held-is}
 use Rattle.laws.specs.EffectiveLaws.{effective-is, effective-only}
+use Rattle.wire_laws.specs.RecordLaws.{records-steps}
 use Rattle.laws.specs.ImageLaws.{image-size, state-back, log-back, image-declared, image-state}
+use Rattle.laws.specs.ValueLaws.{values-back}
+use Rattle.laws.specs.RecordRange.{records-back}
+use Rattle.laws.specs.PairLaws.{standingIn, state-pairs-play, pairs-unique}
 use Rattle.laws.specs.CodeLaws.{Lowest, lowest-is}
 use Rattle.laws.specs.DeliverLaws.{receive-valid}
 use Rattle.run_laws.specs.RunLaws.{CallFacts, call-facts, agreement}
@@ -74,14 +81,34 @@ pub record StepLaw (old new : List ℕ) : Type 0 where
 pub step-law : (old new : List ℕ) → StepLaw old new
 step-law old new = record { start = common-start old new; longest = common-longest old new; plays = steps-play old new; counted = steps-counted old new; fewest = steps-fewest old new }
 
--- 4. The image of a valid state has 16,384 bytes and reads back to that state and its log.
+-- The records of these steps, with their pairs: they have these steps, are read back from their bytes, and can be played from the
+-- setpoints of the old log, where its executions stand, to those of the new one, where its own do; to no other values.
+pub record PairLaw (S next : State) : Type 0 where
+  pub steps : map (λ r. r .step) (recordsBetween S next) ≡ stepsOf (sequencesOf (logOf S)) (sequencesOf (logOf next))
+  pub read : (rest : List ℕ) → readRecords (length (recordsBetween S next)) (recordsBytes (recordsBetween S next) ++ rest) ≡ some (recordsBetween S next)
+  pub plays : PlaysPairs (standingIn S) (setpointsOf S) (recordsBetween S next) (standingIn next) (setpointsOf next)
+  pub only : (before after : List Standing) (values : List ℤ) → PlaysPairs before (setpointsOf S) (recordsBetween S next) after values → values ≡ setpointsOf next
+
+pub pair-law : (S next : State) → Valid S → Valid next → ((m : Message) → m ∈ S .deltas → m ∈ next .deltas) → PairLaw S next
+pair-law S next v w all = record {
+  steps = records-steps (startValues S) (logOf S) (logOf next);
+  read = records-back S next v w;
+  plays = plays;
+  only = λ before after values p. pairs-unique (recordsBetween S next) before (standingIn S) after (standingIn next) (setpointsOf S) values (setpointsOf next) p plays;
+}
+  where
+    plays : PlaysPairs (standingIn S) (setpointsOf S) (recordsBetween S next) (standingIn next) (setpointsOf next)
+    plays = state-pairs-play S next (v .ascends) (w .ascends) all
+
+-- 4. The image of a valid state has 16,384 bytes and reads back to that state, its log and its setpoints.
 pub record ImageLaw (S : State) : Type 0 where
   pub size : length (imageOf S) ≡ imageSize
   pub state : stateIn (imageOf S) ≡ S
   pub log : logIn (imageOf S) ≡ logOf S
+  pub setpoints : valuesIn (imageOf S) ≡ setpointsOf S
 
 pub image-law : (S : State) → Valid S → ImageLaw S
-image-law S v = record { size = image-size S v; state = state-back S v; log = log-back S v }
+image-law S v = record { size = image-size S v; state = state-back S v; log = log-back S v; setpoints = values-back S v }
 
 -- A buffer passes code 2 by computing exactly if it is declared an image, and it is the image of one state.
 pub image-test : (b : List ℕ) → T (isImage b) ↔ IsImage b
