@@ -4,16 +4,21 @@ use mathlib.Core.List.{List, _++_, append-assoc}
 use Prim.Native.Nat.{ℕ, _+_, _/_, _^_, _≤_}
 use native.Mathlib.Omega.{arith}
 use lib.ListN.{length, take, drop, length-drop, take-append-drop}
-use lib.Seq.{paste, take-paste, drop-paste, drop-drop, take-append-add, take-all, length-take-le, take-append-le, drop-append-le, take-at, drop-at}
+use lib.Seq.{paste, take-paste, drop-paste, drop-drop, take-append-add, take-all, take-take, length-take-le, take-append-le, drop-append-le, take-at, drop-at}
 use Rattle.model.specs.Bytes.{bytes}
 use Rattle.wire_laws.specs.BytesLaws.{length-bytes}
 use Rattle.buffer.specs.FieldLaws.{bytes-split}
 
+-- the first n + k of two lists, of which the first has n
+take-both : (x y : List ℕ) (n k : ℕ) → length x ≡ n → take (n + k) (x ++ y) ≡ x ++ take k y
+take-both x y n k e = ap (λ (z : ℕ). take (z + k) (x ++ y)) (sym e) ∙ take-append-add x y k
+
+-- two side by side, the second one written behind the first
 pub paste-paste : (d : List ℕ) (at : ℕ) (x y : List ℕ) (n k : ℕ) → at + n ≤ length d → length x ≡ n
     → paste (paste d at x n) (at + n) y k ≡ paste d at (x ++ y) (n + k)
 paste-paste d at x y n k h e =
     ap₂ (λ (u v : List ℕ). u ++ take k y ++ v) head rest
-    ∙ ap (λ (u : List ℕ). u ++ drop (at + (n + k)) d) (append-assoc (take at d) x (take k y) ∙ ap (λ (u : List ℕ). take at d ++ u) (sym middle))
+    ∙ ap (λ (u : List ℕ). u ++ drop (at + (n + k)) d) (append-assoc (take at d) x (take k y) ∙ ap (λ (u : List ℕ). take at d ++ u) (sym (take-both x y n k e)))
   where
     head : take (at + n) (paste d at x n) ≡ take at d ++ x
     head = take-paste d at x n (omega arith) (omega arith) ∙ ap (λ (u : List ℕ). take at d ++ u) (take-all n x (omega arith))
@@ -23,8 +28,30 @@ paste-paste d at x y n k h e =
         sym (drop-drop k (at + n) (paste d at x n)) ∙ ap (drop k) (drop-paste d at x n (omega arith) (omega arith)) ∙ drop-drop k (at + n) d
         ∙ ap (λ (z : ℕ). drop z d) {x = at + n + k} {y = at + (n + k)} (omega arith)
 
-    middle : take (n + k) (x ++ y) ≡ x ++ take k y
-    middle = ap (λ (z : ℕ). take (z + k) (x ++ y)) (sym e) ∙ take-append-add x y k
+-- and the first one written before the second
+pub paste-behind : (d : List ℕ) (at : ℕ) (x y : List ℕ) (n k : ℕ) → at + n ≤ length d → length x ≡ n
+    → paste (paste d (at + n) y k) at x n ≡ paste d at (x ++ y) (n + k)
+paste-behind d at x y n k h e =
+    ap₂ (λ (u v : List ℕ). u ++ take n x ++ v) head rest ∙ sym (append-assoc (take at d ++ take n x) (take k y) (drop (at + n + k) d))
+    ∙ ap₂ (λ (u : List ℕ) (z : ℕ). u ++ drop z d) {u = at + n + k} {v = at + (n + k)} middle (omega arith)
+  where
+    behind : List ℕ
+    behind = take k y ++ drop (at + n + k) d
+
+    cut : paste d (at + n) y k ≡ take (at + n) d ++ behind
+    cut = append-assoc (take (at + n) d) (take k y) (drop (at + n + k) d)
+
+    head : take at (paste d (at + n) y k) ≡ take at d
+    head =
+        ap (take at) cut ∙ take-append-le at (take (at + n) d) behind (omega (arith, length-take-le (at + n) d h)) ∙ take-take at (at + n) d (omega arith)
+
+    rest : drop (at + n) (paste d (at + n) y k) ≡ behind
+    rest = ap (drop (at + n)) cut ∙ drop-at (take (at + n) d) behind (at + n) (length-take-le (at + n) d h)
+
+    middle : take at d ++ take n x ++ take k y ≡ take at d ++ take (n + k) (x ++ y)
+    middle =
+        append-assoc (take at d) (take n x) (take k y)
+        ∙ ap (λ (u : List ℕ). take at d ++ u) (ap (λ (u : List ℕ). u ++ take k y) (take-all n x (omega arith)) ∙ sym (take-both x y n k e))
 
 -- a number written in two parts, the high one first
 pub paste-halves : (d : List ℕ) (at n k v : ℕ) → at + n ≤ length d

@@ -104,11 +104,20 @@ pub const SETPOINTS_START: usize = 16;
 // the most deltas that an image holds
 pub const CAPACITY: usize = 64;
 
-// ---- a step
-pub const STEP_SIZE: usize = 16;
-
-// where a step's sequence stands
+// ---- a step: its kind and how many pairs it has, its sequence, its pairs
 pub const STEP_SEQUENCE_AT: usize = 4;
+
+pub const PAIRS_AT: usize = 16;
+
+// of a pair: tag and value
+pub const PAIR_TAG_SIZE: usize = 4;
+
+pub const PAIR_SIZE: usize = PAIR_TAG_SIZE + VALUE_SIZE;
+
+// of all pairs that a step has room for, one a command
+pub const PAIRS_SIZE: usize = PAIR_SIZE * MOST_COMMANDS;
+
+pub const STEP_SIZE: usize = PAIRS_AT + PAIRS_SIZE;
 
 // the most steps of a delivery: 63 undos, since the old log lacks the new delta, and 64 executions
 pub const MOST_STEPS: usize = (CAPACITY - 1) + CAPACITY;
