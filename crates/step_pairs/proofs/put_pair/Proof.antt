@@ -1,0 +1,57 @@
+-- The tag's low four bytes and then the value's four: a pair has no more of the tag.
+use mathlib.Core.Path.{refl, ap, ap₂, _∙_}
+use mathlib.Core.List.{List}
+use Prim.Native.Nat.{ℕ, _+_}
+use native.Mathlib.Omega.{arith}
+use lib.Seq.{paste}
+use mir.Facts.{toZ-ofZ}
+use Rattle.model.specs.Bytes.{bytes, word}
+use Rattle.model.specs.Layout.{pairTagSize, valueSize}
+use Rattle.buffer.specs.FieldLaws.{bytes-low}
+use Rattle.buffer_writes.specs.PasteLaws.{paste-paste}
+use borrow.Author.Needs.{needs}
+use Rattle.step_pairs.proofs.put_pair.Statement.{statement}
+use Rattle.step_pairs.proofs.put_pair.Tie as tie
+
+add-behind : tie.Need-add-behind
+add-behind c = search needs
+
+cast-put-u32 : tie.Need-cast-put-u32
+cast-put-u32 c = search needs
+
+put-u32-requires : tie.Need-put-u32-requires
+put-u32-requires c κs = search needs
+
+to-word-requires : tie.Need-to-word-requires
+to-word-requires c κs = search needs
+
+put-u32-requires-2 : tie.Need-put-u32-requires-2
+put-u32-requires-2 c κs = search needs
+
+same-length : tie.Need-same-length
+same-length c = search needs
+
+returns : tie.Need-returns
+returns c =
+    let value = c .before .before in
+    let words = value .before in
+    let tag = words .before .before .before .before in
+    let start = tag .before .before .before in
+    let a = start .args in
+    value .put-u322 .ensures
+    ∙ ap₂ (λ (b : List ℕ) (n : ℕ). paste b (a .at + pairTagSize) (bytes valueSize n) valueSize)
+    (tag .put-u32 .ensures ∙ ap (λ (x : List ℕ). paste (a .steps .now) (a .at) x pairTagSize) (bytes-low pairTagSize 0 (a .tag)))
+    (words .to-word .ensures ∙ ap word (toZ-ofZ (start .fits .value)))
+    ∙ paste-paste (a .steps .now) (a .at) (bytes pairTagSize (a .tag)) (bytes valueSize (word (a .value))) pairTagSize valueSize (omega arith) refl
+
+pub put-pair-spec : {M : Type 1} → statement M
+put-pair-spec =
+    tie.close
+    (tie.spec
+    add-behind
+    cast-put-u32
+    put-u32-requires
+    to-word-requires
+    put-u32-requires-2
+    same-length
+    returns)
