@@ -5,12 +5,14 @@ use Prim.Native.Nat.{ℕ, _+_, _≤_, _<_}
 use native.Mathlib.Omega.{arith}
 use native.Mathlib.Numerals.{add-one}
 use lib.Dec.{T}
+use lib.IntN.{ℤ}
 use lib.ListN.{length, drop, getD, length-map, drop-of-length-le, List·getD-eq-default}
 use lib.Seq.{drop-cons}
 use Rattle.model.specs.Lists.{_∈_}
 use Rattle.model.specs.Layout.{headerSize, capacity}
 use Rattle.model.specs.Message.{Message, passes}
-use Rattle.model.specs.Order.{logOf}
+use Rattle.model.specs.Order.{State, logOf}
+use Rattle.model.specs.Setpoints.{startValues, runLog, setpointsOf}
 use Rattle.order.specs.ListLaws.{getD-∈}
 use Rattle.laws.specs.LogLaws.{log-received, log-length}
 use Rattle.wire_laws.specs.MessageLaws.{passes-sized, sized-range}
@@ -62,6 +64,12 @@ next-message l places k h =
 
 pub no-message : (l : List Message) (places : List ℕ) (k : ℕ) → length places ≤ k → deltasAt l (drop k places) ≡ []
 no-message l places k h = ap (deltasAt l) (drop-of-length-le places h)
+
+-- ---- what the deltas at the log's places leave is what the log leaves
+pub log-values : (pool starts places : List ℕ) (values : List ℤ) → LogPlaces pool starts places
+    → ((S : State) → values ≡ runLog (deltasAt (deltasOf pool starts) places) (startValues S)) → values ≡ setpointsOf (setIn pool starts)
+unfolding setpointsOf
+log-values pool starts places values l e = let S = setIn pool starts in e S ∙ ap (λ (x : List Message). runLog x (startValues S)) (l .log)
 
 -- ---- the empty set has an empty log
 pub empty-log : LogPlaces [] [] []

@@ -1,4 +1,4 @@
-// The setpoints that a log leaves.
+// The setpoints that a log, or the start of one, leaves.
 use buffer::byte;
 use layout::DEPENDENCY_COUNT_AT;
 use layout::TAG_COUNT;
@@ -8,9 +8,10 @@ use table::entry::message_at;
 ghost use mathlib.Core.Path.{_≡_};
 ghost use lib.Dec.{T};
 ghost use Rattle.model.specs.Message.{passes};
-ghost use Rattle.model.specs.Setpoints.{runDelta, setpointsOf};
-ghost use Rattle.table.specs.Table.{setIn};
-ghost use Rattle.image_sections.specs.LogPlaces.{LogPlaces};
+ghost use Rattle.model.specs.Order.{State};
+ghost use Rattle.model.specs.Setpoints.{startValues, runDelta, runLog};
+ghost use Rattle.table.specs.Table.{deltasOf, deltasAt};
+ghost use Rattle.image_sections.specs.LogPlaces.{TablePlaces};
 
 // Runs the commands of a message.
 fn run_message(values: [i32; TAG_COUNT], m: &[u8]) -> [i32; TAG_COUNT]
@@ -21,10 +22,10 @@ fn run_message(values: [i32; TAG_COUNT], m: &[u8]) -> [i32; TAG_COUNT]
     run_delta(values, m, dependencies)
 }
 
-// Runs the log's deltas from first to last.
+// Runs the deltas at the given places of a table, from first to last, on the values before any command.
 pub fn run_log(pool: &[u8], starts: &[u16], places: &[u8]) -> [i32; TAG_COUNT]
-    requires { ⌜ LogPlaces (now pool) (now starts) (now places) ⌝ }
-    ensures { λ r. ⌜ r ≡ setpointsOf (setIn (now (pool .entry)) (now (starts .entry))) ⌝ }
+    requires { ⌜ TablePlaces (now pool) (now starts) (now places) ⌝ }
+    ensures { λ r. ⌜ ((S : State) → r ≡ runLog (deltasAt (deltasOf (now (pool .entry)) (now (starts .entry))) (now (places .entry))) (startValues S)) ⌝ }
 {
     let mut values = start_values();
     let mut k = 0;

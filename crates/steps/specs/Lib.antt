@@ -3,5 +3,5 @@ pub mod LogNameLaws
 pub mod PlacedLogs
 pub mod Room
 pub mod RoomLaws
-pub mod Step
-pub mod StepRecordLaws
+pub mod RecordPlaceLaws
+pub mod StepsWritten

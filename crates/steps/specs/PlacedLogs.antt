@@ -36,19 +36,21 @@ pub names-are : (pool starts places : List ℕ) (S : State) → IsLogOf pool sta
 names-are pool starts places S h = sym (map-map sequenceOf (λ i. getD (deltasOf pool starts) i []) places) ∙ ap sequencesOf (h .log)
 
 -- two places of one sequence are one
-pub places-differ : (pool starts : List ℕ) → Holds pool starts → (i j : ℕ) → i < length starts → j < length starts → sequenceIn pool starts i ≡ sequenceIn pool starts j → i ≡ j
+places-differ : (pool starts : List ℕ) → Holds pool starts → (i j : ℕ) → i < length starts → j < length starts → sequenceIn pool starts i ≡ sequenceIn pool starts j → i ≡ j
 places-differ pool starts holds i j p q e =
     let size : length (deltasOf pool starts) ≡ length starts = length-map starts (messageFrom pool) in
     one-place (deltasOf pool starts) (holds .ascends) i j (omega arith) (omega arith) e
 
+-- the longest common start of two lists of names is that of their places
+pub common-names : (pool starts old new : List ℕ) → Holds pool starts → AllBelow (length starts) old → AllBelow (length starts) new
+    → common (namesOf pool starts old) (namesOf pool starts new) ≡ common old new
+common-names pool starts old new holds before after =
+    common-named (sequenceIn pool starts) old new (λ a b p q e. places-differ pool starts holds a b (before a p) (after b q) e)
+
 -- ---- two logs of one table
 module _ (pool starts old new : List ℕ) (S R : State) (holds : Holds pool starts) (before : IsLogOf pool starts old S) (after : IsLogOf pool starts new R) where
-  -- the longest common start of the logs is that of the places
-  pub common-places : common (namesOf pool starts old) (namesOf pool starts new) ≡ common old new
-  common-places = common-named (sequenceIn pool starts) old new (λ a b p q e. places-differ pool starts holds a b (before .within a p) (after .within b q) e)
-
   common-logs : common (sequencesOf (logOf S)) (sequencesOf (logOf R)) ≡ common old new
-  common-logs = ap₂ common (sym (names-are pool starts old S before)) (sym (names-are pool starts new R after)) ∙ common-places
+  common-logs = ap₂ common (sym (names-are pool starts old S before)) (sym (names-are pool starts new R after)) ∙ common-names pool starts old new holds (before .within) (after .within)
 
   pub undos-are : undosOf (sequencesOf (logOf S)) (sequencesOf (logOf R)) ≡ undosOf old new
   undos-are = ap₂ _-_ (ap length (sym (names-are pool starts old S before)) ∙ length-names pool starts old) common-logs

@@ -11,7 +11,7 @@ use Rattle.model.specs.Image.{messagesStart, messagesOf}
 use Rattle.laws.specs.ImageLaws.{messages-room}
 use Rattle.table.specs.Table.{setIn}
 use Rattle.image_sections.specs.LogPlaces.{othersBelow, LogPlaces}
-use Rattle.image_sections.specs.LogPlaceLaws.{log-count, table-count, log-fits}
+use Rattle.image_sections.specs.LogPlaceLaws.{log-inside, log-count, table-count, log-fits, log-values}
 use Rattle.image_sections.specs.HeldLaws.{others-length, others-count}
 use Rattle.image_header.specs.Pieces.{pasted, Copied}
 use Rattle.image_sections.specs.SectionLaws.{header-is, values-are, used-written}
@@ -63,7 +63,7 @@ used-fits : (u : tie.After-put-messages) → u .put-messages .result ≤ imageSi
 used-fits u = omega (arith, u .put-messages .ensures .end, room (started u))
 
 run-log-requires : tie.Need-run-log-requires
-run-log-requires c κs = search needs
+run-log-requires c κs = let s = c .before .before .before .before in log-inside (s .args .pool .now) (s .args .starts .now) (s .args .places .now) (s .pre .logged)
 
 held-places-requires : tie.Need-held-places-requires
 held-places-requires c κs =
@@ -130,7 +130,8 @@ returns c =
     ∙ ap (pasted (u .put-messages .last .0) 0)
     (header-is S (log-count (a .pool .now) (a .starts .now) (a .places .now) (logged h))
     (h .held-places .ensures .size ∙ others-count (a .pool .now) (a .starts .now) (a .places .now) (logged h)) (start-is m) (u .put-messages .ensures .end)))
-    (valued .put-values .ensures ∙ values-are S (headed .put-header .last .0) setpointsStart (h .before .run-log .ensures))
+    (valued .put-values .ensures ∙ values-are S (headed .put-header .last .0) setpointsStart
+    (log-values (a .pool .now) (a .starts .now) (a .places .now) (h .before .run-log .result) (logged h) (h .before .run-log .ensures)))
 
 pub write-used-spec : {M : Type 1} → statement M
 write-used-spec =

@@ -1,56 +1,79 @@
--- The invariant: with the executions of the places from i on written at `to`, all of them are.
-use mathlib.Core.Path.{_≡_, refl, sym, _∙_, ap}
-use mathlib.Core.List.{List, [], map}
-use Prim.Native.Nat.{ℕ, _+_, _*_, _-_, _≤_}
+-- The invariant: with the executions of the places from i on written at `to`, by the current values, all of them are.
+use mathlib.Core.Path.{_≡_, refl, sym, _∙_, ap, ap₂, subst}
+use mathlib.Core.List.{List, []}
+use Prim.Native.Nat.{ℕ, _+_, _*_, _-_, _≤_, _<_}
 use native.Mathlib.Omega.{arith}
-use lib.ListN.{length, drop, getD, drop-of-length-le}
+use lib.Dec.{T}
+use lib.IntN.{ℤ}
+use lib.ListN.{length, drop, getD}
+use lib.Seq.{paste}
 use borrow.Author.Needs.{needs}
 use Rattle.model.specs.Layout.{stepSize}
-use Rattle.model.specs.Steps.{execute}
-use Rattle.sequence.specs.Sequence.{sequenceNumber}
-use Rattle.table.specs.PlaceLaws.{below-at}
-use Rattle.steps.specs.LogNames.{namesOf}
-use Rattle.steps.specs.LogNameLaws.{length-names, names-at}
-use Rattle.steps.specs.Room.{stepsAt}
-use Rattle.steps.specs.StepRecordLaws.{put-none, execute-next}
+use Rattle.model.specs.Message.{Message, passes}
+use Rattle.model.specs.Setpoints.{runDelta}
+use Rattle.model.specs.Steps.{executionOf, along, recordBytes}
+use Rattle.wire_laws.specs.RecordLaws.{execution-fits}
+use Rattle.table.specs.Table.{deltasOf, deltasAt}
+use Rattle.image_sections.specs.LogPlaceLaws.{place-inside, place-passes, next-message, no-message}
+use Rattle.steps.specs.Room.{recordsAt}
+use Rattle.steps.specs.RecordPlaceLaws.{records-none, execution-next}
 use Rattle.steps.proofs.put_executions.Statement.{statement}
 use Rattle.steps.proofs.put_executions.Tie as tie
 
 abbrev Inv-loop : tie.InvT-loop
-Inv-loop steps₀ at pool starts new kept to₀ i₀ steps to i =
-    (i ≤ length new)
+Inv-loop steps₀ at pool starts new kept current₀ to₀ i₀ steps current to i =
+    (kept ≤ i)
+    × ((i ≤ length new)
     × ((to + stepSize * (length new - i) ≤ length steps₀)
-    × ((stepsAt steps to (map execute (drop i (namesOf pool starts new))) ≡ stepsAt steps₀ at (map execute (drop kept (namesOf pool starts new))))
-    × (length steps ≡ length steps₀)))
+    × ((recordsAt steps to (along executionOf (deltasAt (deltasOf pool starts) (drop i new)) current)
+    ≡ recordsAt steps₀ at (along executionOf (deltasAt (deltasOf pool starts) (drop kept new)) current₀))
+    × (length steps ≡ length steps₀))))
 
 abbrev μ-loop : tie.MeasureT-loop
-μ-loop steps₀ at pool starts new kept to₀ i₀ steps to i = length new - i
+μ-loop steps₀ at pool starts new kept current₀ to₀ i₀ steps current to i = length new - i
 
--- the call as it began
+-- the call as it began; the head of the loop, from where the place was read and from where the message was
 abbrev start : tie.At-loop Inv-loop μ-loop → tie.Start Inv-loop μ-loop
 start h = h .before .before .before .before .before
 
--- the head of the loop, from where the place was read
 abbrev turn : tie.After-shared-slice-known4 Inv-loop μ-loop → tie.At-loop Inv-loop μ-loop
 turn r = r .before .before
 
+abbrev deltas : tie.At-loop Inv-loop μ-loop → List Message
+deltas h = deltasOf (start h .args .pool .now) (start h .args .starts .now)
+
+-- there is a place at i, and its message passes
+more : (m : tie.After-message-at Inv-loop μ-loop) → turn (m .before) .loop .i < length (start (turn (m .before)) .args .new .now)
+more m = m .before .before .loop-test .taken
+
+abbrev message : tie.After-message-at Inv-loop μ-loop → Message
+message m = let h = turn (m .before) in getD (deltas h) (getD (start h .args .new .now) (h .loop .i) 0) []
+
+right : (m : tie.After-message-at Inv-loop μ-loop) → T (passes (message m))
+right m =
+    let h = turn (m .before) in
+    let s = start h in
+    place-passes (s .args .pool .now) (s .args .starts .now) (s .args .new .now) (s .pre .inside) (h .loop .i) (more m)
+
 loop-holds : tie.Need-loop-holds Inv-loop μ-loop
-loop-holds c = (search needs, (search needs, (refl, refl)))
+loop-holds c = (search needs, (search needs, (search needs, (refl, refl))))
 
-shared-slice-read-sequence-at : tie.Need-shared-slice-read-sequence-at Inv-loop μ-loop
-shared-slice-read-sequence-at c = omega arith
+shared-slice-read-message-at : tie.Need-shared-slice-read-message-at Inv-loop μ-loop
+shared-slice-read-message-at c = omega arith
 
-cast-sequence-at : tie.Need-cast-sequence-at Inv-loop μ-loop
-cast-sequence-at c = omega (arith, c .shared-slice-known4 .given (turn c .loop .i))
+cast-message-at : tie.Need-cast-message-at Inv-loop μ-loop
+cast-message-at c = omega (arith, c .shared-slice-known4 .given (turn c .loop .i))
 
-sequence-at-requires : tie.Need-sequence-at-requires Inv-loop μ-loop
-sequence-at-requires c κs =
-    let l = turn c .loop in
-    let s = start (turn c) in
-    (s .pre .holds, below-at (length (s .args .starts .now)) (s .args .new .now) (s .pre .places) (l .i) (omega arith))
+message-at-requires : tie.Need-message-at-requires Inv-loop μ-loop
+message-at-requires c κs =
+    let h = turn c in
+    let s = start h in
+    (s .pre .inside .holds, place-inside (s .args .pool .now) (s .args .starts .now) (s .args .new .now) (s .pre .inside) (h .loop .i) (c .before .loop-test .taken))
 
-put-step-requires : tie.Need-put-step-requires Inv-loop μ-loop
-put-step-requires c κs = omega arith
+put-execution-requires : tie.Need-put-execution-requires Inv-loop μ-loop
+put-execution-requires c κs =
+    let m = c .before in
+    (omega arith, subst (λ (x : Message). T (passes x)) (sym (m .message-at .ensures)) (right m))
 
 add-to : tie.Need-add-to Inv-loop μ-loop
 add-to c = omega arith
@@ -67,36 +90,35 @@ loop-again c =
     let read = put .before .before in
     let h = turn (read .before) in
     let l = h .loop in
-    let a = start h .args in
-    let names : List ℕ = namesOf (a .pool .now) (a .starts .now) (a .new .now) in
-    let size : length names ≡ length (a .new .now) = length-names (a .pool .now) (a .starts .now) (a .new .now) in
-    let n : ℕ = sequenceNumber (read .sequence-at .result) in
-    let named : n ≡ getD names (l .i) 0 =
-    read .sequence-at .ensures ∙ sym (names-at (a .pool .now) (a .starts .now) (a .new .now) (l .i) (omega arith)) in (
+    let new = start h .args .new .now in
+    let rest : List Message = deltasAt (deltas h) (drop (l .i + 1) new) in (
       omega arith,
       (
         omega arith,
         (
-          ap (λ (x : List ℕ). stepsAt x (l .to + stepSize) (map execute (drop (l .i + 1) names))) (put .put-step .ensures)
-              ∙ execute-next (l .steps) (l .to) names (l .i) n (omega arith) named (omega arith)
-              ∙ l .inv .1 .1 .0,
-          search needs,
+          omega arith,
+          (
+            ap₂ (λ (b : List ℕ) (values : List ℤ). recordsAt b (l .to + stepSize) (along executionOf rest values))
+                (put .put-execution .ensures .1 ∙ ap (λ (m : Message). paste (l .steps) (l .to) (recordBytes (executionOf m (l .current))) stepSize) (read .message-at .ensures))
+                (put .put-execution .ensures .0 ∙ ap (λ (m : Message). runDelta m (l .current)) (read .message-at .ensures))
+                ∙ execution-next (l .steps) (l .to) (executionOf (message read) (l .current)) (along executionOf rest (runDelta (message read) (l .current))) (execution-fits (message read) (l .current) (right read)) (omega arith)
+                ∙ ap (λ (k : List Message). recordsAt (l .steps) (l .to) (along executionOf k (l .current))) (sym (next-message (deltas h) new (l .i) (more read)))
+                ∙ l .inv .1 .1 .1 .0,
+            search needs,
+          ),
         ),
       ),
     )
 
 same-length : tie.Need-same-length Inv-loop μ-loop
-same-length c = c .before .loop .inv .1 .1 .1
+same-length c = c .before .loop .inv .1 .1 .1 .1
 
 returns : tie.Need-returns Inv-loop μ-loop
 returns c =
     let h = c .before in
-    let a = start h .args in
     let l = h .loop in
-    let names : List ℕ = namesOf (a .pool .now) (a .starts .now) (a .new .now) in
-    let size : length names ≡ length (a .new .now) = length-names (a .pool .now) (a .starts .now) (a .new .now) in
-    let none : drop (l .i) names ≡ [] = drop-of-length-le names {i = l .i} (omega arith) in
-    sym (put-none (l .steps) (l .to)) ∙ ap (λ (k : List ℕ). stepsAt (l .steps) (l .to) (map execute k)) (sym none) ∙ l .inv .1 .1 .0
+    let none : deltasAt (deltas h) (drop (l .i) (start h .args .new .now)) ≡ [] = no-message (deltas h) (start h .args .new .now) (l .i) (omega arith) in
+    sym (records-none (l .steps) (l .to)) ∙ ap (λ (k : List Message). recordsAt (l .steps) (l .to) (along executionOf k (l .current))) (sym none) ∙ l .inv .1 .1 .1 .0
 
 pub put-executions-spec : {M : Type 1} → statement M
 put-executions-spec =
@@ -105,10 +127,10 @@ put-executions-spec =
     Inv-loop
     μ-loop
     loop-holds
-    shared-slice-read-sequence-at
-    cast-sequence-at
-    sequence-at-requires
-    put-step-requires
+    shared-slice-read-message-at
+    cast-message-at
+    message-at-requires
+    put-execution-requires
     add-to
     add-i
     loop-less

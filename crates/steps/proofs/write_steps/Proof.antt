@@ -1,25 +1,36 @@
--- The undos stand first, the executions behind them: together they are the steps from the old log to the new one.
+-- The undos stand first, the executions behind them, both run from what is kept: together they are the steps from the old log to the
+-- new one.
 use mathlib.Core.Path.{_≡_, sym, subst}
-use mathlib.Core.List.{List}
-use Prim.Native.Nat.{ℕ, _*_, _-_}
-use native.Mathlib.Omega.{arith}
+use Prim.Native.Nat.{_*_, _-_}
 use lib.ListN.{length}
+use lib.Seq.{length-take-le}
 use Rattle.model.specs.Layout.{stepSize}
-use Rattle.steps.specs.LogNames.{namesOf}
-use Rattle.steps.specs.LogNameLaws.{length-names}
+use Rattle.model.specs.Setpoints.{startValues}
 use Rattle.steps.specs.Room.{RestFits}
-use Rattle.steps.specs.RoomLaws.{kept-old, undos-fit, executions-fit}
-use Rattle.steps.specs.StepRecordLaws.{steps-written}
+use Rattle.steps.specs.RoomLaws.{kept-old, kept-inside, undos-fit, executions-fit}
+use Rattle.steps.specs.StepsWritten.{steps-written}
 use borrow.Author.Needs.{needs}
 use Rattle.steps.proofs.write_steps.Statement.{statement}
 use Rattle.steps.proofs.write_steps.Tie as tie
 
--- the call as it began, from where the undos are written
+-- the call as it began, from where the kept log is run; and from where the undos are written
+abbrev began : tie.After-run-log-arg → tie.Start
+began c = c .before .before .before .before .before .before
+
+abbrev run : tie.After-put-undos → tie.After-run-log
+run u = u .before .before
+
 abbrev start : tie.After-put-undos → tie.Start
-start u = u .before .before .before .before .before .before .before
+start u = began (run u .before)
+
+slice-aggregate-run-log : tie.Need-slice-aggregate-run-log
+slice-aggregate-run-log c = let s = began c in sym (length-take-le (s .args .kept) (s .args .old .now) (kept-old (s .pre)))
+
+run-log-requires : tie.Need-run-log-requires
+run-log-requires c κs = kept-inside (began c .pre)
 
 put-undos-requires : tie.Need-put-undos-requires
-put-undos-requires c κs = undos-fit (c .before .before .before .before .before .before .pre)
+put-undos-requires c κs = undos-fit (began (c .before .before) .pre)
 
 sub-undone : tie.Need-sub-undone
 sub-undone c = kept-old (start (c .before .before) .pre)
@@ -38,21 +49,20 @@ same-length : tie.Need-same-length
 same-length c = search needs
 
 returns : tie.Need-returns
-returns c =
+returns c = λ S.
     let executed = c .before .before in
     let undone = executed .before .before .before .before in
     let s = start undone in
     let a = s .args in
-    let old : List ℕ = namesOf (a .pool .now) (a .starts .now) (a .old .now) in
-    let new : List ℕ = namesOf (a .pool .now) (a .starts .now) (a .new .now) in
-    let to : ℕ = stepSize * (length (a .old .now) - a .kept) in
-    let size : length old ≡ length (a .old .now) = length-names (a .pool .now) (a .starts .now) (a .old .now) in
-    steps-written (a .steps .now) old new (a .kept) to (s .pre .start) (omega arith) (omega (arith, s .pre .room)) (undone .put-undos .ensures) (executed .put-executions .ensures)
+    steps-written (a .pool .now) (a .starts .now) (a .old .now) (a .new .now) (a .kept) (a .steps .now) (s .pre) (startValues S) (run undone .run-log .result) (run undone .run-log .ensures S)
+    (undone .put-undos .ensures) (executed .put-executions .ensures)
 
 pub write-steps-spec : {M : Type 1} → statement M
 write-steps-spec =
     tie.close
     (tie.spec
+    slice-aggregate-run-log
+    run-log-requires
     put-undos-requires
     sub-undone
     mul-undone

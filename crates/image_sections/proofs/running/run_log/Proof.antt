@@ -1,5 +1,5 @@
 -- The invariant: all messages run on the start values make what those from k on make of the current ones.
-use mathlib.Core.Path.{_≡_, refl, sym, _∙_, ap, ap₂, subst}
+use mathlib.Core.Path.{_≡_, refl, sym, _∙_, ap, subst}
 use mathlib.Core.List.{List}
 use Prim.Native.Nat.{_+_, _-_, _≤_, _<_}
 use native.Mathlib.Omega.{arith}
@@ -7,10 +7,9 @@ use lib.ListN.{length, drop}
 use lib.Dec.{T}
 use borrow.Author.Needs.{needs}
 use Rattle.model.specs.Message.{Message, passes}
-use Rattle.model.specs.Setpoints.{runDelta, runLog, setpointsOf}
-use Rattle.table.specs.Table.{deltasOf, deltasAt, setIn}
-use Rattle.image_sections.specs.LogPlaces.{TablePlaces}
-use Rattle.image_sections.specs.LogPlaceLaws.{log-inside, place-inside, place-passes, next-message, no-message}
+use Rattle.model.specs.Setpoints.{runDelta, runLog}
+use Rattle.table.specs.Table.{deltasOf, deltasAt}
+use Rattle.image_sections.specs.LogPlaceLaws.{place-inside, place-passes, next-message, no-message}
 use Rattle.image_sections.proofs.running.run_log.Statement.{statement}
 use Rattle.image_sections.proofs.running.run_log.Tie as tie
 
@@ -35,9 +34,6 @@ more c = c .before .before .loop-test .taken
 abbrev deltas : tie.Start Inv-loop μ-loop → List Message
 deltas s = deltasOf (s .args .pool .now) (s .args .starts .now)
 
-inside : (s : tie.Start Inv-loop μ-loop) → TablePlaces (s .args .pool .now) (s .args .starts .now) (s .args .places .now)
-inside s = log-inside (s .args .pool .now) (s .args .starts .now) (s .args .places .now) (s .pre)
-
 start-values-requires : tie.Need-start-values-requires Inv-loop μ-loop
 start-values-requires c κs = search needs
 
@@ -54,14 +50,14 @@ message-at-requires : tie.Need-message-at-requires Inv-loop μ-loop
 message-at-requires c κs =
     let l = c .before .before in
     let s = start l in
-    (s .pre .holds, place-inside (s .args .pool .now) (s .args .starts .now) (s .args .places .now) (inside s) (l .loop .k) (c .before .loop-test .taken))
+    (s .pre .holds, place-inside (s .args .pool .now) (s .args .starts .now) (s .args .places .now) (s .pre) (l .loop .k) (c .before .loop-test .taken))
 
 run-message-requires : tie.Need-run-message-requires Inv-loop μ-loop
 run-message-requires c κs =
     let l = head c in
     let s = start l in
     subst (λ (m : Message). T (passes m)) (sym (c .message-at .ensures))
-    (place-passes (s .args .pool .now) (s .args .starts .now) (s .args .places .now) (inside s) (l .loop .k) (more c))
+    (place-passes (s .args .pool .now) (s .args .starts .now) (s .args .places .now) (s .pre) (l .loop .k) (more c))
 
 add-k : tie.Need-add-k Inv-loop μ-loop
 add-k c = omega arith
@@ -82,12 +78,11 @@ loop-again c =
     )
 
 returns : tie.Need-returns Inv-loop μ-loop
-unfolding setpointsOf
-returns c =
+returns c = λ S.
     let l = c .before in
     let s = start l in
     sym (l .loop .inv .1 ∙ ap (λ (x : List Message). runLog x (l .loop .values)) (no-message (deltas s) (s .args .places .now) (l .loop .k) (c .loop-test .left)))
-    ∙ ap₂ runLog (s .pre .log) (l .before .start-values .ensures (setIn (s .args .pool .now) (s .args .starts .now)))
+    ∙ ap (runLog (deltasAt (deltas s) (s .args .places .now))) (l .before .start-values .ensures S)
 
 pub run-log-spec : {M : Type 1} → statement M
 run-log-spec =
