@@ -5,26 +5,27 @@ use Prim.Native.Nat.{ℕ, _+_, _-_, _*_, _≤_, _<_}
 use native.Mathlib.Omega.{arith}
 use lib.ListN.{length, take, length-take}
 use Rattle.model.specs.Layout.{stepSize, mostSteps, stepRoom, capacity}
+use Rattle.model.specs.Message.{Message}
 use Rattle.model.specs.Order.{State, sequencesOf, logOf}
+use Rattle.model.specs.Setpoints.{startValues}
 use Rattle.model.specs.Image.{imageOf}
-use Rattle.model.specs.Steps.{stepsOf, undosOf, executionsOf, stepsBytes}
+use Rattle.model.specs.Steps.{undosOf, executionsOf, recordsOf, recordsBytes}
 use Rattle.model.specs.Calls.{written, acceptedAnswer}
-use Rattle.table.specs.Table.{Holds}
+use Rattle.table.specs.Table.{deltasOf, deltasAt, Holds}
 use Rattle.log_order.specs.declared.LogOrder.{LogOrder}
 use Rattle.log_order.specs.LogOrder.{oldOf, placesOf, OrderRight}
-use Rattle.steps.specs.LogNames.{namesOf}
-use Rattle.steps.specs.PlacedLogs.{IsLogOf, names-are, undos-are, executions-are}
+use Rattle.steps.specs.PlacedLogs.{IsLogOf, undos-are, executions-are}
 use Rattle.accepting.specs.Accepting.{acceptedBy}
 
 module _ (pool starts old new : List ℕ) (S R : State) (holds : Holds pool starts) (before : IsLogOf pool starts old S) (after : IsLogOf pool starts new R) where
   -- the answer of an accepted delivery
   pub accepted-by : (undos executions : ℕ) (image steps entry : List ℕ) → undos ≡ undosOf old new → executions ≡ executionsOf old new → image ≡ imageOf R
-      → steps ≡ written (stepsBytes (stepsOf (namesOf pool starts old) (namesOf pool starts new))) entry
+      → ((T : State) → steps ≡ written (recordsBytes (recordsOf (startValues T) (deltasAt (deltasOf pool starts) old) (deltasAt (deltasOf pool starts) new))) entry)
       → acceptedBy (record { undos = undos; executions = executions }) image steps ≡ acceptedAnswer S R entry
   accepted-by undos executions image steps entry u x i s =
       ap₂ (λ (a b : ℕ). record { code = 0; undos = a; executions = b; image = image; steps = steps }) (u ∙ sym (undos-are pool starts old new S R holds before after)) (x ∙ sym (executions-are pool starts old new S R holds before after))
       ∙ ap₂ (λ (a b : List ℕ). record { code = 0; undos = undosOf (sequencesOf (logOf S)) (sequencesOf (logOf R)); executions = executionsOf (sequencesOf (logOf S)) (sequencesOf (logOf R)); image = a; steps = b }) i
-      (s ∙ ap₂ (λ (a b : List ℕ). written (stepsBytes (stepsOf a b)) entry) (names-are pool starts old S before) (names-are pool starts new R after))
+      (s S ∙ ap₂ (λ (a b : List Message). written (recordsBytes (recordsOf (startValues S) a b)) entry) (before .log) (after .log))
 
 -- the steps from a log that lacks a delta fit a step buffer
 pub steps-room : (o : LogOrder) → OrderRight o → (old : List ℕ) {n : ℕ} → oldOf o ≡ take n old → n < capacity → (room : ℕ) → stepRoom ≤ room

@@ -7,14 +7,16 @@ use lib.ListN.{length}
 use lib.Dec.{T}
 use Rattle.model.specs.Message.{Message, sequenceOf, layoutRight, numbersRight, dependenciesRight, contentRight}
 use Rattle.model.specs.Order.{State, stateOf, add, sequencesOf, logOf}
+use Rattle.model.specs.Setpoints.{startValues}
 use Rattle.model.specs.Image.{imageOf, Valid, stateIn, isImage}
 use Rattle.model.specs.Codes.{Conditions, lowestCode, messageConditions, wrongSize, smallSteps, present, conflicts, full}
-use Rattle.model.specs.Steps.{Step, stepsBytes}
+use Rattle.model.specs.Steps.{StepRecord, recordsBytes}
 use Rattle.model.specs.Calls.{written, acceptedAnswer, deliverAnswer, deliverCode, deliver}
 use Rattle.order.specs.TestLaws.{is-true, is-false, has→∈}
 use Rattle.laws.specs.ImageLaws.{image-own, own-valid}
 use Rattle.laws.specs.SetLaws.{insert-present}
-use Rattle.run_laws.specs.RunLaws.{undos-self, steps-self}
+use Rattle.wire_laws.specs.RecordLaws.{records-self}
+use Rattle.run_laws.specs.RunLaws.{undos-self}
 
 -- the code behind 3 to 6
 behind : ℕ → ℕ → ℕ
@@ -115,5 +117,6 @@ repeat-is b m steps image t e = accepted-is b m steps e ∙ ap (λ (R : State). 
 
     unchanged : acceptedAnswer S S steps ≡ record { code = 0; undos = 0; executions = 0; image = b; steps = steps }
     unchanged =
-        ap₂ (λ (n : ℕ) (ss : List Step). record { code = 0; undos = n; executions = n; image = imageOf S; steps = written (stepsBytes ss) steps }) (undos-self old) (steps-self old)
+        ap₂ (λ (n : ℕ) (l : List StepRecord). record { code = 0; undos = n; executions = n; image = imageOf S; steps = written (recordsBytes l) steps })
+        (undos-self old) (records-self (startValues S) (logOf S))
         ∙ ap (λ (i : List ℕ). record { code = 0; undos = 0; executions = 0; image = i; steps = steps }) (sym is)

@@ -11,11 +11,12 @@ use table::Table;
 ghost use mathlib.Core.Path.{_≡_};
 ghost use lib.ListN.{length};
 ghost use Rattle.model.specs.Image.{usedOf};
-ghost use Rattle.model.specs.Steps.{stepsOf, stepsBytes};
+ghost use Rattle.model.specs.Order.{State};
+ghost use Rattle.model.specs.Setpoints.{startValues};
+ghost use Rattle.model.specs.Steps.{recordsOf, recordsBytes};
 ghost use Rattle.model.specs.Calls.{written};
-ghost use Rattle.table.specs.Table.{startsOf, setIn};
+ghost use Rattle.table.specs.Table.{startsOf, deltasOf, deltasAt, setIn};
 ghost use Rattle.log_order.specs.LogOrder.{oldOf, placesOf};
-ghost use Rattle.steps.specs.LogNames.{namesOf};
 ghost use Rattle.ordering.specs.Ordering.{Orderable, IsChange, ImageWritable, Changeable};
 
 // The log of a table's set beside the old log, whose places are given.
@@ -46,7 +47,7 @@ pub fn write_table(out: &mut [u8], pool: &[u8], table: Table, places: [u8; CAPAC
 // Writes the steps from the old log of an order to its new one.
 pub fn write_change(steps: &mut [u8], pool: &[u8], table: Table, order: LogOrder)
     requires { ⌜ Changeable (length (now steps)) (now pool) table order ⌝ }
-    ensures { λ _. ⌜ now (steps .exit) ≡ written (stepsBytes (stepsOf (namesOf (now (pool .entry)) (startsOf table) (oldOf order)) (namesOf (now (pool .entry)) (startsOf table) (placesOf order)))) (now (steps .entry)) ⌝ }
+    ensures { λ _. ⌜ ((S : State) → now (steps .exit) ≡ written (recordsBytes (recordsOf (startValues S) (deltasAt (deltasOf (now (pool .entry)) (startsOf table)) (oldOf order)) (deltasAt (deltasOf (now (pool .entry)) (startsOf table)) (placesOf order)))) (now (steps .entry))) ⌝ }
 {
     let starts = table.starts;
     let count = table.count;

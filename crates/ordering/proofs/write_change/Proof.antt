@@ -1,10 +1,9 @@
--- What an order keeps is the common start of the two logs' sequences, since two places of one sequence are one.
-use mathlib.Core.Path.{_≡_, sym, _∙_}
+-- What an order keeps is the common start of the two logs, as places of the table.
+use mathlib.Core.Path.{_≡_, sym}
 use native.Mathlib.Omega.{arith}
 use lib.ListN.{length}
 use lib.Seq.{length-take-le}
 use Rattle.model.specs.Layout.{capacity}
-use Rattle.steps.specs.PlacedLogs.{common-places}
 use borrow.Author.Needs.{needs}
 use Rattle.ordering.proofs.write_change.Statement.{statement}
 use Rattle.ordering.proofs.write_change.Tie as tie
@@ -57,10 +56,9 @@ write-steps-requires : tie.Need-write-steps-requires
 write-steps-requires c κs =
     let h = began (lent c) .pre in
     record {
-      holds = h .holds;
-      old-places = h .before .within;
-      new-places = h .after .within;
-      start = h .right .kept ∙ sym (common-places _ _ _ _ _ _ (h .holds) (h .before) (h .after));
+      old-inside = record { holds = h .holds; inside = h .before .within };
+      new-inside = record { holds = h .holds; inside = h .after .within };
+      start = h .right .kept;
       room = h .steps-fit;
     }
 
