@@ -1,9 +1,9 @@
--- Each call's list has the numbers that document 01 gives it, in ascending order, so that the first that holds is the lowest.
+-- Each call's list has the numbers that documents 01 and 02 give it, in ascending order, so that the first that holds is the lowest.
 use mathlib.Core.Path.{_≡_, refl}
 use mathlib.Core.List.{List, [], _∷_, map}
 use Prim.Native.Nat.{ℕ}
 use Rattle.model.specs.Message.{Message}
-use Rattle.model.specs.Codes.{Conditions, emptyConditions, deliverConditions, composeConditions, logMessageConditions, setpointConditions}
+use Rattle.model.specs.Codes.{Conditions, emptyConditions, deliverConditions, composeConditions, logMessageConditions, setpointConditions, readSequencesConditions, writeSequencesConditions}
 
 numbersOf : Conditions → List ℕ
 numbersOf l = map (λ c. c .0) l
@@ -29,3 +29,12 @@ log-message-meets b place = refl
 setpoint-meets : (b : List ℕ) (tag : ℕ) → numbersOf (setpointConditions b tag) ≡ 1 ∷ 2 ∷ 12 ∷ []
 unfolding numbersOf
 setpoint-meets b tag = refl
+
+-- Paper 2: 1, then 13, then 14
+read-sequences-meets : (t : List ℕ) (room : ℕ) → numbersOf (readSequencesConditions t room) ≡ 1 ∷ 13 ∷ 14 ∷ []
+unfolding numbersOf
+read-sequences-meets t room = refl
+
+write-sequences-meets : (b : List ℕ) (room : ℕ) → numbersOf (writeSequencesConditions b room) ≡ 1 ∷ 13 ∷ 14 ∷ []
+unfolding numbersOf
+write-sequences-meets b room = refl

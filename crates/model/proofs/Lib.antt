@@ -8,6 +8,7 @@ pub mod WholeImageExamples
 pub mod StepExamples
 pub mod RecordExamples
 pub mod ComposeExamples
+pub mod TextExamples
 pub mod CodeLists
 pub mod ConditionExamples
 pub mod AnswerExamples

@@ -13,7 +13,8 @@ use Rattle.model.specs.Setpoints.{setpointsOf}
 use Rattle.model.specs.Image.{imageOf, messagesStartIn, stateIn, logIn}
 use Rattle.model.specs.Steps.{undosOf, executionsOf, recordsBetween, recordsBytes}
 use Rattle.model.specs.Compose.{composed}
-use Rattle.model.specs.Codes.{lowestCode, emptyConditions, deliverConditions, composeConditions, readConditions, logMessageConditions, setpointConditions}
+use Rattle.model.specs.Text.{textOf, sequenceBytesIn}
+use Rattle.model.specs.Codes.{lowestCode, emptyConditions, deliverConditions, composeConditions, readConditions, logMessageConditions, setpointConditions, readSequencesConditions, writeSequencesConditions}
 
 -- New bytes at the front of a buffer, the rest unchanged.
 abbrev pub written : List ℕ → List ℕ → List ℕ
@@ -128,3 +129,19 @@ unfoldable pub next : Reader → Read
 next r =
     let m = nextMessage (lowestCode (readConditions (r .image))) (r .image) (r .offset) in
     record { part = m; reader = record { image = r .image; offset = r .offset + length m } }
+
+-- ---- read sequences and write sequences: from a text to sequences, and back; what is read, and an output buffer
+pub record Converted : Type 0 where
+  pub code : ℕ
+  pub size : ℕ
+  pub buffer : List ℕ
+
+abbrev pub convertedAnswer : ℕ → List ℕ → List ℕ → Converted
+convertedAnswer zero new buffer = record { code = 0; size = length new; buffer = written new buffer }
+convertedAnswer (suc n) new buffer = record { code = suc n; size = 0; buffer = buffer }
+
+unfoldable pub readSequences : List ℕ → List ℕ → Converted
+readSequences t buffer = convertedAnswer (lowestCode (readSequencesConditions t (length buffer))) (sequenceBytesIn t) buffer
+
+unfoldable pub writeSequences : List ℕ → List ℕ → Converted
+writeSequences b buffer = convertedAnswer (lowestCode (writeSequencesConditions b (length buffer))) (textOf b) buffer

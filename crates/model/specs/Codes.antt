@@ -6,11 +6,12 @@ use lib.ListN.{length}
 use lib.Dec.{eqb, ltb, leb}
 use Rattle.model.specs.Lists.{has, every, some?, same}
 use Rattle.model.specs.Bytes.{isBytes, number, parts}
-use Rattle.model.specs.Layout.{imageSize, stepRoom, messageRoom, lineSize, capacity, tagCount, commandSize, mostCommands, fieldLimit, numbersOfLine, mostDependencies}
+use Rattle.model.specs.Layout.{imageSize, stepRoom, messageRoom, lineSize, capacity, tagCount, commandSize, mostCommands, fieldLimit, numbersOfLine, mostDependencies, sequencesRoom, textRoom}
 use Rattle.model.specs.Message.{Message, layoutRight, numbersRight, dependenciesRight, contentRight, commandRight, sequenceOf, lineOf}
 use Rattle.model.specs.Order.{State, sequencesOf, find, logOf, heldOf}
 use Rattle.model.specs.Image.{isImage, stateIn, logCount}
 use Rattle.model.specs.Compose.{newNumber, newSequence, newGroup, newBlock, newDependencies}
+use Rattle.model.specs.Text.{textRight, sequencesRight, sequenceBytesIn, allNumbered}
 
 abbrev pub Conditions : Type 0
 Conditions = List (ℕ × Bool)
@@ -89,3 +90,10 @@ logMessageConditions b place = readConditions b ++ (12, leb (logCount b) place) 
 
 abbrev pub setpointConditions : List ℕ → ℕ → Conditions
 setpointConditions b tag = readConditions b ++ (12, leb tagCount tag) ∷ []
+
+-- ---- read sequences and write sequences. 1: "an output buffer under 96 bytes for the reader or 199 for the writer"
+abbrev pub readSequencesConditions : List ℕ → ℕ → Conditions
+readSequencesConditions t room = (1, ltb room sequencesRoom) ∷ (13, not (textRight t)) ∷ (14, not (allNumbered (sequenceBytesIn t))) ∷ []
+
+abbrev pub writeSequencesConditions : List ℕ → ℕ → Conditions
+writeSequencesConditions b room = (1, ltb room textRoom) ∷ (13, not (sequencesRight b)) ∷ (14, not (allNumbered b)) ∷ []

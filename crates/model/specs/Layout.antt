@@ -1,4 +1,4 @@
--- The offsets, sizes and limits of document 01 and of Paper 1 of document 02, in bytes unless said otherwise.
+-- The offsets, sizes and limits of document 01 and of Papers 1 and 2 of document 02, in bytes unless said otherwise.
 use Prim.Native.Nat.{ℕ, _+_, _*_, _-_}
 use lib.IntN.{ℤ, pos, negsuc}
 
@@ -172,6 +172,26 @@ stepRoom = stepSize * mostSteps
 
 abbrev pub messageRoom : ℕ
 messageRoom = 200
+
+-- ---- sequences as text: "1 to 8 sequences", "24 characters", "joined by commas"
+abbrev pub mostSequences : ℕ
+mostSequences = 8
+
+-- of a sequence's text, two characters a byte
+abbrev pub charactersSize : ℕ
+charactersSize = 2 * sequenceSize
+
+-- of a part of a text: a sequence's characters and a comma
+abbrev pub textPartSize : ℕ
+textPartSize = charactersSize + 1
+
+-- of eight sequences, "96 bytes": the reader's output buffer has that many at least, the writer's input at most
+abbrev pub sequencesRoom : ℕ
+sequencesRoom = sequenceSize * mostSequences
+
+-- of their text, "199", without a comma behind the last: the writer's output buffer has that many at least, the reader's text at most
+abbrev pub textRoom : ℕ
+textRoom = textPartSize * mostSequences - 1
 
 -- ---- the listing program: how much it reads, and the lengths of a cut
 abbrev pub inputLimit : ℕ

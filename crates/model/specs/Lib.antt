@@ -8,6 +8,7 @@ pub mod Setpoints
 pub mod Image
 pub mod Steps
 pub mod Compose
+pub mod Text
 pub mod Codes
 pub mod Calls
 pub mod PlainStation
