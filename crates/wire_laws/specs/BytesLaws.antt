@@ -1,14 +1,15 @@
 -- Numbers and lists of bytes: what is written is read back, and what is read is in range.
 use mathlib.Core.Path.{_≡_, refl, sym, _∙_, ap, ap₂, subst}
 use mathlib.Core.Bool.{Bool, true, false, cond, not}
-use mathlib.Core.List.{List, [], _∷_, _++_, List·Memᴰ·head, List·Memᴰ·tail, append-assoc}
+use mathlib.Core.Logic.{⊎-elim}
+use mathlib.Core.List.{List, [], _∷_, _++_, List·Memᴰ·head, List·Memᴰ·tail, List·Memᴰ·not-nil, List·Memᴰ·cases-cons, append-assoc}
 use Prim.Native.Nat.{ℕ, zero, suc, _+_, _*_, _-_, _/_, _%_, _^_, _≤_, _<_}
 use native.Mathlib.Omega.{arith}
 use native.Mathlib.Nat.{mod-eq-of-lt, pow-suc, mul-zero, mul-suc, mul-assoc, mul-comm, le-of-suc-le-suc, one-le-pow, pow-le-pow-right, lt-of-lt-of-le}
 use lib.Dec.{T, ltb, lit<, lit≤, ltb→lt, lt→ltb, nltb→le}
 use lib.Arith.{mod-mul}
-use lib.ListN.{length, take, drop, getD, length-append, length-drop, length-take}
-use lib.Seq.{take-at, drop-at, take-append-le, drop-append-le, drop-append-add, take-take, drop-drop}
+use lib.ListN.{length, take, drop, getD, length-append, length-drop, length-take, take-append-drop}
+use lib.Seq.{length-take-le, take-at, drop-at, take-append-le, drop-append-le, drop-append-add, take-take, drop-drop}
 use lib.IntN.{ℤ, pos, negsuc}
 use lib.Signed.{mag}
 use mir.Syntax.{w32}
@@ -113,6 +114,28 @@ parts-join size [] rest h = refl
 parts-join size (b ∷ l) rest h =
     rw (append-assoc, take-at b (join l ++ rest) size (h b (List·Memᴰ·head refl)), drop-at b (join l ++ rest) size (h b (List·Memᴰ·head refl)))
     (ap (λ (k : List (List ℕ)). b ∷ k) (parts-join size l rest (λ c k. h c (List·Memᴰ·tail k))))
+
+pub parts-sized : (n size : ℕ) (b : List ℕ) → n * size ≤ length b → (p : List ℕ) → p ∈ parts n size b → length p ≡ size
+parts-sized zero size b h p k = absurd (List·Memᴰ·not-nil k)
+parts-sized (suc n) size b h p k =
+    ⊎-elim
+    (λ e. ap length e ∙ length-take-le size b (omega arith))
+    (parts-sized n size (drop size b) (omega (arith, length-drop size b)) p)
+    (List·Memᴰ·cases-cons k)
+
+pub parts-bytes : (n size : ℕ) (b : List ℕ) → T (isBytes b) → (p : List ℕ) → p ∈ parts n size b → T (isBytes p)
+parts-bytes zero size b h p k = absurd (List·Memᴰ·not-nil k)
+parts-bytes (suc n) size b h p k =
+    ⊎-elim
+    (λ e. subst (λ (x : List ℕ). T (isBytes x)) (sym e) (isBytes-take size b h))
+    (parts-bytes n size (drop size b) (isBytes-drop size b h) p)
+    (List·Memᴰ·cases-cons k)
+
+pub join-parts : (n size : ℕ) (b : List ℕ) → length b ≡ n * size → join (parts n size b) ≡ b
+join-parts zero size [] h = refl
+join-parts zero size (x ∷ b) h = let z : ⊥ = omega arith in absurd z
+join-parts (suc n) size b h =
+    ap (λ (l : List ℕ). take size b ++ l) (join-parts n size (drop size b) (omega (arith, length-drop size b))) ∙ take-append-drop size b
 
 pub length-join : (size : ℕ) (l : List (List ℕ)) → ((b : List ℕ) → b ∈ l → length b ≡ size) → length (join l) ≡ length l * size
 length-join size [] h = omega arith
