@@ -1,0 +1,32 @@
+-- What the reader and the writer answer, by their three tests: room, form and numbers.
+use mathlib.Core.Path.{_≡_, _∙_, ap, ap₂}
+use mathlib.Core.Bool.{Bool, not}
+use mathlib.Core.List.{List, [], _∷_}
+use Prim.Native.Nat.{ℕ}
+use lib.Dec.{ltb}
+use lib.ListN.{length}
+use Rattle.model.specs.Layout.{sequencesRoom, textRoom}
+use Rattle.model.specs.Text.{textOf, sequenceBytesIn, textRight, sequencesRight, allNumbered}
+use Rattle.model.specs.Codes.{lowestCode}
+use Rattle.model.specs.Calls.{Converted, convertedAnswer, readSequences, writeSequences}
+
+-- too small is 1, not well formed 13, not numbered 14
+abbrev pub codeOf : Bool → Bool → Bool → ℕ
+codeOf small formed numbered = lowestCode ((1, small) ∷ (13, not formed) ∷ (14, not numbered) ∷ [])
+
+module _ (new buffer : List ℕ) where
+  abbrev answer : Bool → Bool → Bool → Converted
+  answer small formed numbered = convertedAnswer (codeOf small formed numbered) new buffer
+
+  by-tests : {a b c x y z : Bool} → a ≡ x → b ≡ y → c ≡ z → answer a b c ≡ answer x y z
+  by-tests {c = c} {x = x} {y = y} e f g = ap₂ (λ (s t : Bool). answer s t c) e f ∙ ap (answer x y) g
+
+pub read-by : (t buffer : List ℕ) {x y z : Bool} → ltb (length buffer) sequencesRoom ≡ x → textRight t ≡ y → allNumbered (sequenceBytesIn t) ≡ z
+    → readSequences t buffer ≡ convertedAnswer (codeOf x y z) (sequenceBytesIn t) buffer
+unfolding readSequences
+read-by t buffer e f g = by-tests (sequenceBytesIn t) buffer e f g
+
+pub write-by : (b buffer : List ℕ) {x y z : Bool} → ltb (length buffer) textRoom ≡ x → sequencesRight b ≡ y → allNumbered b ≡ z
+    → writeSequences b buffer ≡ convertedAnswer (codeOf x y z) (textOf b) buffer
+unfolding writeSequences
+write-by b buffer e f g = by-tests (textOf b) buffer e f g
