@@ -1,4 +1,4 @@
-// The offsets and sizes of document 01 in bytes, its counts and its limits, by the names of `Layout` in the definitions. Every
+// The offsets and sizes of documents 01 and 02 in bytes, their counts and limits, by the names of `Layout` in the definitions. Every
 // crate that reads or writes a message, an image or a step takes them from here.
 
 // ---- a delta on the wire: the header
@@ -124,3 +124,16 @@ pub const MOST_STEPS: usize = (CAPACITY - 1) + CAPACITY;
 
 // a step buffer, at least
 pub const STEP_ROOM: usize = STEP_SIZE * MOST_STEPS;
+
+// ---- sequences as text: one to eight, each of so many characters, joined by commas
+pub const MOST_SEQUENCES: usize = 8;
+
+pub const CHARACTERS_SIZE: usize = 2 * SEQUENCE_SIZE;
+
+// a sequence's characters and a comma
+pub const TEXT_PART_SIZE: usize = CHARACTERS_SIZE + 1;
+
+// of eight sequences, and of their text, which has no comma behind the last
+pub const SEQUENCES_ROOM: usize = SEQUENCE_SIZE * MOST_SEQUENCES;
+
+pub const TEXT_ROOM: usize = TEXT_PART_SIZE * MOST_SEQUENCES - 1;
