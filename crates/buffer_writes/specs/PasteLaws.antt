@@ -4,8 +4,9 @@ use mathlib.Core.List.{List, _++_, append-assoc}
 use Prim.Native.Nat.{ℕ, _+_, _/_, _^_, _≤_}
 use native.Mathlib.Omega.{arith}
 use lib.ListN.{length, take, drop, length-drop, take-append-drop}
-use lib.Seq.{paste, take-paste, drop-paste, drop-drop, take-append-add, take-all, take-take, length-take-le, take-append-le, drop-append-le, take-at, drop-at}
+use lib.Seq.{paste, take-paste, drop-paste, drop-drop, take-add, take-append-add, take-all, take-length, take-take, length-take-le, take-append-le, drop-append-le, take-at, drop-at}
 use Rattle.model.specs.Bytes.{bytes}
+use Rattle.model.specs.Calls.{written}
 use Rattle.wire_laws.specs.BytesLaws.{length-bytes}
 use Rattle.buffer.specs.FieldLaws.{bytes-split}
 
@@ -52,6 +53,21 @@ paste-behind d at x y n k h e =
     middle =
         append-assoc (take at d) (take n x) (take k y)
         ∙ ap (λ (u : List ℕ). take at d ++ u) (ap (λ (u : List ℕ). u ++ take k y) (take-all n x (omega arith)) ∙ sym (take-both x y n k e))
+
+-- what is copied from the start on, and then its next part
+paste-taken : (d : List ℕ) (at : ℕ) (s : List ℕ) (n : ℕ) → paste d at (take n s) n ≡ paste d at s n
+paste-taken d at s n = ap (λ (l : List ℕ). take at d ++ l ++ drop (at + n) d) (take-take n n s (omega arith))
+
+pub paste-more : (d : List ℕ) (at : ℕ) (s : List ℕ) (n k : ℕ) → at + n ≤ length d → n ≤ length s
+    → paste (paste d at s n) (at + n) (take k (drop n s)) k ≡ paste d at s (n + k)
+paste-more d at s n k h g =
+    ap (λ (l : List ℕ). paste l (at + n) (take k (drop n s)) k) (sym (paste-taken d at s n))
+    ∙ paste-paste d at (take n s) (take k (drop n s)) n k h (length-take-le n s g)
+    ∙ ap (λ (l : List ℕ). paste d at l (n + k)) (sym (take-add n k s)) ∙ paste-taken d at s (n + k)
+
+-- all of it at the front
+pub front-written : (x d : List ℕ) → paste d 0 x (length x) ≡ written x d
+front-written x d = ap₂ (λ (y : List ℕ) (n : ℕ). y ++ drop n d) {u = 0 + length x} {v = length x} (take-length x) (omega arith)
 
 -- a number written in two parts, the high one first
 pub paste-halves : (d : List ℕ) (at n k v : ℕ) → at + n ≤ length d

@@ -6,7 +6,7 @@ use Prim.Native.Nat.{ℕ, _+_, _*_, _/_, _%_, _≤_, _<_}
 use native.Mathlib.Omega.{arith}
 use native.Mathlib.Numerals.{add-one}
 use lib.ListN.{length, set, take, drop, getD, length-append, length-map}
-use lib.Seq.{paste, set-split, append-snoc, drop-cons, take-length}
+use lib.Seq.{paste, set-split, append-snoc, drop-cons}
 use Rattle.model.specs.Bytes.{bytes}
 use Rattle.model.specs.Layout.{kindAt, priorityFlagAt, dependencyCountAt, commandCountAt, lengthAt, dependenciesOffsetAt, commandsOffsetAt, firstZerosAt, sequenceAt, groupAt, blockAt, priorityAt, lastZerosAt, headerSize, sequenceSize, commandSize}
 use Rattle.model.specs.Message.{commandsStart, totalLength}
@@ -19,7 +19,7 @@ use Rattle.message.specs.declared.header.Header.{Header}
 use Rattle.message.specs.declared.header.Priority.{Priority}
 use Rattle.message.specs.declared.header.Priority.the-variants.{Absent, Given}
 use Rattle.buffer.specs.FieldLaws.{bytes-low}
-use Rattle.buffer_writes.specs.PasteLaws.{paste-halves}
+use Rattle.buffer_writes.specs.PasteLaws.{paste-halves, front-written}
 use Rattle.image_header.specs.Pieces.{pasted}
 use Rattle.image_header.specs.PieceLaws.{pasted-pasted, order-pasted}
 use Rattle.writing.specs.Writing.{countsBytes, offsetsBytes, fieldsBytes, headerBytes, headerWith, headerFor, sequencesBytes, messageWith, messageFor}
@@ -91,10 +91,6 @@ module _ (h : Header) where
       go : (p : Priority) → length (headerWith h p) ≡ headerSize
       go Absent = refl
       go (Given block priority) = refl
-
--- a piece at the front
-pub front-written : (x d : List ℕ) → pasted d 0 x ≡ written x d
-front-written x d = ap₂ (λ (y : List ℕ) (n : ℕ). y ++ drop n d) {u = 0 + length x} {v = length x} (take-length x) (omega arith)
 
 -- the three pieces, the header at the front
 pub message-written : (d : List ℕ) (h : Header) (deps commands : List ℕ) (start : ℕ) → h .dependencies ≡ length deps → h .commands ≡ length commands / commandSize

@@ -1,0 +1,159 @@
+-- The checks run in the order of their codes, and each tells one of the definition's tests; what is left is copied.
+use mathlib.Core.Path.{_≡_, refl, sym, _∙_, ap, ap₂}
+use mathlib.Core.Bool.{true, false}
+use mathlib.Core.List.{List}
+use Prim.Native.Nat.{ℕ, _≤_}
+use native.Mathlib.Omega.{arith}
+use lib.ListN.{length}
+use lib.Seq.{length-take-le}
+use lib.Dec.{ltb, lit≤}
+use borrow.Author.Tests.{ltb-false, not-true, not-false}
+use borrow.Author.Needs.{needs}
+use Rattle.model.specs.Layout.{sequencesRoom}
+use Rattle.model.specs.Text.{sequenceBytesIn, textRight, allNumbered}
+use Rattle.order.specs.TestLaws.{true-T}
+use Rattle.message.specs.Check.{right}
+use Rattle.text_laws.specs.AnswerLaws.{read-by}
+use Rattle.text_reading.specs.ReadCases.{size-most, exit-length, bytes-are, copied}
+use Rattle.text_reading.proofs.read_sequences.Statement.{statement}
+use Rattle.text_reading.proofs.read_sequences.Tie as tie
+
+-- where the call began, from each check
+abbrev began : tie.After-check-sequences-room → tie.Start
+began c = c .before .before .before
+
+abbrev measured : tie.After-check-text → tie.After-check-sequences-room
+measured c = c .before .before .before
+
+room-right : (c : tie.After-enum-told) → ltb (length (began (c .before .before) .args .sequences .now)) sequencesRoom ≡ false
+room-right c = not-true _ (sym (c .before .before .check-sequences-room .ensures) ∙ ap right (c .enum-told .given .1))
+
+form-right : (c : tie.After-enum-told3) → textRight (began (measured (c .before .before)) .args .text .now) ≡ true
+form-right c = sym (c .before .before .check-text .ensures) ∙ ap right (c .enum-told3 .given .1)
+
+-- what was read: at most eight sequences, into an array of that size
+abbrev formed : tie.After-read-text → tie.After-enum-told3
+formed c = c .before .before
+
+abbrev text : tie.After-read-text → List ℕ
+text c = began (measured (formed c .before .before)) .args .text .now
+
+fits : (c : tie.After-read-text) → c .read-text .result ≤ sequencesRoom
+fits c = size-most (c .read-text .ensures) (true-T (textRight (text c)) (form-right (formed c)))
+
+array-size : (c : tie.After-read-text) → length (c .read-text .last .1 .0) ≡ sequencesRoom
+array-size c = exit-length (c .read-text .ensures) (fits c)
+
+-- and what was told of its numbers
+abbrev reading : tie.After-check-numbers → tie.After-read-text
+reading c = c .before .before .before
+
+numbers-are : (c : tie.After-check-numbers) → right (c .check-numbers .result) ≡ allNumbered (sequenceBytesIn (text (reading c)))
+numbers-are c = c .check-numbers .ensures ∙ ap allNumbered (bytes-are (reading c .read-text .ensures))
+
+check-sequences-room-requires : tie.Need-check-sequences-room-requires
+check-sequences-room-requires c κs = search needs
+
+enum-told : tie.Need-enum-told
+enum-told c = search needs
+
+enum-told-2 : tie.Need-enum-told-2
+enum-told-2 c = search needs
+
+returns : tie.Need-returns
+returns c =
+    let k = c .before .before in
+    let a = began k .args in
+    sym (read-by (a .text .now) (a .sequences .now) (not-false _ (sym (k .check-sequences-room .ensures) ∙ ap right (c .enum-told2 .given .1))) refl refl)
+
+check-text-requires : tie.Need-check-text-requires
+check-text-requires c κs = search needs
+
+enum-told-3 : tie.Need-enum-told-3
+enum-told-3 c = search needs
+
+enum-told-4 : tie.Need-enum-told-4
+enum-told-4 c = search needs
+
+returns-2 : tie.Need-returns-2
+returns-2 c =
+    let k = c .before .before in
+    let a = began (measured k) .args in
+    sym (read-by (a .text .now) (a .sequences .now) (room-right (k .before)) (sym (k .check-text .ensures) ∙ ap right (c .enum-told4 .given .1)) refl)
+
+slice-aggregate-read-text : tie.Need-slice-aggregate-read-text
+slice-aggregate-read-text c = search needs
+
+read-text-requires : tie.Need-read-text-requires
+read-text-requires c κs = record { formed = true-T _ (form-right (c .before)); room = lit≤ tt }
+
+array-share-prefix-bytes : tie.Need-array-share-prefix-bytes
+array-share-prefix-bytes c = omega (arith, fits (c .before), array-size (c .before))
+
+slice-aggregate-check-numbers : tie.Need-slice-aggregate-check-numbers
+slice-aggregate-check-numbers c =
+    let r = c .before .before in
+    sym (length-take-le (r .read-text .result) (r .read-text .last .1 .0) (omega (arith, fits r, array-size r)))
+
+check-numbers-requires : tie.Need-check-numbers-requires
+check-numbers-requires c κs = search needs
+
+enum-told-5 : tie.Need-enum-told-5
+enum-told-5 c = search needs
+
+enum-told-6 : tie.Need-enum-told-6
+enum-told-6 c = search needs
+
+returns-3 : tie.Need-returns-3
+returns-3 c =
+    let n = c .before .before in
+    let e = formed (reading n) in
+    let a = began (measured (e .before .before)) .args in
+    sym (read-by (a .text .now) (a .sequences .now) (room-right (e .before .before .before)) (form-right e) (sym (numbers-are n) ∙ ap right (c .enum-told6 .given .1)))
+
+slice-aggregate-copy-at : tie.Need-slice-aggregate-copy-at
+slice-aggregate-copy-at c = search needs
+
+copy-at-requires : tie.Need-copy-at-requires
+copy-at-requires c κs =
+    let r = reading (c .before .before .before .before) in
+    let e = formed r in
+    (omega (arith, fits r, array-size r), omega (arith, fits r, ltb-false (length (began (measured (e .before .before)) .args .sequences .now)) sequencesRoom (room-right (e .before .before .before))))
+
+same-length : tie.Need-same-length
+same-length c = search needs
+
+returns-4 : tie.Need-returns-4
+returns-4 c =
+    let copy = c .before .before in
+    let told = copy .before .before .before in
+    let r = reading (told .before .before) in
+    let e = formed r in
+    let a = began (measured (e .before .before)) .args in
+    ap₂ (λ (n : ℕ) (l : List ℕ). record { code = 0; size = n; buffer = l }) (r .read-text .ensures .sized) (copy .copy-at .ensures ∙ copied (r .read-text .ensures) (a .sequences .now))
+    ∙ sym (read-by (a .text .now) (a .sequences .now) (room-right (e .before .before .before)) (form-right e) (sym (numbers-are (told .before .before)) ∙ ap right (told .enum-told5 .given .1)))
+
+pub read-sequences-spec : {M : Type 1} → statement M
+read-sequences-spec =
+    tie.close
+    (tie.spec
+    check-sequences-room-requires
+    enum-told
+    enum-told-2
+    returns
+    check-text-requires
+    enum-told-3
+    enum-told-4
+    returns-2
+    slice-aggregate-read-text
+    read-text-requires
+    array-share-prefix-bytes
+    slice-aggregate-check-numbers
+    check-numbers-requires
+    enum-told-5
+    enum-told-6
+    returns-3
+    slice-aggregate-copy-at
+    copy-at-requires
+    same-length
+    returns-4)

@@ -1,0 +1,125 @@
+-- The checks run in the order of their codes, and each tells one of the definition's tests; what is left is put down.
+use mathlib.Core.Path.{_≡_, refl, sym, _∙_, ap, ap₂}
+use mathlib.Core.Bool.{true, false}
+use mathlib.Core.List.{List}
+use Prim.Native.Nat.{ℕ}
+use lib.ListN.{length}
+use lib.Dec.{ltb}
+use borrow.Author.Tests.{ltb-false, not-true, not-false}
+use borrow.Author.Needs.{needs}
+use Rattle.model.specs.Layout.{textRoom}
+use Rattle.model.specs.Text.{sequencesRight, allNumbered}
+use Rattle.order.specs.TestLaws.{true-T}
+use Rattle.message.specs.Check.{right}
+use Rattle.text_laws.specs.AnswerLaws.{write-by}
+use Rattle.text_writing.proofs.write_sequences.Statement.{statement}
+use Rattle.text_writing.proofs.write_sequences.Tie as tie
+
+-- where the call began, from the first check; and each check's state from the next one's
+abbrev began : tie.After-check-text-room → tie.Start
+began c = c .before .before .before
+
+abbrev measured : tie.After-check-sequences → tie.After-check-text-room
+measured c = c .before .before .before
+
+abbrev formed : tie.After-check-numbers → tie.After-check-sequences
+formed c = c .before .before .before
+
+-- what each told
+room-right : (c : tie.After-enum-told) → ltb (length (began (c .before .before) .args .text .now)) textRoom ≡ false
+room-right c = not-true _ (sym (c .before .before .check-text-room .ensures) ∙ ap right (c .enum-told .given .1))
+
+form-right : (c : tie.After-enum-told3) → sequencesRight (began (measured (c .before .before)) .args .sequences .now) ≡ true
+form-right c = sym (c .before .before .check-sequences .ensures) ∙ ap right (c .enum-told3 .given .1)
+
+numbers-right : (c : tie.After-enum-told5) → allNumbered (began (measured (formed (c .before .before))) .args .sequences .now) ≡ true
+numbers-right c = sym (c .before .before .check-numbers .ensures) ∙ ap right (c .enum-told5 .given .1)
+
+check-text-room-requires : tie.Need-check-text-room-requires
+check-text-room-requires c κs = search needs
+
+enum-told : tie.Need-enum-told
+enum-told c = search needs
+
+enum-told-2 : tie.Need-enum-told-2
+enum-told-2 c = search needs
+
+returns : tie.Need-returns
+returns c =
+    let k = c .before .before in
+    let a = began k .args in
+    sym (write-by (a .sequences .now) (a .text .now) (not-false _ (sym (k .check-text-room .ensures) ∙ ap right (c .enum-told2 .given .1))) refl refl)
+
+check-sequences-requires : tie.Need-check-sequences-requires
+check-sequences-requires c κs = search needs
+
+enum-told-3 : tie.Need-enum-told-3
+enum-told-3 c = search needs
+
+enum-told-4 : tie.Need-enum-told-4
+enum-told-4 c = search needs
+
+returns-2 : tie.Need-returns-2
+returns-2 c =
+    let k = c .before .before in
+    let a = began (measured k) .args in
+    sym (write-by (a .sequences .now) (a .text .now) (room-right (k .before)) (sym (k .check-sequences .ensures) ∙ ap right (c .enum-told4 .given .1)) refl)
+
+check-numbers-requires : tie.Need-check-numbers-requires
+check-numbers-requires c κs = search needs
+
+enum-told-5 : tie.Need-enum-told-5
+enum-told-5 c = search needs
+
+enum-told-6 : tie.Need-enum-told-6
+enum-told-6 c = search needs
+
+returns-3 : tie.Need-returns-3
+returns-3 c =
+    let n = c .before .before in
+    let k = formed n in
+    let a = began (measured k) .args in
+    sym (write-by (a .sequences .now) (a .text .now) (room-right (k .before)) (form-right (n .before)) (sym (n .check-numbers .ensures) ∙ ap right (c .enum-told6 .given .1)))
+
+put-text-requires : tie.Need-put-text-requires
+put-text-requires c κs =
+    let n = c .before .before .before in
+    let k = formed n in
+    let a = began (measured k) .args in
+    record {
+      formed = true-T (sequencesRight (a .sequences .now)) (form-right (n .before));
+      room = ltb-false (length (a .text .now)) textRoom (room-right (k .before));
+    }
+
+same-length : tie.Need-same-length
+same-length c = search needs
+
+returns-4 : tie.Need-returns-4
+returns-4 c =
+    let put = c .before .before in
+    let told = put .before .before in
+    let n = told .before .before in
+    let k = formed n in
+    let a = began (measured k) .args in
+    ap₂ (λ (m : ℕ) (l : List ℕ). record { code = 0; size = m; buffer = l }) (put .put-text .ensures .sized) (put .put-text .ensures .put)
+    ∙ sym (write-by (a .sequences .now) (a .text .now) (room-right (k .before)) (form-right (n .before)) (numbers-right told))
+
+pub write-sequences-spec : {M : Type 1} → statement M
+write-sequences-spec =
+    tie.close
+    (tie.spec
+    check-text-room-requires
+    enum-told
+    enum-told-2
+    returns
+    check-sequences-requires
+    enum-told-3
+    enum-told-4
+    returns-2
+    check-numbers-requires
+    enum-told-5
+    enum-told-6
+    returns-3
+    put-text-requires
+    same-length
+    returns-4)

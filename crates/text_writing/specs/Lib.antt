@@ -1,0 +1,3 @@
+pub mod Parts
+pub mod CharacterLaws
+pub mod PutLaws
