@@ -75,8 +75,8 @@ short-if composition.HeldLine message h = tt
 short-if composition.PastLimit message h = tt
 short-if composition.ManyDependencies message h = tt
 
-unpacked : (code size : ℕ) → code < 256 → LengthUnpacks (numberOf code size) code size
-unpacked code size h = record { code-back = omega arith; length-back = omega arith }
+pub length-unpacked : (code size : ℕ) → code < 256 → LengthUnpacks (numberOf code size) code size
+length-unpacked code size h = record { code-back = omega arith; length-back = omega arith }
 
 module _ (image line commands : List ℕ) (flag priority : ℕ) (message : List ℕ) (c : Composition) (exit : List ℕ) (e : composedBy c exit ≡ compose image line commands flag priority message) where
   abbrev x : Composed
@@ -88,7 +88,7 @@ module _ (image line commands : List ℕ) (flag priority : ℕ) (message : List 
   pub composes : (r : ℕ) → r ≡ numberBy c → Composes image line commands flag priority message r exit
   composes r p = record {
     answer = is;
-    parts = subst (λ (n : ℕ). LengthUnpacks n (x .code) (x .size)) (sym is) (unpacked (x .code) (x .size) (subst (λ (y : Composed). y .code < 256) e (code-small c exit)));
+    parts = subst (λ (n : ℕ). LengthUnpacks n (x .code) (x .size)) (sym is) (length-unpacked (x .code) (x .size) (subst (λ (y : Composed). y .code < 256) e (code-small c exit)));
     message-after = message-is c exit ∙ ap (λ (y : Composed). y .message) e;
   }
     where

@@ -6,3 +6,5 @@ pub mod ReadAnswers
 pub mod ReadAnswerLaws
 pub mod ComposeAnswers
 pub mod ComposeAnswerLaws
+pub mod TextAnswers
+pub mod TextAnswerLaws

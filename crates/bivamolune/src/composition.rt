@@ -5,7 +5,7 @@ ghost use mathlib.Core.Path.{_≡_};
 ghost use Rattle.bivamolune.specs.ComposeAnswers.{Composes, numberBy, Short};
 
 // what an answer's length is multiplied by
-const LENGTH_UNIT: u32 = 256;
+pub const LENGTH_UNIT: u32 = 256;
 
 // The number of what compose answers.
 fn pack_composition(c: Composition) -> u32

@@ -2,6 +2,7 @@
 pub mod composition;
 mod packing;
 pub mod reads;
+pub mod texts;
 
 use crate::packing::pack_answer;
 use deliver::answer::Delivery;
