@@ -7,7 +7,7 @@ use Rattle.model.specs.Layout.{textRoom}
 use Rattle.model.specs.Calls.{Converted}
 use Rattle.text_checks.specs.declared.answer.Conversion.{Conversion}
 use Rattle.text_checks.specs.declared.answer.Conversion.the-variants as conversion
-use Rattle.text_checks.specs.Answer.{convertedBy}
+use Rattle.text_checks.specs.Answer.{convertedBy, buffer-is}
 use Rattle.bivamolune.specs.ComposeAnswers.{numberOf, LengthUnpacks}
 use Rattle.bivamolune.specs.ComposeAnswerLaws.{length-unpacked}
 use Rattle.bivamolune.specs.TextAnswers.{Converts, numberBy, Short}
@@ -18,12 +18,6 @@ number-is (conversion.Written size) buffer = refl
 number-is conversion.WrongSize buffer = refl
 number-is conversion.WrongForm buffer = refl
 number-is conversion.ZeroNumber buffer = refl
-
-buffer-is : (c : Conversion) (buffer : List ℕ) → buffer ≡ convertedBy c buffer .buffer
-buffer-is (conversion.Written size) buffer = refl
-buffer-is conversion.WrongSize buffer = refl
-buffer-is conversion.WrongForm buffer = refl
-buffer-is conversion.ZeroNumber buffer = refl
 
 -- its code is a byte
 code-small : (c : Conversion) (buffer : List ℕ) → convertedBy c buffer .code < 256

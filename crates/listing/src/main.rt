@@ -1,13 +1,11 @@
 // The listing program: reads messages end to end on standard input, and prints a line for each and a last line.
-mod reading;
-
-use crate::reading::Input;
-use crate::reading::drop_rest;
-use crate::reading::read_input;
 use libc::STDOUT_FILENO;
 use listing_whole::limits::INPUT_LIMIT;
 use listing_whole::limits::LISTING_ROOM;
 use listing_whole::walking::list;
+use standard_input::Input;
+use standard_input::drop_rest;
+use standard_input::read_input;
 
 // Writes the listing of an input to standard output.
 fn print_listing(input: &[u8]) {

@@ -9,6 +9,7 @@ use Rattle.model.specs.Bytes.{bytes}
 use Rattle.model.specs.Layout.{sequencesRoom, textRoom}
 use Rattle.model.specs.Text.{digitOf, characterOf, textOf, sequenceBytesIn, textRight, sequencesRight, allNumbered}
 use Rattle.model.specs.Calls.{Converted, readSequences, writeSequences}
+use Rattle.model.specs.Program.{withoutLineFeed, Printed, otherForm}
 
 -- ---- characters: each end of 0-9 and A-F and its neighbours, the comma, lower case, 0 and 255
 digits : List (ℕ × ℕ)
@@ -164,3 +165,31 @@ writes =
 writes-hold : map (λ e. outcome (writeSequences (e .0 .0) (lent (e .0 .1)))) writes ≡ map (λ e. e .1) writes
 unfolding writes writeSequences sequencesRight allNumbered textOf characterOf
 writes-hold = refl
+
+-- ---- the program `sequences`: an input; the code and what is printed
+forms : List (List ℕ × (ℕ × List ℕ))
+forms =
+    -- a text with a line feed and without, and bytes
+    (bothText ++ 10 ∷ [], (0, first ++ second))
+    ∷ (firstText, (0, first))
+    ∷ (first ++ second, (0, bothText ++ 10 ∷ []))
+    -- the last byte of a number may be a line feed; bytes that are all printable are a text
+    ∷ (bytes 12 0x0A, (0, replicate 23 48 ++ 65 ∷ 10 ∷ []))
+    ∷ (replicate 12 32, (13, []))
+    ∷ (replicate 11 32 ++ 127 ∷ [], (0, textOf (replicate 11 32 ++ 127 ∷ []) ++ 10 ∷ []))
+    -- mistyped, two line feeds, nothing
+    ∷ (take 23 firstText ++ 71 ∷ [], (13, []))
+    ∷ (take 23 firstText ++ 10 ∷ [], (13, []))
+    ∷ (firstText ++ 10 ∷ 10 ∷ [], (13, []))
+    ∷ ([], (13, []))
+    -- number 0000, of either form
+    ∷ (zeroText ++ 10 ∷ [], (14, []))
+    ∷ (replicate 12 0, (14, []))
+    ∷ []
+
+abbrev shown : Printed → ℕ × List ℕ
+shown p = (p .code, p .output)
+
+forms-hold : map (λ e. shown (otherForm (e .0))) forms ≡ map (λ e. e .1) forms
+unfolding forms otherForm withoutLineFeed textRight allNumbered sequencesRight sequenceBytesIn textOf digitOf characterOf
+forms-hold = refl

@@ -1,12 +1,15 @@
--- The listing program, as a function from the bytes of its input to the bytes that it prints.
-use mathlib.Core.Bool.{Bool, cond, _||_}
+-- The programs, each as a function from the bytes of its input to the bytes that it prints: the listing, and `sequences`.
+use mathlib.Core.Bool.{Bool, cond, _&&_, _||_}
 use mathlib.Core.List.{List, [], _∷_, _++_}
-use Prim.Native.Nat.{ℕ, zero, suc, _+_, _/_, _%_}
-use lib.ListN.{length, take, drop, replicate}
-use lib.Dec.{ltb}
+use Prim.Native.Nat.{ℕ, zero, suc, _+_, _-_, _/_, _%_}
+use lib.ListN.{length, take, drop, getD, replicate}
+use lib.Dec.{eqb, ltb, leb}
+use Rattle.model.specs.Lists.{every}
 use Rattle.model.specs.Bytes.{field}
-use Rattle.model.specs.Layout.{lengthAt, stepRoom, inputLimit, shortestCut, longestCut}
+use Rattle.model.specs.Layout.{lengthAt, stepRoom, inputLimit, shortestCut, longestCut, sequencesRoom, textRoom}
 use Rattle.model.specs.Image.{imageOf, logCount, heldCount}
+use Rattle.model.specs.Text.{textOf, sequenceBytesIn}
+use Rattle.model.specs.Codes.{lowestCode, readSequencesConditions, writeSequencesConditions}
 use Rattle.model.specs.Calls.{emptyState, deliver}
 
 -- A number in decimal: its last `n` digits, without zeros in front. No number that is printed has more than five.
@@ -47,3 +50,31 @@ linesFrom (suc most) n b (x ∷ rest) =
 -- "up to 60,000 bytes (any beyond are dropped)"
 unfoldable pub listing : List ℕ → List ℕ
 listing input = let read = take inputLimit input in linesFrom (length read) 1 (imageOf emptyState) read
+
+-- ---- the program `sequences`: sequences in either form, printed in the other
+abbrev pub lineFeed : ℕ
+lineFeed = 10
+
+-- An input is a text if it is printable, but for a line feed at its end.
+abbrev pub printable : ℕ → Bool
+printable c = leb 32 c && leb c 126
+
+unfoldable pub withoutLineFeed : List ℕ → List ℕ
+withoutLineFeed input = cond (eqb (getD input (length input - 1) 0) lineFeed) (take (length input - 1) input) input
+
+-- The code, and what is printed: nothing beside a refusal.
+pub record Printed : Type 0 where
+  pub code : ℕ
+  pub output : List ℕ
+
+abbrev pub printed : ℕ → List ℕ → Printed
+printed zero output = record { code = 0; output = output }
+printed (suc n) output = record { code = suc n; output = [] }
+
+-- The reader's and the writer's answers, with room enough. A text is printed as a line.
+unfoldable pub otherForm : List ℕ → Printed
+otherForm input =
+    let text = withoutLineFeed input in
+    cond (every printable text)
+    (printed (lowestCode (readSequencesConditions text sequencesRoom)) (sequenceBytesIn text))
+    (printed (lowestCode (writeSequencesConditions input textRoom)) (textOf input ++ lineFeed ∷ []))

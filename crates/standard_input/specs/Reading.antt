@@ -1,9 +1,9 @@
 -- What is read fits the buffer.
 use Prim.Native.Nat.{ℕ, _+_, _≤_}
-use Rattle.listing.specs.declared.reading.Piece.{Piece}
-use Rattle.listing.specs.declared.reading.Piece.the-variants as piece
-use Rattle.listing.specs.declared.reading.Input.{Input}
-use Rattle.listing.specs.declared.reading.Input.the-variants as input
+use Rattle.standard_input.specs.declared.Piece.{Piece}
+use Rattle.standard_input.specs.declared.Piece.the-variants as piece
+use Rattle.standard_input.specs.declared.Input.{Input}
+use Rattle.standard_input.specs.declared.Input.the-variants as input
 
 -- a piece behind `at` bytes, in a buffer of `size`
 abbrev pub PieceFits : ℕ → ℕ → Piece → Type 0

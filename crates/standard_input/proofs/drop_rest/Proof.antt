@@ -1,7 +1,7 @@
 -- Each turn takes one of the tries; nothing else has to hold.
 use native.Mathlib.Omega.{arith}
-use Rattle.listing.proofs.reading.drop_rest.Statement.{statement}
-use Rattle.listing.proofs.reading.drop_rest.Tie as tie
+use Rattle.standard_input.proofs.drop_rest.Statement.{statement}
+use Rattle.standard_input.proofs.drop_rest.Tie as tie
 
 abbrev Inv-loop : tie.InvT-loop
 Inv-loop tries₀ tries = Unit {0}

@@ -3,10 +3,10 @@ use mathlib.Core.Path.{_≡_, _∙_, subst}
 use Prim.Native.Nat.{_+_, _≤_}
 use native.Mathlib.Omega.{arith}
 use lib.ListN.{length}
-use Rattle.listing.specs.Reading.{PieceFits}
+use Rattle.standard_input.specs.Reading.{PieceFits}
 use borrow.Author.Needs.{needs}
-use Rattle.listing.proofs.reading.read_input.Statement.{statement}
-use Rattle.listing.proofs.reading.read_input.Tie as tie
+use Rattle.standard_input.proofs.read_input.Statement.{statement}
+use Rattle.standard_input.proofs.read_input.Tie as tie
 
 abbrev Inv-loop : tie.InvT-loop
 Inv-loop buf₀ tries₀ at₀ buf tries at = (at ≤ length buf) × (length buf ≡ length buf₀)

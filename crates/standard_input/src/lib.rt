@@ -3,7 +3,7 @@ use libc::EINTR;
 use libc::STDIN_FILENO;
 ghost use Prim.Native.Nat.{_≤_};
 ghost use lib.ListN.{length};
-ghost use Rattle.listing.specs.Reading.{PieceFits, InputFits};
+ghost use Rattle.standard_input.specs.Reading.{PieceFits, InputFits};
 
 // What one read brought: bytes, none where it was interrupted; the end of the input; or nothing, since it failed.
 enum Piece {

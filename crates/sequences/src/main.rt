@@ -1,0 +1,50 @@
+// The program for the service laptop: reads sequences in either form on standard input, and prints the other.
+use libc::STDERR_FILENO;
+use libc::STDOUT_FILENO;
+use standard_input::Input;
+use standard_input::drop_rest;
+use standard_input::read_input;
+use text_checks::answer::Conversion;
+use text_forms::OUTPUT_ROOM;
+use text_forms::other_form;
+
+// More than either form has: an input that fills it is refused.
+const INPUT_ROOM: usize = 256;
+
+// Writes to standard output.
+fn print(bytes: &[u8]) {
+    let is_written = io::write_all(STDOUT_FILENO, bytes);
+    if !is_written {
+        os::fail(b"standard output");
+    }
+}
+
+// Tells a refusal on standard error.
+fn refuse(line: &[u8]) {
+    io::write_all(STDERR_FILENO, line);
+}
+
+// Prints the other form of an input, or the code that refuses it.
+fn print_other(input: &[u8]) {
+    let mut out = [0u8; OUTPUT_ROOM];
+    let answer = other_form(input, &mut out);
+    match answer {
+        Conversion::Written(n) => print(&out[..n]),
+        Conversion::WrongSize => refuse(b"refused: 1\n"),
+        Conversion::WrongForm => refuse(b"refused: 13\n"),
+        Conversion::ZeroNumber => refuse(b"refused: 14\n"),
+    }
+}
+
+fn main() {
+    let mut buf = [0u8; INPUT_ROOM];
+    let input = read_input(&mut buf);
+    let Input::Bytes(n) = input else {
+        os::fail(b"standard input");
+        return;
+    };
+    print_other(&buf[..n]);
+    if n == INPUT_ROOM {
+        drop_rest();
+    }
+}

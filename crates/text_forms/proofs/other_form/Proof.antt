@@ -1,0 +1,75 @@
+-- A printable line goes to the reader, and any other input whole to the writer.
+use mathlib.Core.Path.{_≡_, sym, _∙_, ap}
+use mathlib.Core.Bool.{Bool}
+use mathlib.Core.List.{List}
+use Prim.Native.Nat.{ℕ, _≤_}
+use native.Mathlib.Omega.{arith}
+use lib.ListN.{length}
+use lib.Seq.{length-take-le}
+use borrow.Author.Needs.{needs}
+use Rattle.model.specs.Lists.{every}
+use Rattle.model.specs.Layout.{sequencesRoom}
+use Rattle.model.specs.Calls.{readSequences}
+use Rattle.model.specs.Program.{printable, withoutLineFeed}
+use Rattle.text_forms.specs.FormCases.{as-text, as-bytes}
+use Rattle.text_forms.proofs.other_form.Statement.{statement}
+use Rattle.text_forms.proofs.other_form.Tie as tie
+
+abbrev began : tie.After-line-size → tie.Start
+began c = c .before .before
+
+-- what was told of the line
+abbrev measured : tie.After-is-printable → tie.After-line-size
+measured c = c .before .before
+
+told : (c : tie.After-is-printable) {t : Bool} → c .is-printable .result ≡ t → every printable (withoutLineFeed (began (measured c) .args .input .now)) ≡ t
+told c e = ap (every printable) (sym (measured c .line-size .ensures .line)) ∙ sym (c .is-printable .ensures) ∙ e
+
+line-size-requires : tie.Need-line-size-requires
+line-size-requires c κs = search needs
+
+slice-aggregate-is-printable : tie.Need-slice-aggregate-is-printable
+slice-aggregate-is-printable c = let m = c .before in sym (length-take-le (m .line-size .result) (began m .args .input .now) (m .line-size .ensures .inside))
+
+is-printable-requires : tie.Need-is-printable-requires
+is-printable-requires c κs = search needs
+
+slice-aggregate-read-sequences : tie.Need-slice-aggregate-read-sequences
+slice-aggregate-read-sequences c =
+    let m = c .before .before .before .before in
+    sym (length-take-le (m .line-size .result) (began m .args .input .now) (m .line-size .ensures .inside))
+
+read-sequences-requires : tie.Need-read-sequences-requires
+read-sequences-requires c κs = search needs
+
+returns : tie.Need-returns
+returns c =
+    let t = c .before .before .before in
+    let p = t .before in
+    let a = began (measured p) .args in
+    let room : sequencesRoom ≤ length (a .output .now) = omega (arith, began (measured p) .good) in
+    as-text (a .input .now) (a .output .now) room (told p (t .if1 .taken)) (c .read-sequences .result) (c .read-sequences .last .1 .0)
+    (c .read-sequences .ensures ∙ ap (λ (l : List ℕ). readSequences l (a .output .now)) (measured p .line-size .ensures .line))
+
+put-line-requires : tie.Need-put-line-requires
+put-line-requires c κs = search needs
+
+returns-2 : tie.Need-returns-2
+returns-2 c =
+    let t = c .before .before in
+    let p = t .before in
+    let a = began (measured p) .args in
+    as-bytes (a .input .now) (told p (t .if1 .left)) (c .put-line .result) (c .put-line .last .1 .0) (c .put-line .ensures)
+
+pub other-form-spec : {M : Type 1} → statement M
+other-form-spec =
+    tie.close
+    (tie.spec
+    line-size-requires
+    slice-aggregate-is-printable
+    is-printable-requires
+    slice-aggregate-read-sequences
+    read-sequences-requires
+    returns
+    put-line-requires
+    returns-2)
