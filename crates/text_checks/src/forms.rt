@@ -5,6 +5,7 @@ use layout::SEQUENCES_ROOM;
 use layout::TEXT_PART_SIZE;
 use layout::TEXT_ROOM;
 use message::checks::Check;
+use text_digits::digits;
 ghost use mathlib.Core.Path.{_≡_};
 ghost use Prim.Native.Nat.{_/_};
 ghost use lib.ListN.{length};
@@ -23,9 +24,10 @@ pub fn check_text(text: &[u8]) -> Check
     if TEXT_PART_SIZE * count != text.len() + 1 {
         return Check::Wrong;
     }
+    let table = digits();
     let mut k = 0;
     while k < count {
-        let checked = check_part(text, TEXT_PART_SIZE * k);
+        let checked = check_part(&table, text, TEXT_PART_SIZE * k);
         let Check::Right = checked else {
             return Check::Wrong;
         };

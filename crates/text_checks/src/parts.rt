@@ -2,6 +2,7 @@
 use buffer::byte;
 use layout::CHARACTERS_SIZE;
 use message::checks::Check;
+use text_digits::CHARACTER_COUNT;
 use text_digits::NO_DIGIT;
 use text_digits::digit;
 ghost use mathlib.Core.Path.{_≡_};
@@ -12,29 +13,30 @@ ghost use Rattle.model.specs.Lists.{every};
 ghost use Rattle.model.specs.Layout.{charactersSize, textPartSize};
 ghost use Rattle.model.specs.Text.{comma, isDigit, textPartRight};
 ghost use Rattle.message.specs.Check.{right};
+ghost use Rattle.text_digits.specs.DigitTable.{HasDigits};
 
 const COMMA: u32 = 44;
 
 // Whether the characters of a sequence are digits. It looks at all of them.
-fn are_digits(text: &[u8], at: usize) -> bool
-    requires { ⌜ at + charactersSize ≤ length (now text) ⌝ }
+fn are_digits(table: &[u8; CHARACTER_COUNT], text: &[u8], at: usize) -> bool
+    requires { ⌜ HasDigits (now table) × (at + charactersSize ≤ length (now text)) ⌝ }
     ensures { λ r. ⌜ r ≡ every isDigit (take charactersSize (drop at (now (text .entry)))) ⌝ }
 {
     let mut ok = true;
     let mut i = 0;
     while i < CHARACTERS_SIZE {
-        ok = ok & (digit(text[at + i]) != NO_DIGIT);
+        ok = ok & (digit(table, text[at + i]) != NO_DIGIT);
         i += 1;
     }
     ok
 }
 
 // The part that starts at a place of a text behind which a comma is put.
-pub fn check_part(text: &[u8], at: usize) -> Check
-    requires { ⌜ at + charactersSize ≤ length (now text) ⌝ }
+pub fn check_part(table: &[u8; CHARACTER_COUNT], text: &[u8], at: usize) -> Check
+    requires { ⌜ HasDigits (now table) × (at + charactersSize ≤ length (now text)) ⌝ }
     ensures { λ r. ⌜ right r ≡ textPartRight (take textPartSize (drop at (now (text .entry) ++ comma ∷ []))) ⌝ }
 {
-    if !are_digits(text, at) {
+    if !are_digits(table, text, at) {
         return Check::Wrong;
     }
     let behind = at + CHARACTERS_SIZE;

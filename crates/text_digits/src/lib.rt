@@ -5,15 +5,27 @@ use crate::table::DIGITS;
 ghost use mathlib.Core.Path.{_≡_};
 ghost use Prim.Native.Nat.{_<_};
 ghost use Rattle.model.specs.Text.{digitOf, characterOf};
+ghost use Rattle.text_digits.specs.DigitTable.{HasDigits};
+
+// how many characters there are
+pub const CHARACTER_COUNT: usize = 256;
 
 // what the table has for a character that is no digit
 pub const NO_DIGIT: u8 = 255;
 
+// The table, for a caller that looks up many characters in it.
+pub fn digits() -> [u8; CHARACTER_COUNT]
+    ensures { λ r. ⌜ HasDigits r ⌝ }
+{
+    DIGITS
+}
+
 // The digit of a character, or 255.
-pub fn digit(character: u8) -> u8
+pub fn digit(table: &[u8; CHARACTER_COUNT], character: u8) -> u8
+    requires { ⌜ HasDigits (now table) ⌝ }
     ensures { λ r. ⌜ r ≡ digitOf character ⌝ }
 {
-    DIGITS[character as usize]
+    table[character as usize]
 }
 
 // The character of a digit.

@@ -12,7 +12,7 @@ use Rattle.order.specs.TestLaws.{every-∈}
 use Rattle.text_laws.specs.DigitLaws.{digit-small, length-bytesIn, byte-at}
 use Rattle.text_reading.specs.Parts.{PartReadable}
 
-module _ (text : List ℕ) (from : ℕ) (bytes : List ℕ) (at : ℕ) (p : PartReadable text from bytes at) where
+module _ {table text : List ℕ} {from : ℕ} {bytes : List ℕ} {at : ℕ} (p : PartReadable table text from bytes at) where
   abbrev characters : List ℕ
   characters = take charactersSize (drop from text)
 

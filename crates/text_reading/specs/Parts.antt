@@ -8,9 +8,11 @@ use lib.Seq.{paste}
 use Rattle.model.specs.Lists.{every}
 use Rattle.model.specs.Layout.{sequenceSize, charactersSize, sequencesRoom}
 use Rattle.model.specs.Text.{isDigit, sequenceBytesIn, textRight}
+use Rattle.text_digits.specs.DigitTable.{HasDigits}
 
--- one sequence: its characters are digits, and there is room for its bytes
-pub record PartReadable (text : List ℕ) (from : ℕ) (bytes : List ℕ) (at : ℕ) : Type 0 where
+-- one sequence, by the table of digits: its characters are digits, and there is room for its bytes
+pub record PartReadable (table text : List ℕ) (from : ℕ) (bytes : List ℕ) (at : ℕ) : Type 0 where
+  pub table-right : HasDigits table
   pub inside : from + charactersSize ≤ length text
   pub digits : T (every isDigit (take charactersSize (drop from text)))
   pub room : at + sequenceSize ≤ length bytes

@@ -17,19 +17,19 @@ use Rattle.text_checks.proofs.forms.check_text.Statement.{statement}
 use Rattle.text_checks.proofs.forms.check_text.Tie as tie
 
 abbrev Inv-loop : tie.InvT-loop
-Inv-loop text count k₀ k = (k ≤ count) × (textRight text ≡ every textPartRight (drop k (textParts text)))
+Inv-loop text count table k₀ k = (k ≤ count) × (textRight text ≡ every textPartRight (drop k (textParts text)))
 
 abbrev μ-loop : tie.MeasureT-loop
-μ-loop text count k₀ k = count - k
+μ-loop text count table k₀ k = count - k
 
 abbrev Loop : Type 0
 Loop = tie.At-loop Inv-loop μ-loop
 
 abbrev text : Loop → List ℕ
-text l = l .before .before .before .before .args .text .now
+text l = l .before .before .before .before .before .args .text .now
 
 abbrev loop : tie.After-check-part Inv-loop μ-loop → Loop
-loop c = c .before .before
+loop c = c .before .before .before
 
 -- one part, and those after it
 turn : (c : tie.After-check-part Inv-loop μ-loop) {t : Bool} → right (c .check-part .result) ≡ t
@@ -54,14 +54,17 @@ add-if2 c = omega arith
 returns-2 : tie.Need-returns-2 Inv-loop μ-loop
 returns-2 c = text-wrong (c .before .before .before .args .text .now) (λ x. omega arith)
 
+digits-requires : tie.Need-digits-requires Inv-loop μ-loop
+digits-requires c κs = search needs
+
 loop-holds : tie.Need-loop-holds Inv-loop μ-loop
-loop-holds c = let t = c .before .before .before .args .text .now in (search needs, text-sized t (omega arith) (omega arith))
+loop-holds c = let t = c .before .before .before .before .args .text .now in (search needs, text-sized t (omega arith) (omega arith))
 
 mul-check-part : tie.Need-mul-check-part Inv-loop μ-loop
 mul-check-part c = omega arith
 
 check-part-requires : tie.Need-check-part-requires Inv-loop μ-loop
-check-part-requires c κs = omega arith
+check-part-requires c κs = (c .before .before .before .digits .ensures, omega arith)
 
 enum-told : tie.Need-enum-told Inv-loop μ-loop
 enum-told c = search needs
@@ -98,6 +101,7 @@ check-text-spec =
     mul-if2
     add-if2
     returns-2
+    digits-requires
     loop-holds
     mul-check-part
     check-part-requires

@@ -30,10 +30,10 @@ step true t at i h k =
 step false t at i h k = refl
 
 abbrev Inv-loop : tie.InvT-loop
-Inv-loop text at ok₀ i₀ ok i = (i ≤ charactersSize) × (every isDigit (characters text at) ≡ ok && every isDigit (drop i (characters text at)))
+Inv-loop table text at ok₀ i₀ ok i = (i ≤ charactersSize) × (every isDigit (characters text at) ≡ ok && every isDigit (drop i (characters text at)))
 
 abbrev μ-loop : tie.MeasureT-loop
-μ-loop text at ok₀ i₀ ok i = charactersSize - i
+μ-loop table text at ok₀ i₀ ok i = charactersSize - i
 
 loop-holds : tie.Need-loop-holds Inv-loop μ-loop
 loop-holds c = (search needs, refl)

@@ -17,10 +17,10 @@ abbrev sequence : List ℕ → ℕ → List ℕ
 sequence text from = bytesIn (take charactersSize (drop from text))
 
 abbrev Inv-loop : tie.InvT-loop
-Inv-loop text from bytes₀ at k₀ bytes k = (k ≤ sequenceSize) × ((bytes ≡ paste bytes₀ at (sequence text from) k) × (length bytes ≡ length bytes₀))
+Inv-loop table text from bytes₀ at k₀ bytes k = (k ≤ sequenceSize) × ((bytes ≡ paste bytes₀ at (sequence text from) k) × (length bytes ≡ length bytes₀))
 
 abbrev μ-loop : tie.MeasureT-loop
-μ-loop text from bytes₀ at k₀ bytes k = sequenceSize - k
+μ-loop table text from bytes₀ at k₀ bytes k = sequenceSize - k
 
 abbrev Loop : Type 0
 Loop = tie.At-loop Inv-loop μ-loop
@@ -42,13 +42,13 @@ high-small : (c : tie.After-digit2 Inv-loop μ-loop) → c .before .before .digi
 high-small c =
     let l = loop c in
     let a = began l .args in
-    omega (arith, high-is c, high-below (a .text .now) (a .from) (a .bytes .now) (a .at) (began l .pre) (l .loop .k) (omega arith))
+    omega (arith, high-is c, high-below (began l .pre) (l .loop .k) (omega arith))
 
 low-small : (c : tie.After-digit2 Inv-loop μ-loop) → c .digit2 .result < 16
 low-small c =
     let l = loop c in
     let a = began l .args in
-    omega (arith, low-is c, low-below (a .text .now) (a .from) (a .bytes .now) (a .at) (began l .pre) (l .loop .k) (omega arith))
+    omega (arith, low-is c, low-below (began l .pre) (l .loop .k) (omega arith))
 
 loop-holds : tie.Need-loop-holds Inv-loop μ-loop
 loop-holds c =
@@ -83,7 +83,7 @@ digit-requires-2 : tie.Need-digit-requires-2 Inv-loop μ-loop
 digit-requires-2 c κs = search needs
 
 mul-bytes : tie.Need-mul-bytes Inv-loop μ-loop
-mul-bytes c = omega (arith, high-small c)
+mul-bytes c = omega (arith, high-small c, low-small c)
 
 add-bytes : tie.Need-add-bytes Inv-loop μ-loop
 add-bytes c = omega (arith, high-small c, low-small c)
@@ -106,7 +106,7 @@ here : (c : tie.After-digit2 Inv-loop μ-loop) → let l = loop c in
 here c =
     let l = loop c in
     let a = began l .args in
-    ap₂ (λ (x y : ℕ). 16 * x + y) (high-is c) (low-is c) ∙ sym (byte-is (a .text .now) (a .from) (a .bytes .now) (a .at) (began l .pre) (l .loop .k) (omega arith))
+    ap₂ (λ (x y : ℕ). 16 * x + y) (high-is c) (low-is c) ∙ sym (byte-is (began l .pre) (l .loop .k) (omega arith))
 
 loop-again : tie.Need-loop-again Inv-loop μ-loop
 loop-again c =
@@ -116,7 +116,7 @@ loop-again c =
       omega arith,
       (
         ap₂ (λ (x : List ℕ) (y : ℕ). set x (a .at + k) y) (l .loop .inv .1 .0) (here c)
-            ∙ paste-suc (a .bytes .now) (a .at) (sequence (a .text .now) (a .from)) k 0 (omega arith) (omega (arith, bytes-sized (a .text .now) (a .from) (a .bytes .now) (a .at) (began l .pre)))
+            ∙ paste-suc (a .bytes .now) (a .at) (sequence (a .text .now) (a .from)) k 0 (omega arith) (omega (arith, bytes-sized (began l .pre)))
             ∙ ap (paste (a .bytes .now) (a .at) (sequence (a .text .now) (a .from))) (sym (add-one k)),
         simp length-set (l .loop .inv .1 .1),
       ),

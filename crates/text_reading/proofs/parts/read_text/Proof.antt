@@ -15,16 +15,16 @@ use Rattle.text_reading.proofs.parts.read_text.Statement.{statement}
 use Rattle.text_reading.proofs.parts.read_text.Tie as tie
 
 abbrev Inv-loop : tie.InvT-loop
-Inv-loop text bytes₀ count k₀ bytes k = (k ≤ count) × ((bytes ≡ paste bytes₀ 0 (sequenceBytesIn text) (sequenceSize * k)) × (length bytes ≡ length bytes₀))
+Inv-loop text bytes₀ count table k₀ bytes k = (k ≤ count) × ((bytes ≡ paste bytes₀ 0 (sequenceBytesIn text) (sequenceSize * k)) × (length bytes ≡ length bytes₀))
 
 abbrev μ-loop : tie.MeasureT-loop
-μ-loop text bytes₀ count k₀ bytes k = count - k
+μ-loop text bytes₀ count table k₀ bytes k = count - k
 
 abbrev Loop : Type 0
 Loop = tie.At-loop Inv-loop μ-loop
 
 abbrev began : Loop → tie.Start Inv-loop μ-loop
-began l = l .before .before .before
+began l = l .before .before .before .before
 
 formed : (l : Loop) → let t = began l .args .text .now in Text t (suc (length t) / textPartSize)
 formed l = text-out (began l .args .text .now) (began l .pre .formed)
@@ -41,27 +41,31 @@ one-more d t x k h r =
 add-count : tie.Need-add-count Inv-loop μ-loop
 add-count c = let start = c .before .before in omega (arith, text-out (start .args .text .now) (start .pre .formed) .whole, text-out (start .args .text .now) (start .pre .formed) .most)
 
+digits-requires : tie.Need-digits-requires Inv-loop μ-loop
+digits-requires c κs = search needs
+
 loop-holds : tie.Need-loop-holds Inv-loop μ-loop
-loop-holds c = let a = c .before .before .args in (search needs, (paste-zero (a .bytes .now) 0 (sequenceBytesIn (a .text .now)), refl))
+loop-holds c = let a = c .before .before .before .args in (search needs, (paste-zero (a .bytes .now) 0 (sequenceBytesIn (a .text .now)), refl))
 
 mul-read-part : tie.Need-mul-read-part Inv-loop μ-loop
-mul-read-part c = omega (arith, formed (c .before) .most)
+mul-read-part c = omega (arith, formed (c .before .before) .most)
 
 mul-read-part-2 : tie.Need-mul-read-part-2 Inv-loop μ-loop
-mul-read-part-2 c = omega (arith, formed (c .before .before) .most)
+mul-read-part-2 c = omega (arith, formed (c .before .before .before) .most)
 
 read-part-requires : tie.Need-read-part-requires Inv-loop μ-loop
 read-part-requires c κs =
-    let l = c .before .before in
+    let l = c .before .before .before in
     let x = formed l in
     record {
+      table-right = l .before .digits .ensures;
       inside = omega (arith, x .whole);
       digits = digits-at (began l .args .text .now) x (l .loop .k) (omega arith);
       room = omega (arith, x .most, began l .pre .room);
     }
 
 add-k : tie.Need-add-k Inv-loop μ-loop
-add-k c = let l = c .before .before .before .before .before in omega (arith, formed l .most)
+add-k c = let l = c .before .before .before .before .before .before in omega (arith, formed l .most)
 
 loop-less : tie.Need-loop-less Inv-loop μ-loop
 loop-less c = omega arith
@@ -69,12 +73,12 @@ loop-less c = omega arith
 loop-again : tie.Need-loop-again Inv-loop μ-loop
 loop-again c =
     let call = c .before .before in
-    let l = call .before .before .before in
+    let l = call .before .before .before .before in
     let d = began l .args .bytes .now in
     let t = began l .args .text .now in
     let k = l .loop .k in
     let x = formed l in
-    let next : call .read-part .last .1 .1 .0 ≡ paste d 0 (sequenceBytesIn t) (sequenceSize * (k + 1)) =
+    let next : call .read-part .last .1 .1 .1 .0 ≡ paste d 0 (sequenceBytesIn t) (sequenceSize * (k + 1)) =
     call .read-part .ensures
     ∙ ap (λ (b : List ℕ). paste b (sequenceSize * k) (bytesIn (take charactersSize (drop (textPartSize * k) t))) sequenceSize) (l .loop .inv .1 .0)
     ∙ one-more d t x k (omega arith) (omega (arith, x .most, began l .pre .room)) in (
@@ -109,6 +113,7 @@ read-text-spec =
     Inv-loop
     μ-loop
     add-count
+    digits-requires
     loop-holds
     mul-read-part
     mul-read-part-2
