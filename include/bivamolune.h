@@ -43,9 +43,9 @@ extern "C" {
 
 /* The version of this header and of the archive that it goes with. */
 #define BIVAMOLUNE_VERSION_MAJOR 0
-#define BIVAMOLUNE_VERSION_MINOR 3
+#define BIVAMOLUNE_VERSION_MINOR 4
 #define BIVAMOLUNE_VERSION_PATCH 0
-#define BIVAMOLUNE_VERSION "0.3.0"
+#define BIVAMOLUNE_VERSION "0.4.0"
 
 /* Sizes in bytes. */
 #define BIVAMOLUNE_IMAGE_SIZE 16384  /* an image, exactly */
@@ -65,6 +65,12 @@ extern "C" {
 #define BIVAMOLUNE_COMMANDS_MOST 8       /* and at least one */
 #define BIVAMOLUNE_COMMAND_SIZE 8        /* bytes: operation, tag, two zeros, value */
 #define BIVAMOLUNE_NUMBER_MOST 2147483647 /* of a group, a block, a priority */
+
+/* Sequences as text: 24 characters of 0-9 and A-F each, with a comma between. */
+#define BIVAMOLUNE_SEQUENCES_MOST 8      /* of one text, and at least one */
+#define BIVAMOLUNE_SEQUENCE_TEXT_SIZE 24 /* characters of one sequence */
+#define BIVAMOLUNE_SEQUENCES_ROOM 96     /* bytes: the reader's sequence buffer, at least */
+#define BIVAMOLUNE_TEXT_ROOM 199         /* bytes: the writer's text buffer, at least; no NUL is written */
 
 /* A station. */
 #define BIVAMOLUNE_DELTAS_MOST 64        /* of log and held ones together */
@@ -86,7 +92,8 @@ extern "C" {
 /* Codes. */
 enum bivamolune_result {
     BIVAMOLUNE_ACCEPTED = 0,
-    BIVAMOLUNE_WRONG_SIZE = 1,         /* an image, a step buffer, compose's message buffer or a line of wrong size */
+    BIVAMOLUNE_WRONG_SIZE = 1,         /* an image, a step buffer, compose's message buffer or a line of wrong size; a buffer
+                                          for sequences under 96 bytes, or for their text under 199 */
     BIVAMOLUNE_NO_IMAGE = 2,           /* the buffer is no image of a set of at most 64 right deltas */
     BIVAMOLUNE_WRONG_LAYOUT = 3,       /* kind, byte 1, counts, length, offsets or zeros of the message; compose: commands
                                           that are not 8 to 64 bytes by eights */
@@ -98,7 +105,10 @@ enum bivamolune_result {
     BIVAMOLUNE_HELD_LINE = 9,          /* compose: the line has a held delta */
     BIVAMOLUNE_PAST_LIMIT = 10,        /* compose: number, group or block would pass its limit */
     BIVAMOLUNE_MANY_DEPENDENCIES = 11, /* compose: over eight dependencies */
-    BIVAMOLUNE_NOT_THERE = 12          /* a place that the log has not, or a tag above 63 */
+    BIVAMOLUNE_NOT_THERE = 12,         /* a place that the log has not, or a tag above 63 */
+    BIVAMOLUNE_WRONG_FORM = 13,        /* a wrong character, length or comma of a text; sequences to write that are not 12 to
+                                          96 bytes by twelves */
+    BIVAMOLUNE_ZERO_NUMBER = 14        /* sequences read or written: a number 0000 */
 };
 
 /* A code in words, for a log file. */
@@ -117,6 +127,8 @@ static inline const char *bivamolune_code_name(uint32_t code) {
     case BIVAMOLUNE_PAST_LIMIT: return "past limit";
     case BIVAMOLUNE_MANY_DEPENDENCIES: return "many dependencies";
     case BIVAMOLUNE_NOT_THERE: return "not there";
+    case BIVAMOLUNE_WRONG_FORM: return "wrong form";
+    case BIVAMOLUNE_ZERO_NUMBER: return "zero number";
     default: return "no code";
     }
 }
@@ -141,7 +153,8 @@ uint32_t bivamolune_compose(const uint8_t *image, size_t image_size,
                             uint32_t priority_flag, uint32_t priority,
                             uint8_t *message, size_t message_size);
 
-/* The parts of the answers of deliver and compose: the code of either, deliver's counts, the length of what compose wrote. */
+/* The parts of the answers of deliver and compose: the code of either, deliver's counts, the length of what compose wrote.
+ * The code of the two calls on texts, further down, is taken out in the same way. */
 static inline uint32_t bivamolune_code(uint32_t answer) { return answer % 256u; }
 static inline int bivamolune_accepted(uint32_t answer) { return bivamolune_code(answer) == BIVAMOLUNE_ACCEPTED; }
 static inline uint32_t bivamolune_undos(uint32_t answer) { return answer / 256u % 256u; }
@@ -198,6 +211,19 @@ uint64_t bivamolune_log_message(const uint8_t *image, size_t image_size, uint32_
 static inline uint32_t bivamolune_log_message_code(uint64_t answer) { return (uint32_t)(answer % 256u); }
 static inline size_t bivamolune_log_message_length(uint64_t answer) { return (size_t)(answer / 256u % 16777216u); }
 static inline size_t bivamolune_log_message_offset(uint64_t answer) { return (size_t)(answer / 4294967296u); }
+
+/* Reads a text of one to eight sequences, each of 24 characters of 0-9 and A-F (small letters are wrong), with one comma
+ * between two, and writes the sequences end to end, 12 bytes each, to the front of the sequence buffer; the bytes behind them
+ * are unchanged. They may stand in any order and more than once. The text needs no NUL at its end, and one that is handed over
+ * is a wrong character. */
+uint32_t bivamolune_read_sequences(const uint8_t *text, size_t text_size, uint8_t *sequences, size_t sequences_size);
+
+/* Writes one to eight sequences, handed over end to end, as text to the front of the text buffer; the bytes behind it are
+ * unchanged, and no NUL is written. Reading the text gives the sequences, and a text that was read is written as it was. */
+uint32_t bivamolune_write_sequences(const uint8_t *sequences, size_t sequences_size, uint8_t *text, size_t text_size);
+
+/* The length that either of the two has written, 0 beside a refusal. */
+static inline size_t bivamolune_written_length(uint32_t answer) { return answer / 256u; }
 
 /* What stands in an image. These look at BIVAMOLUNE_IMAGE_SIZE bytes and judge nothing: hand them what empty or deliver
  * accepted. */

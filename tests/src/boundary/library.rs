@@ -41,6 +41,22 @@ extern "C" {
 
     #[cfg(feature = "library-log-message")]
     fn bivamolune_log_message(image: *const u8, image_size: usize, place: u32) -> u64;
+
+    #[cfg(feature = "library-read-sequences")]
+    fn bivamolune_read_sequences(
+        text: *const u8,
+        text_size: usize,
+        sequences: *mut u8,
+        sequences_size: usize,
+    ) -> u32;
+
+    #[cfg(feature = "library-write-sequences")]
+    fn bivamolune_write_sequences(
+        sequences: *const u8,
+        sequences_size: usize,
+        text: *mut u8,
+        text_size: usize,
+    ) -> u32;
 }
 
 /// The functions of the static library.
@@ -86,5 +102,29 @@ impl Calls for Library {
     #[cfg(feature = "library-log-message")]
     fn log_message(&self, image: &[u8], place: u32) -> u64 {
         unsafe { bivamolune_log_message(image.as_ptr(), image.len(), place) }
+    }
+
+    #[cfg(feature = "library-read-sequences")]
+    fn read_sequences(&self, text: &[u8], sequences: &mut [u8]) -> u32 {
+        unsafe {
+            bivamolune_read_sequences(
+                text.as_ptr(),
+                text.len(),
+                sequences.as_mut_ptr(),
+                sequences.len(),
+            )
+        }
+    }
+
+    #[cfg(feature = "library-write-sequences")]
+    fn write_sequences(&self, sequences: &[u8], text: &mut [u8]) -> u32 {
+        unsafe {
+            bivamolune_write_sequences(
+                sequences.as_ptr(),
+                sequences.len(),
+                text.as_mut_ptr(),
+                text.len(),
+            )
+        }
     }
 }

@@ -1,4 +1,4 @@
-//! The five calls on byte buffers, with their answers packed into one number.
+//! The seven calls on byte buffers, with their answers packed into one number.
 
 #[cfg(feature = "earlier")]
 mod earlier;
@@ -15,6 +15,7 @@ pub use library::Library;
 use crate::reference::code::Code;
 use crate::reference::compose::{compose, Request};
 use crate::reference::station::{deliver, empty, log_message, log_message_code, setpoint};
+use crate::reference::text::{read_sequences, write_sequences};
 
 /// The calls of an implementation, as the C boundary has them. One that an implementation
 /// does not have is answered by the second implementation.
@@ -44,6 +45,16 @@ pub trait Calls {
     fn log_message(&self, image: &[u8], place: u32) -> u64 {
         Reference.log_message(image, place)
     }
+
+    /// The code + 256 * length of the sequences.
+    fn read_sequences(&self, text: &[u8], sequences: &mut [u8]) -> u32 {
+        Reference.read_sequences(text, sequences)
+    }
+
+    /// The code + 256 * length of the text.
+    fn write_sequences(&self, sequences: &[u8], text: &mut [u8]) -> u32 {
+        Reference.write_sequences(sequences, text)
+    }
 }
 
 /// The second implementation. It has every call.
@@ -63,10 +74,7 @@ impl Calls for Reference {
     }
 
     fn compose(&self, image: &[u8], request: &Request, message: &mut [u8]) -> u32 {
-        match compose(image, request, message) {
-            Ok(length) => 256 * length as u32,
-            Err(code) => code.number(),
-        }
+        with_length(compose(image, request, message))
     }
 
     fn setpoint(&self, image: &[u8], tag: u32) -> u64 {
@@ -83,6 +91,22 @@ impl Calls for Reference {
             }
             code => packed(code, 0),
         }
+    }
+
+    fn read_sequences(&self, text: &[u8], sequences: &mut [u8]) -> u32 {
+        with_length(read_sequences(text, sequences))
+    }
+
+    fn write_sequences(&self, sequences: &[u8], text: &mut [u8]) -> u32 {
+        with_length(write_sequences(sequences, text))
+    }
+}
+
+/// The code and the length written.
+fn with_length(written: Result<usize, Code>) -> u32 {
+    match written {
+        Ok(length) => 256 * length as u32,
+        Err(code) => code.number(),
     }
 }
 
@@ -112,7 +136,7 @@ pub fn executions(answer: impl Into<u64>) -> usize {
     (answer.into() / 65_536) as usize
 }
 
-/// The length in the packed answer of compose or log message.
+/// The length in the packed answer of compose, log message, the reader or the writer.
 pub fn length(answer: impl Into<u64>) -> usize {
     (answer.into() % (1 << 32) / 256) as usize
 }
@@ -140,6 +164,10 @@ pub const COMPARED: &[&str] = &[
     "bivamolune_setpoint",
     #[cfg(feature = "library-log-message")]
     "bivamolune_log_message",
+    #[cfg(feature = "library-read-sequences")]
+    "bivamolune_read_sequences",
+    #[cfg(feature = "library-write-sequences")]
+    "bivamolune_write_sequences",
 ];
 
 #[cfg(all(test, feature = "link"))]

@@ -27,6 +27,10 @@ pub enum Code {
     Crowded = 11,
     /// Log place not below L, or tag above 63.
     Place = 12,
+    /// Text: a wrong character, length or comma; sequences not 12 to 96 bytes by twelves.
+    Form = 13,
+    /// Text: a number 0000.
+    Zero = 14,
 }
 
 impl Code {

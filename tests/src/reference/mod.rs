@@ -9,6 +9,8 @@ pub mod message;
 pub mod order;
 pub mod plain;
 pub mod reader;
+pub mod sequences;
 pub mod setpoints;
 pub mod station;
 pub mod steps;
+pub mod text;
