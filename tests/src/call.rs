@@ -46,6 +46,16 @@ pub enum Action {
     Setpoint(u32),
     /// Asks for the log's message at a place.
     LogMessage(u32),
+    /// Reads a text into a buffer of a size.
+    ReadSequences {
+        text: Vec<u8>,
+        room: usize,
+    },
+    /// Writes sequences as text into a buffer of a size.
+    WriteSequences {
+        sequences: Vec<u8>,
+        room: usize,
+    },
 }
 
 /// What a compose is handed beside the image.
@@ -111,8 +121,9 @@ impl Action {
     }
 }
 
-/// Everything that can be seen after a call: the answer, the image buffer, the step or
-/// message buffer whole, and what the call only reads, which it must leave as it was.
+/// Everything that can be seen after a call: the answer, the image buffer, the step,
+/// message, sequence or text buffer whole, and what the call only reads, which it must leave
+/// as it was. `text` is the text or the sequences that a call on texts is handed.
 #[derive(Clone, Debug, Default, PartialEq, Eq)]
 pub struct Outcome {
     pub answer: u64,
@@ -121,17 +132,19 @@ pub struct Outcome {
     pub message: Vec<u8>,
     pub line: Vec<u8>,
     pub commands: Vec<u8>,
+    pub text: Vec<u8>,
 }
 
 impl Outcome {
     /// The buffers and their names.
-    pub fn buffers(&self) -> [(&'static str, &[u8]); 5] {
+    pub fn buffers(&self) -> [(&'static str, &[u8]); 6] {
         [
             ("image", &self.image),
             ("buffer", &self.buffer),
             ("message", &self.message),
             ("line", &self.line),
             ("commands", &self.commands),
+            ("text", &self.text),
         ]
     }
 }
@@ -164,6 +177,14 @@ impl World {
             Action::Compose(composing) => compose(calls, image, composing.clone()),
             Action::Setpoint(tag) => read(calls.setpoint(&image, *tag), image),
             Action::LogMessage(place) => read(calls.log_message(&image, *place), image),
+            Action::ReadSequences { text, room } => {
+                let by = |from: &[u8], into: &mut [u8]| calls.read_sequences(from, into);
+                convert(by, image, text, *room)
+            }
+            Action::WriteSequences { sequences, room } => {
+                let by = |from: &[u8], into: &mut [u8]| calls.write_sequences(from, into);
+                convert(by, image, sequences, *room)
+            }
         }
     }
 
@@ -238,6 +259,25 @@ fn compose(calls: &dyn Calls, image: Vec<u8>, own: Composing) -> Outcome {
         buffer,
         line: own.line,
         commands: own.commands,
+        ..Outcome::default()
+    }
+}
+
+/// A copy of a text or of sequences turned into the other, in a buffer of a size. The image
+/// is no part of it.
+fn convert(
+    by: impl Fn(&[u8], &mut [u8]) -> u32,
+    image: Vec<u8>,
+    from: &[u8],
+    room: usize,
+) -> Outcome {
+    let (text, mut buffer) = (from.to_vec(), pattern(room));
+    let answer = by(&text, &mut buffer);
+    Outcome {
+        answer: answer.into(),
+        image,
+        buffer,
+        text,
         ..Outcome::default()
     }
 }

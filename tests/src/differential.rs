@@ -167,7 +167,9 @@ pub fn trace(one: &dyn Calls, two: &dyn Calls, calls: &[Call]) -> String {
 fn answer(call: &Call, packed: u64) -> String {
     let parts = match call.action {
         Action::Empty => String::new(),
-        Action::Compose(_) => format!(" length {}", length(packed)),
+        Action::Compose(_) | Action::ReadSequences { .. } | Action::WriteSequences { .. } => {
+            format!(" length {}", length(packed))
+        }
         Action::Deliver { .. } | Action::DeliverComposed { .. } => {
             let (undone, executed) = (undos(packed), executions(packed));
             format!(" undos {undone} executions {executed}")
@@ -187,6 +189,12 @@ fn describe(call: &Call) -> String {
             format!("Deliver steps {steps} message {}", hex(message))
         }
         Action::Compose(composing) => composing.to_string(),
+        Action::ReadSequences { text, room } => {
+            format!("ReadSequences room {room} text {}", text.escape_ascii())
+        }
+        Action::WriteSequences { sequences, room } => {
+            format!("WriteSequences room {room} sequences {}", hex(sequences))
+        }
         other => format!("{other:?}"),
     };
     format!("{:?} {action}", call.view)

@@ -115,3 +115,18 @@ impl Draft {
         bytes
     }
 }
+
+/// The text of sequences that lie end to end. Nothing is checked: bytes of any length are
+/// written, with a comma after each twelve but the last.
+pub fn text(sequences: &[u8]) -> Vec<u8> {
+    const DIGITS: &[u8; 16] = b"0123456789ABCDEF";
+    let mut text = Vec::new();
+    for (place, byte) in sequences.iter().enumerate() {
+        if place > 0 && place % 12 == 0 {
+            text.push(b',');
+        }
+        text.push(DIGITS[usize::from(byte >> 4)]);
+        text.push(DIGITS[usize::from(byte & 15)]);
+    }
+    text
+}

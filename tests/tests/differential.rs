@@ -34,16 +34,20 @@ fn a_byte_of_any_buffer_is_a_difference() {
         message: vec![3; 3],
         line: vec![4; 3],
         commands: vec![5; 3],
+        text: vec![6; 3],
     };
     assert_eq!(difference(&one, &one.clone()), None);
-    let mut others = vec![one.clone(); 6];
+    let mut others = vec![one.clone(); 7];
     others[0].image[2] = 9;
     others[1].buffer[2] = 9;
     others[2].message[2] = 9;
     others[3].line[2] = 9;
     others[4].commands[2] = 9;
-    others[5].answer = 9;
-    let names = ["image", "buffer", "message", "line", "commands", "answers"];
+    others[5].text[2] = 9;
+    others[6].answer = 9;
+    let names = [
+        "image", "buffer", "message", "line", "commands", "text", "answers",
+    ];
     for (other, name) in others.iter().zip(names) {
         let found = difference(&one, other).expect("a difference");
         assert!(found.starts_with(name), "{found}");
@@ -78,7 +82,40 @@ fn what_a_call_reads_is_in_its_outcome() {
     let (image, found) = perform(Action::LogMessage(0));
     assert_eq!((offset(found.answer), length(found.answer)), (272, 48));
     assert!(found.image == image);
+    texts_are_in_their_outcome(&mut perform);
 }
+
+/// The same of the calls on texts, which leave the station as it is.
+fn texts_are_in_their_outcome(perform: &mut dyn FnMut(Action) -> (Vec<u8>, Outcome)) {
+    let (text, sequences) = (
+        b"0102030405060708090A0B0C".to_vec(),
+        (1..=12).collect::<Vec<u8>>(),
+    );
+    let reading = Action::ReadSequences {
+        text: text.clone(),
+        room: 97,
+    };
+    let (image, read) = perform(reading);
+    assert_eq!((read.answer, &read.text), (12 * 256, &text));
+    assert_eq!(
+        (&read.buffer[..12], read.buffer.len()),
+        (&sequences[..], 97)
+    );
+    let writing = Action::WriteSequences {
+        sequences: sequences.clone(),
+        room: 200,
+    };
+    let (same, written) = perform(writing);
+    assert_eq!((written.answer, &written.text), (24 * 256, &sequences));
+    assert_eq!(
+        (&written.buffer[..24], written.buffer.len()),
+        (&text[..], 200)
+    );
+    assert!(image == read.image && image == same && image == written.image);
+}
+
+/// Where the faults of texts begin among all.
+const TEXTS: usize = 35;
 
 /// The most calls that the shortest list for a fault has.
 fn bound(fault: Fault) -> usize {
@@ -91,6 +128,8 @@ fn bound(fault: Fault) -> usize {
         Fault::TailNotCleared | Fault::RangeBeforeDependencies => 2,
         // Empty, eight ends of the log with all they need, and compose.
         Fault::ComposeAtEight => 25,
+        // A call on texts stands alone.
+        fault if FAULTS[TEXTS..].contains(&fault) => 1,
         _ => 10,
     }
 }
@@ -159,6 +198,11 @@ fn the_program_counts_what_it_ran() {
         .unwrap_or(0);
     let deliveries: usize = words[at - 1].parse().expect("a number");
     assert!(deliveries >= 500);
+    for what in [" texts read, ", " texts written, "] {
+        let (before, _) = printed.split_once(what).expect("texts are counted");
+        let count = before.rsplit(' ').next().and_then(|word| word.parse().ok());
+        assert!(count > Some(10), "{printed}");
+    }
 }
 
 #[test]

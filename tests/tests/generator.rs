@@ -6,10 +6,13 @@ mod common;
 
 use std::collections::{BTreeMap, BTreeSet};
 
-use bivamolune_tests::boundary::{code, executions, undos, Reference};
+use bivamolune_tests::boundary::{code, executions, length, undos, Calls, Reference};
 use bivamolune_tests::call::{Action, Call, Composing, Outcome, View, World};
 use bivamolune_tests::edit::Edit;
-use bivamolune_tests::generate::{any_draft, case, damaged_message, drafts, nearly_right, LIMIT};
+use bivamolune_tests::generate::{
+    any_draft, any_sequences, case, damaged_message, drafts, nearly_right, nearly_right_sequences,
+    nearly_right_text, LIMIT,
+};
 use bivamolune_tests::random::Random;
 use bivamolune_tests::view::{steps, Step};
 use common::{delta, messages, u16_at, u32_at, Station, A, B, C, IMAGE};
@@ -38,6 +41,8 @@ fn name(action: &Action) -> &'static str {
         Action::Compose(_) => "compose",
         Action::Setpoint(_) => "setpoint",
         Action::LogMessage(_) => "log message",
+        Action::ReadSequences { .. } => "read sequences",
+        Action::WriteSequences { .. } => "write sequences",
     }
 }
 
@@ -58,6 +63,7 @@ fn run(seed: u64, seen: &mut Seen) {
         mark_room(seen, &call.action, answered);
         mark_edit(seen, &call, answered);
         mark_reading(seen, &call.action, answered);
+        mark_texts(seen, &call.action, &outcome);
         world.follow(&call, &outcome);
     }
 }
@@ -139,6 +145,40 @@ fn mark_reading(seen: &mut Seen, action: &Action, answered: u32) {
     seen.mark("a late place", late);
 }
 
+/// Marks of a call on texts: buffers one byte off, one sequence and eight, nine refused,
+/// numbers 0000 before the last, and what only the form makes wrong.
+fn mark_texts(seen: &mut Seen, action: &Action, outcome: &Outcome) {
+    let answered = code(outcome.answer);
+    let (from, least, length) = match action {
+        Action::ReadSequences { text, .. } => (text, 96, length(outcome.answer)),
+        Action::WriteSequences { sequences, .. } => (sequences, 199, sequences.len()),
+        _ => return,
+    };
+    let room = outcome.buffer.len();
+    let reads = least == 96;
+    seen.mark("95 refused", room == 95 && answered == 1);
+    seen.mark("97 taken", room == 97 && answered == 0);
+    seen.mark("198 refused", room == 198 && answered == 1);
+    seen.mark("200 taken", room == 200 && answered == 0);
+    seen.mark("one sequence", answered == 0 && length == 12);
+    seen.mark("eight sequences", answered == 0 && length == 96);
+    seen.mark("nine to read", reads && from.len() == 224 && answered == 13);
+    seen.mark(
+        "nine to write",
+        !reads && from.len() == 108 && answered == 13,
+    );
+    let early = reads && answered == 14 && !from.ends_with(b"0000");
+    seen.mark("an early 0000", early);
+    let small = from.to_ascii_uppercase() != *from && reads && answered == 13;
+    seen.mark("a small letter", small);
+    seen.mark(
+        "a comma last",
+        reads && from.len() % 25 == 0 && from.ends_with(b","),
+    );
+    let of_form = reads && from.len() % 25 == 24 && from.len() < 200;
+    seen.mark("13 at a right length", of_form && answered == 13);
+}
+
 /// Marks of a call on an edited copy.
 fn mark_edit(seen: &mut Seen, call: &Call, answered: u32) {
     let edited = matches!(call.view, View::Edited(_));
@@ -156,12 +196,14 @@ fn every_code_of_every_call_and_hard_logs() {
         run(seed, &mut seen);
     }
     println!("{:?}\n{:?}", seen.codes, seen.marks);
-    let lists: [(&str, &[u32]); 5] = [
+    let lists: [(&str, &[u32]); 7] = [
         ("empty", &[0, 1]),
         ("deliver", &[0, 1, 2, 3, 4, 5, 6, 7, 8]),
         ("compose", &[0, 1, 2, 3, 6, 9, 10, 11]),
         ("log message", &[0, 1, 2, 12]),
         ("setpoint", &[0, 1, 2, 12]),
+        ("read sequences", &[0, 1, 13, 14]),
+        ("write sequences", &[0, 1, 13, 14]),
     ];
     let of = |(call, codes): (&'static str, &'static [u32])| codes.iter().map(move |c| (call, *c));
     let wanted: BTreeSet<_> = lists.into_iter().flat_map(of).collect();
@@ -170,7 +212,7 @@ fn every_code_of_every_call_and_hard_logs() {
     for (call, count) in &seen.codes {
         assert!(*count >= 10, "{call:?} only {count} times");
     }
-    assert_eq!(seen.marks.len(), 24);
+    assert_eq!(seen.marks.len(), 36);
     for (mark, count) in &seen.marks {
         assert!(*count >= 10, "{mark} only {count} times");
     }
@@ -225,6 +267,42 @@ fn nearly_right_messages_meet_the_code_they_are_made_for() {
     }
     assert_eq!(codes.keys().copied().collect::<Vec<_>>(), [3, 4, 5, 6]);
     assert!(codes.values().all(|count| *count > 500), "{codes:?}");
+}
+
+/// Sequences are right, and what has one thing wrong meets the code that it is made for.
+#[test]
+fn texts_meet_the_code_they_are_made_for() {
+    let mut met: BTreeMap<(&str, u32), usize> = BTreeMap::new();
+    for seed in 0..4_000 {
+        let mut random = Random::new(seed);
+        let right = any_sequences(&mut random);
+        let answer = Reference.write_sequences(&right, &mut [0; 199]);
+        assert_eq!(
+            answer,
+            256 * (25 * right.len() as u32 / 12 - 1),
+            "seed {seed}"
+        );
+        let (code, text) = nearly_right_text(&mut random);
+        assert_eq!(
+            Reference.read_sequences(&text, &mut [0; 96]),
+            code,
+            "seed {seed}"
+        );
+        *met.entry(("read", code)).or_default() += 1;
+        let (code, bytes) = nearly_right_sequences(&mut random);
+        assert_eq!(
+            Reference.write_sequences(&bytes, &mut [0; 199]),
+            code,
+            "seed {seed}"
+        );
+        *met.entry(("write", code)).or_default() += 1;
+    }
+    let kinds: Vec<_> = met.keys().copied().collect();
+    assert_eq!(
+        kinds,
+        [("read", 13), ("read", 14), ("write", 13), ("write", 14)]
+    );
+    assert!(met.values().all(|count| *count > 500), "{met:?}");
 }
 
 #[test]

@@ -76,6 +76,20 @@ impl Calls for Recorder {
         self.number(place);
         Reference.log_message(image, place)
     }
+
+    fn read_sequences(&self, text: &[u8], sequences: &mut [u8]) -> u32 {
+        self.letter(b'r');
+        self.buffer(text);
+        self.number(sequences.len() as u32);
+        Reference.read_sequences(text, sequences)
+    }
+
+    fn write_sequences(&self, sequences: &[u8], text: &mut [u8]) -> u32 {
+        self.letter(b'w');
+        self.buffer(sequences);
+        self.number(text.len() as u32);
+        Reference.write_sequences(sequences, text)
+    }
 }
 
 fn main() -> ExitCode {

@@ -139,13 +139,16 @@ fn many_seeds(other: &Counted, options: &Options, what: &str) -> bool {
     }
     println!(
         "no difference: {cases} cases from seed {}, {all_calls} calls, {} deliveries, {} empties, \
-         {} composes, {} setpoints, {} log messages, {} s; compared: {what}",
+         {} composes, {} setpoints, {} log messages, {} texts read, {} texts written, {} s; \
+         compared: {what}",
         options.start,
         other.deliver.get(),
         other.empty.get(),
         other.compose.get(),
         other.setpoint.get(),
         other.log_message.get(),
+        other.read_sequences.get(),
+        other.write_sequences.get(),
         begin.elapsed().as_secs()
     );
     true
@@ -159,6 +162,8 @@ struct Counted<'a> {
     compose: Cell<u64>,
     setpoint: Cell<u64>,
     log_message: Cell<u64>,
+    read_sequences: Cell<u64>,
+    write_sequences: Cell<u64>,
 }
 
 impl Counted<'_> {
@@ -170,6 +175,8 @@ impl Counted<'_> {
             compose: Cell::new(0),
             setpoint: Cell::new(0),
             log_message: Cell::new(0),
+            read_sequences: Cell::new(0),
+            write_sequences: Cell::new(0),
         }
     }
 }
@@ -198,5 +205,15 @@ impl Calls for Counted<'_> {
     fn log_message(&self, image: &[u8], place: u32) -> u64 {
         self.log_message.set(self.log_message.get() + 1);
         self.calls.log_message(image, place)
+    }
+
+    fn read_sequences(&self, text: &[u8], sequences: &mut [u8]) -> u32 {
+        self.read_sequences.set(self.read_sequences.get() + 1);
+        self.calls.read_sequences(text, sequences)
+    }
+
+    fn write_sequences(&self, sequences: &[u8], text: &mut [u8]) -> u32 {
+        self.write_sequences.set(self.write_sequences.get() + 1);
+        self.calls.write_sequences(sequences, text)
     }
 }

@@ -2,6 +2,7 @@
 //! differential runner finds its fault.
 
 mod pairs;
+mod texts;
 
 use crate::boundary::{code, executions, length, packed, undos, value, Calls, Reference};
 use crate::reference::bytes::{i32_at, u16_at, u8_at};
@@ -86,10 +87,54 @@ pub enum Fault {
     StillLeftOut,
     /// Takes a step buffer of 10,159 bytes.
     ShortRoom,
+    /// The reader takes small letters.
+    SmallLettersRead,
+    /// The reader takes G, as a 0.
+    LetterG,
+    /// The reader takes a colon, which follows 9, for a digit of 10.
+    ColonRead,
+    /// The reader does not look at the places of the commas.
+    CommaUnchecked,
+    /// The reader takes a comma after the last sequence.
+    CommaLast,
+    /// The reader takes nine sequences.
+    NineRead,
+    /// The writer takes nine sequences.
+    NineWritten,
+    /// The reader answers 14 where 13 applies too.
+    ZeroBeforeForm,
+    /// The reader takes a buffer of 95 bytes.
+    RoomOf95,
+    /// The writer takes a buffer of 198 bytes.
+    RoomOf198,
+    /// Reader and writer answer 13 where 1 applies too.
+    FormBeforeSize,
+    /// Reader and writer exchange the digits of each byte, so that a round trip fits.
+    DigitsSwapped,
+    /// The reader looks for 0000 in the last sequence alone.
+    LastNumberOnly,
+    /// The writer does not look for 0000.
+    WritesZero,
+    /// The writer ends its text by a NUL, which it does not count.
+    NulWritten,
+    /// The writer joins by semicolons.
+    Semicolons,
+    /// The writer writes small letters.
+    SmallLettersWritten,
+    /// The reader answers how many sequences there are.
+    CountsSequences,
+    /// The reader writes the sequences that it refuses by 14.
+    ReadsThenRefuses,
+    /// Reader and writer clear the bytes behind what they write.
+    RestCleared,
+    /// The writer sorts the sequences.
+    Ascending,
+    /// The reader refuses a sequence that stands twice.
+    RepeatsRefused,
 }
 
 /// Every fault. Those that the paper names as programs that come close are among them.
-pub const FAULTS: [Fault; 35] = [
+pub const FAULTS: [Fault; 57] = [
     Fault::FullAt63,
     Fault::KeyAlone,
     Fault::TailNotCleared,
@@ -125,6 +170,28 @@ pub const FAULTS: [Fault; 35] = [
     Fault::UnusedNotCleared,
     Fault::StillLeftOut,
     Fault::ShortRoom,
+    Fault::SmallLettersRead,
+    Fault::LetterG,
+    Fault::ColonRead,
+    Fault::CommaUnchecked,
+    Fault::CommaLast,
+    Fault::NineRead,
+    Fault::NineWritten,
+    Fault::ZeroBeforeForm,
+    Fault::RoomOf95,
+    Fault::RoomOf198,
+    Fault::FormBeforeSize,
+    Fault::DigitsSwapped,
+    Fault::LastNumberOnly,
+    Fault::WritesZero,
+    Fault::NulWritten,
+    Fault::Semicolons,
+    Fault::SmallLettersWritten,
+    Fault::CountsSequences,
+    Fault::ReadsThenRefuses,
+    Fault::RestCleared,
+    Fault::Ascending,
+    Fault::RepeatsRefused,
 ];
 
 /// The second implementation with one fault.
@@ -225,6 +292,14 @@ impl Calls for Faulty {
             (Fault::OffsetFromMessages, 0) => answer - packed(0, 272),
             _ => answer,
         }
+    }
+
+    fn read_sequences(&self, text: &[u8], sequences: &mut [u8]) -> u32 {
+        texts::read(self.0, text, sequences)
+    }
+
+    fn write_sequences(&self, sequences: &[u8], text: &mut [u8]) -> u32 {
+        texts::write(self.0, sequences, text)
     }
 }
 

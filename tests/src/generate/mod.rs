@@ -1,13 +1,16 @@
-//! Hard inputs from a seed: sets of deltas, wrong messages, edits, lists of calls, streams.
+//! Hard inputs from a seed: sets of deltas, wrong messages, edits, texts, lists of calls,
+//! streams.
 
 mod right;
 mod sets;
 mod streams;
+mod texts;
 mod wrong;
 
 pub use right::any_draft;
 pub use sets::{drafts, LIMIT, LINES};
 pub use streams::stream;
+pub use texts::{any_sequences, nearly_right_sequences, nearly_right_text, text_call};
 pub use wrong::{conflicting, damaged_message, nearly_right};
 
 use crate::call::{Action, Call, Composing, View};
@@ -83,6 +86,7 @@ pub fn case(seed: u64) -> Vec<Call> {
     if random.chance(2) {
         read_everywhere(&mut random, &mut calls);
     }
+    texts::add_texts(seed, &mut calls);
     calls
 }
 

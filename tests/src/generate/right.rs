@@ -38,7 +38,7 @@ fn any_number(random: &mut Random) -> u16 {
     }
 }
 
-fn any_sequence(random: &mut Random) -> Sequence {
+pub fn any_sequence(random: &mut Random) -> Sequence {
     sequence(any_line(random), any_number(random))
 }
 
