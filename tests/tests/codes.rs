@@ -8,6 +8,7 @@ use bivamolune_tests::boundary::Calls;
 use bivamolune_tests::reference::compose::Request;
 use bivamolune_tests::reference::reader::Reader;
 use bivamolune_tests::wire::{line, sequence, set};
+use common::text::{read, read_into, refusal, write, write_into, ONE, ONE_TEXT};
 use common::{
     a1, delta, log_message, log_message_code, plain_request, setpoint, Station, A, D, IMAGE,
     MESSAGE, PATTERN, STEPS, SUBJECT,
@@ -127,4 +128,17 @@ fn row_12_place_0_of_an_empty_log() {
     assert!(log_message(&station.image, 0).is_empty());
     assert_eq!(setpoint(&station.image, 64), (12, 0));
     assert_eq!(setpoint(&station.image, 63), (0, 0));
+}
+
+/// Change request 2 has no table; its conditions, each with one input.
+#[test]
+fn codes_13_and_14_and_1_of_texts() {
+    assert_eq!(read(b"0102030405060708090a0B0C"), refusal(13));
+    assert_eq!(read(b"0102030405060708090A0B0"), refusal(13));
+    assert_eq!(read(b"0102030405060708090A0B0C,"), refusal(13));
+    assert_eq!(write(&ONE[..11]), refusal(13));
+    assert_eq!(read(b"0102030405060708090A0000"), refusal(14));
+    assert_eq!(write(&[1, 2, 3, 4, 5, 6, 7, 8, 9, 10, 0, 0]), refusal(14));
+    assert_eq!(read_into(ONE_TEXT.as_bytes(), 95), refusal(1));
+    assert_eq!(write_into(&ONE, 198), refusal(1));
 }

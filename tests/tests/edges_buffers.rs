@@ -8,6 +8,7 @@ use bivamolune_tests::boundary::Calls;
 use bivamolune_tests::reference::compose::Request;
 use bivamolune_tests::reference::reader::Reader;
 use bivamolune_tests::wire::{line, Draft};
+use common::text::{read_into, refusal, some_sequences, some_text, write_into};
 use common::{
     a1, b1, delta, log_message, log_message_code, plain_request, setpoint, steps, Station, A, B,
     IMAGE, MESSAGE, PATTERN, STEPS, SUBJECT,
@@ -217,4 +218,56 @@ fn one_hundred_and_twenty_seven_steps() {
     let all: Vec<String> = undos.chain(["+A1".to_string()]).chain(executions).collect();
     assert_eq!(all.len(), 127);
     assert_eq!(station.deliver(&a1()), steps(0, &all.join(" ")));
+}
+
+/// Every size up to the least and past it, for one sequence as for eight: what is needed is
+/// room for eight, whatever the text has.
+#[test]
+fn sequence_buffer_sizes() {
+    for size in (0..=130).chain([199, 200, 4_096]) {
+        for count in [1, 2, 7, 8] {
+            let expected = match size < 96 {
+                true => refusal(1),
+                false => (0, some_sequences(count)),
+            };
+            assert_eq!(read_into(&some_text(count), size), expected, "{size}");
+        }
+    }
+}
+
+#[test]
+fn text_buffer_sizes() {
+    for size in (0..=260).chain([4_096]) {
+        for count in [1, 2, 7, 8] {
+            let expected = match size < 199 {
+                true => refusal(1),
+                false => (0, some_text(count)),
+            };
+            assert_eq!(write_into(&some_sequences(count), size), expected, "{size}");
+        }
+    }
+}
+
+/// The buffers of the two are not asked for the size of the other's.
+#[test]
+fn the_two_least_sizes_differ() {
+    assert_eq!(read_into(&some_text(8), 198).0, 0);
+    assert_eq!(write_into(&some_sequences(1), 96).0, 1);
+}
+
+/// The byte past the text is no NUL, nor is any other touched.
+#[test]
+fn bytes_past_a_text_stay() {
+    for byte in [0x00, 0x2C, 0x30, 0xFF] {
+        for (count, length) in [(1, 24), (2, 49), (8, 199)] {
+            let mut text = vec![byte; 300];
+            let answer = SUBJECT.write_sequences(&some_sequences(count), &mut text);
+            assert_eq!(answer, 256 * length);
+            assert!(text[length as usize..].iter().all(|left| *left == byte));
+            let mut sequences = vec![byte; 300];
+            let answer = SUBJECT.read_sequences(&some_text(count), &mut sequences);
+            assert_eq!(answer, 256 * 12 * count as u32);
+            assert!(sequences[12 * count..].iter().all(|left| *left == byte));
+        }
+    }
 }

@@ -171,10 +171,8 @@ fn mark_texts(seen: &mut Seen, action: &Action, outcome: &Outcome) {
     seen.mark("an early 0000", early);
     let small = from.to_ascii_uppercase() != *from && reads && answered == 13;
     seen.mark("a small letter", small);
-    seen.mark(
-        "a comma last",
-        reads && from.len() % 25 == 0 && from.ends_with(b","),
-    );
+    let ends_in_comma = reads && from.len() % 25 == 0 && from.ends_with(b",");
+    seen.mark("a comma last", ends_in_comma && answered == 13);
     let of_form = reads && from.len() % 25 == 24 && from.len() < 200;
     seen.mark("13 at a right length", of_form && answered == 13);
 }

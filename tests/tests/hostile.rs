@@ -8,12 +8,16 @@ mod common;
 use std::collections::BTreeMap;
 
 use bivamolune_tests::boundary::{code, Calls};
-use bivamolune_tests::generate::{any_draft, conflicting, drafts, nearly_right};
+use bivamolune_tests::generate::{
+    any_draft, any_sequences, conflicting, drafts, nearly_right, nearly_right_sequences,
+    nearly_right_text,
+};
 use bivamolune_tests::random::Random;
 use bivamolune_tests::reference::compose::Request;
 use bivamolune_tests::reference::listing::listing;
 use bivamolune_tests::reference::reader::Reader;
-use bivamolune_tests::wire::Draft;
+use bivamolune_tests::wire::{text, Draft};
+use common::text::{read_into, refusal, write_into};
 use common::{log_message, log_message_code, setpoint, Station, IMAGE, MESSAGE, STEPS, SUBJECT};
 
 /// A buffer of any bytes, of a size near one that matters.
@@ -138,4 +142,98 @@ fn nearly_right_messages_are_listed_with_their_number() {
         }
     }
     assert_eq!(met.keys().copied().collect::<Vec<u32>>(), [3, 4, 5, 6]);
+}
+
+/// The code of a text by the places of its characters: a comma at each 25th, digits
+/// elsewhere, and 0000 at no number's place.
+fn code_of_text(text: &[u8]) -> u32 {
+    let lengths = [24, 49, 74, 99, 124, 149, 174, 199];
+    let digits = b"0123456789ABCDEF";
+    let fits = |(at, c): (usize, &u8)| match at % 25 {
+        24 => *c == b',',
+        _ => digits.contains(c),
+    };
+    if !lengths.contains(&text.len()) || !text.iter().enumerate().all(fits) {
+        return 13;
+    }
+    let zero = |last: usize| (last - 4..last).all(|at| text[at] == b'0');
+    match (24..=text.len()).step_by(25).any(zero) {
+        true => 14,
+        false => 0,
+    }
+}
+
+/// The code of bytes to be written.
+fn code_of_sequences(bytes: &[u8]) -> u32 {
+    match bytes.len() {
+        12 | 24 | 36 | 48 | 60 | 72 | 84 | 96 => {}
+        _ => return 13,
+    }
+    let zero = |at: usize| bytes[at] == 0 && bytes[at + 1] == 0;
+    match (10..bytes.len()).step_by(12).any(zero) {
+        true => 14,
+        false => 0,
+    }
+}
+
+/// A text that may be right: characters that nearly always fit their places.
+fn perhaps_right(random: &mut Random) -> Vec<u8> {
+    let length = 25 * random.within(1, 8) - 1;
+    let wrong = random.pick(&[0, 0, 2, 30]);
+    let character = |at: usize| match at % 25 {
+        _ if random.below(1_000) < wrong => random.byte(),
+        24 => b',',
+        20.. if random.chance(60) => b'0',
+        _ => random.pick(b"0123456789ABCDEF"),
+    };
+    (0..length).map(character).collect()
+}
+
+/// Any bytes are answered by reader and writer, by the rule of their places.
+#[test]
+fn any_text_and_any_sequences_are_answered() {
+    let mut met: BTreeMap<(&str, u32), usize> = BTreeMap::new();
+    for seed in 0..20_000 {
+        let mut random = Random::new(11_000_000 + seed);
+        let sizes = [0, 12, 23, 24, 25, 48, 49, 96, 199, 200, 5_000];
+        let bytes = match random.below(3) {
+            0 => noise(&mut random, &sizes),
+            _ => perhaps_right(&mut random),
+        };
+        let room = random.pick(&[0, 95, 96, 97, 198, 199, 200, 5_000]);
+        let expected = if room < 96 { 1 } else { code_of_text(&bytes) };
+        assert_eq!(read_into(&bytes, room).0, expected, "seed {seed}");
+        *met.entry(("read", expected)).or_default() += 1;
+        let bytes = match random.chance(50) {
+            true => bytes,
+            false => noise(&mut random, &[12, 24, 36, 84, 96, 108]),
+        };
+        let expected = if room < 199 {
+            1
+        } else {
+            code_of_sequences(&bytes)
+        };
+        assert_eq!(write_into(&bytes, room).0, expected, "seed {seed}");
+        *met.entry(("write", expected)).or_default() += 1;
+    }
+    assert_eq!(met.len(), 8, "{met:?}");
+    assert!(met.values().all(|count| *count > 100), "{met:?}");
+}
+
+/// Texts and sequences that are right but for one thing are refused by its number, and
+/// right ones are not.
+#[test]
+fn nearly_right_texts_are_refused_by_their_number() {
+    for seed in 0..6_000 {
+        let mut random = Random::new(12_000_000 + seed);
+        let right = any_sequences(&mut random);
+        assert_eq!(write_into(&right, 199), (0, text(&right)), "seed {seed}");
+        assert_eq!(read_into(&text(&right), 96), (0, right), "seed {seed}");
+        let (code, wrong) = nearly_right_text(&mut random);
+        assert_eq!(read_into(&wrong, 96), refusal(code), "seed {seed}");
+        assert_eq!(code_of_text(&wrong), code, "seed {seed}");
+        let (code, wrong) = nearly_right_sequences(&mut random);
+        assert_eq!(write_into(&wrong, 199), refusal(code), "seed {seed}");
+        assert_eq!(code_of_sequences(&wrong), code, "seed {seed}");
+    }
 }

@@ -8,6 +8,7 @@ mod common;
 use bivamolune_tests::boundary::Calls;
 use bivamolune_tests::reference::compose::Request;
 use bivamolune_tests::wire::{line, sequence, set, Draft, Line};
+use common::text::{read_into, refusal, some_sequences, some_text, write_into};
 use common::{
     delta, log_message, log_message_code, plain_request, setpoint, Station, A, B, C, IMAGE,
     MESSAGE, PATTERN, STEPS, SUBJECT,
@@ -243,5 +244,88 @@ fn log_message_and_setpoint_answer_the_lowest() {
 fn empty_answers_1_or_0() {
     for (size, code) in [(IMAGE - 1, 1), (IMAGE, 0), (IMAGE + 1, 1)] {
         assert_eq!(SUBJECT.empty(&mut vec![PATTERN; size]), code);
+    }
+}
+
+/// What is wrong with the form of a text or of sequences by code 13.
+type Spoil = fn(&mut Vec<u8>);
+
+/// Every choice of 1, 13 and 14, with each kind of 13 and each place of 14.
+#[test]
+fn reading_a_text_answers_the_lowest() {
+    let kinds: [Spoil; 9] = [
+        |text| text[0] = b'a',
+        |text| text[49 - 2] = b'G',
+        |text| text[24] = b'0',
+        |text| text[48] = b',',
+        |text| text.push(b','),
+        |text| text.push(b'0'),
+        |text| text.extend(some_text(9)),
+        |text| text.insert(0, b','),
+        |text| text.truncate(48),
+    ];
+    for codes in choices(&[1, 13, 14]) {
+        for zero in [0, 1] {
+            for kind in kinds {
+                let mut text = some_text(2);
+                if codes.contains(&14) {
+                    text[25 * zero + 20..25 * zero + 24].fill(b'0');
+                }
+                if codes.contains(&13) {
+                    kind(&mut text);
+                }
+                let room = if codes.contains(&1) { 95 } else { 96 };
+                let answer = read_into(&text, room);
+                match lowest(&codes) {
+                    0 => assert_eq!(answer, (0, some_sequences(2))),
+                    code => assert_eq!(answer, refusal(code), "{codes:?}"),
+                }
+            }
+        }
+    }
+}
+
+#[test]
+fn writing_a_text_answers_the_lowest() {
+    let kinds: [Spoil; 5] = [
+        |sequences| sequences.truncate(23),
+        |sequences| sequences.push(0),
+        |sequences| sequences.extend(some_sequences(7)),
+        |sequences| sequences.extend([0; 96]),
+        |sequences| sequences.clear(),
+    ];
+    for codes in choices(&[1, 13, 14]) {
+        for zero in [0, 1] {
+            for kind in kinds {
+                let mut sequences = some_sequences(2);
+                if codes.contains(&14) {
+                    sequences[12 * zero + 10..12 * zero + 12].fill(0);
+                }
+                if codes.contains(&13) {
+                    kind(&mut sequences);
+                }
+                let room = if codes.contains(&1) { 198 } else { 199 };
+                let answer = write_into(&sequences, room);
+                match lowest(&codes) {
+                    0 => assert_eq!(answer, (0, some_text(2))),
+                    code => assert_eq!(answer, refusal(code), "{codes:?}"),
+                }
+            }
+        }
+    }
+}
+
+/// A number 0000 in one sequence and a wrong character in another, whichever is first.
+#[test]
+fn form_is_judged_of_all_before_numbers_of_any() {
+    for zero in 0..8 {
+        for wrong in 0..8 {
+            let mut text = some_text(8);
+            text[25 * zero + 20..25 * zero + 24].fill(b'0');
+            assert_eq!(read_into(&text, 96), refusal(14));
+            text[25 * wrong + 3] = b'f';
+            assert_eq!(read_into(&text, 96), refusal(13), "{zero} and {wrong}");
+            assert_eq!(read_into(&text, 95), refusal(1));
+        }
     }
 }

@@ -11,6 +11,7 @@ use std::collections::BTreeSet;
 use bivamolune_tests::call::hex;
 use bivamolune_tests::reference::compose::Request;
 use bivamolune_tests::wire::Line;
+use common::text::{read, write};
 use common::{messages, plain_request, u16_at, u32_at, Station};
 
 const A: Line = [0xE9, 0x64, 0x14, 0x19, 0xD1, 0x8C, 0x02, 0xB9, 0x49, 0x5F];
@@ -150,4 +151,40 @@ fn priority_delta_ordering_by_our_blocks() {
     }
     assert_eq!(rest(&at.a), [A1, A2, B1, B2, C1, A3]);
     assert!(at.a.image == at.b.image);
+}
+
+/// The DepSeq attributes of the publication's examples, as they are printed there. That of
+/// C1 is not ascending.
+const DEP_SEQ: [&str; 12] = [
+    "6B16C44E97E73F6CF9E50001",
+    "187019C3E236699D23110002",
+    "6B16C44E97E73F6CF9E50002",
+    "6B16C44E97E7011B33C40001",
+    "E2D20DF7D85D3E419CCD0002",
+    "E9641419D18C02B9495F0007",
+    "E9641419D18C02B9495F0008,6401C37EFB366A87F4210003",
+    "E2D20DF7D85D3E419CCD0003",
+    "E2D20DF7D85D27460B3E0002",
+    "E9641419D18C367218970007",
+    "E9641419D18C367218970008,6401C37EFB36712340A30003",
+    "E2D20DF7D85D27460B3E0003",
+];
+
+#[test]
+fn published_dep_seq_is_read_and_written_back() {
+    for text in DEP_SEQ {
+        let (code, sequences) = read(text.as_bytes());
+        assert_eq!(code, 0, "{text}");
+        let fields: Vec<String> = sequences.chunks(12).map(hex).collect();
+        assert_eq!(fields.join(","), text);
+        assert_eq!(write(&sequences), (0, text.as_bytes().to_vec()));
+    }
+}
+
+/// The bytes of C1's DepSeq: A2, then B1.
+#[test]
+fn published_dep_seq_in_bytes() {
+    let expected = [&A[..], &[0, 8], &B[..], &[0, 3]].concat();
+    assert_eq!(read(DEP_SEQ[6].as_bytes()), (0, expected.clone()));
+    assert_eq!(write(&expected), (0, DEP_SEQ[6].as_bytes().to_vec()));
 }

@@ -10,7 +10,7 @@ mod wrong;
 pub use right::any_draft;
 pub use sets::{drafts, LIMIT, LINES};
 pub use streams::stream;
-pub use texts::{any_sequences, nearly_right_sequences, nearly_right_text, text_call};
+pub use texts::{any_sequences, either_form, nearly_right_sequences, nearly_right_text, text_call};
 pub use wrong::{conflicting, damaged_message, nearly_right};
 
 use crate::call::{Action, Call, Composing, View};

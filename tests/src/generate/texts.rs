@@ -164,6 +164,32 @@ fn writing(random: &mut Random) -> Action {
     Action::WriteSequences { sequences, room }
 }
 
+/// An input of the program that prints the other form: a text or sequences, right or
+/// nearly, most texts with a line feed.
+pub fn either_form(seed: u64) -> Vec<u8> {
+    let mut random = Random::new(seed);
+    let mut input = match random.below(10) {
+        0..=2 => text(&any_sequences(&mut random)),
+        3 | 4 => any_sequences(&mut random),
+        5 | 6 => nearly_right_text(&mut random).1,
+        7 | 8 => nearly_right_sequences(&mut random).1,
+        _ => noise(&mut random),
+    };
+    match random.below(8) {
+        0..=2 => input.push(b'\n'),
+        3 => input.extend(random.pick(&[b"\n\n", b"\r\n", b"\0\n"])),
+        // Sequences whose last byte is a line feed.
+        4 => input
+            .iter_mut()
+            .last()
+            .into_iter()
+            .for_each(|last| *last = b'\n'),
+        5 if random.chance(20) => input.resize(random.within(190, 600), b'0'),
+        _ => {}
+    }
+    input
+}
+
 /// A call on texts.
 pub fn text_call(random: &mut Random) -> Action {
     match random.chance(60) {

@@ -4,7 +4,7 @@
 pub mod trial;
 
 /// The tests that are run on each change first: those of few inputs.
-pub const QUICK: [&str; 13] = [
+pub const QUICK: [&str; 15] = [
     "examples",
     "codes",
     "edges_message",
@@ -13,20 +13,23 @@ pub const QUICK: [&str; 13] = [
     "edges_compose",
     "edges_buffers",
     "edges_steps",
+    "edges_text",
     "published",
     "plant_fault",
     "story",
     "listing",
+    "sequences",
     "lowest_code",
 ];
 
 /// The tests that are run after those: of many inputs. The tests of the differential runner
 /// are not among them, as they would compare the second implementation with itself.
-pub const SLOW: [&str; 7] = [
+pub const SLOW: [&str; 8] = [
     "accepted",
     "generator",
     "brute_force",
     "hostile",
+    "round_trips",
     "properties",
     "hardware",
     "plant",

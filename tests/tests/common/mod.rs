@@ -3,6 +3,8 @@
 #![deny(warnings)]
 #![allow(dead_code)]
 
+pub mod text;
+
 pub use bivamolune_tests::boundary::SUBJECT;
 use bivamolune_tests::boundary::{code, executions, length, offset, packed, undos, value, Calls};
 use bivamolune_tests::reference::compose::Request;

@@ -1,9 +1,11 @@
-//! A listing program run as a process.
+//! A program run as a process; of the listing program, what it prints.
+
+#![allow(dead_code)]
 
 use std::io::Write;
 use std::os::unix::process::ExitStatusExt;
 use std::path::PathBuf;
-use std::process::{Child, ChildStdin, Command, ExitStatus, Stdio};
+use std::process::{Child, ChildStdin, Command, ExitStatus, Output, Stdio};
 use std::thread;
 use std::time::{Duration, Instant};
 
@@ -51,7 +53,19 @@ impl Program {
 
     fn started(command: &mut Command) -> Child {
         let command = command.stdin(Stdio::piped()).stdout(Stdio::piped());
+        let command = command.stderr(Stdio::piped());
         command.spawn().expect("the program starts")
+    }
+
+    /// What the program prints and how it ends, with the input in pieces of a size.
+    pub fn output(&self, input: &[u8], size: usize) -> Output {
+        let mut child = self.start();
+        let stdin = child.stdin.take().expect("its input is piped");
+        let bytes = input.to_vec();
+        let writer = thread::spawn(move || feed(stdin, &bytes, size));
+        let output = child.wait_with_output().expect("the program ends");
+        writer.join().expect("no panic");
+        output
     }
 
     /// What the program prints for an input.
@@ -61,12 +75,7 @@ impl Program {
 
     /// The same, with the input in pieces of a size.
     pub fn list_pieces(&self, input: &[u8], size: usize) -> Result<String, String> {
-        let mut child = self.start();
-        let stdin = child.stdin.take().expect("its input is piped");
-        let bytes = input.to_vec();
-        let writer = thread::spawn(move || feed(stdin, &bytes, size));
-        let output = child.wait_with_output().expect("the program ends");
-        writer.join().expect("no panic");
+        let output = self.output(input, size);
         if output.status.code() != Some(0) {
             return Err(format!("it ended with {}", output.status));
         }

@@ -1,0 +1,289 @@
+//! The program that prints sequences in their other form, run as a program: the second
+//! implementation's and, with the feature `library-sequences`, the proved one.
+
+#![deny(warnings)]
+
+#[path = "common/program.rs"]
+mod program;
+
+use std::collections::BTreeMap;
+use std::path::PathBuf;
+
+use bivamolune_tests::generate::either_form;
+use bivamolune_tests::reference::sequences::other_form;
+use program::{crashed, Program};
+
+/// Where the proved program is built, seen from this package.
+#[cfg(feature = "library-sequences")]
+const PROVED: &str = "../target/bin/sequences";
+
+/// `0102030405060708090A0B0C` in bytes.
+const ONE: [u8; 12] = [1, 2, 3, 4, 5, 6, 7, 8, 9, 10, 11, 12];
+const ONE_TEXT: &str = "0102030405060708090A0B0C";
+
+/// The second implementation's program and, with the feature, the proved one.
+fn programs() -> Vec<Program> {
+    vec![
+        Program(PathBuf::from(env!("CARGO_BIN_EXE_sequences"))),
+        #[cfg(feature = "library-sequences")]
+        proved(),
+    ]
+}
+
+/// The proved program: named by the environment, or else where it is built. It must be there.
+#[cfg(feature = "library-sequences")]
+fn proved() -> Program {
+    let built = || PathBuf::from(env!("CARGO_MANIFEST_DIR")).join(PROVED);
+    let path = std::env::var_os("BIVAMOLUNE_SEQUENCES").map_or_else(built, PathBuf::from);
+    assert!(
+        path.is_file(),
+        "{} is missing: run `rt check sequences`, or set BIVAMOLUNE_SEQUENCES",
+        path.display()
+    );
+    Program(path)
+}
+
+/// What a program prints for an input in pieces: the output, or the number of its refusal.
+/// What is printed beside, and an end by a crash, are errors; so is an end that is not well
+/// where there is no refusal.
+fn run(program: &Program, input: &[u8], size: usize) -> Result<Vec<u8>, String> {
+    let output = program.output(input, size);
+    let error = String::from_utf8_lossy(&output.stderr).into_owned();
+    let refused = error.starts_with("refused: ");
+    let well = output.status.success() && error.is_empty();
+    let refuses = refused && output.stdout.is_empty() && output.status.code().is_some();
+    match (well, refuses) {
+        (true, _) => Ok(output.stdout),
+        (_, true) => Err(error),
+        _ => Err(format!(
+            "{} after {:?}: {error}",
+            output.status, output.stdout
+        )),
+    }
+}
+
+/// What the second implementation gives, in the same way.
+fn wanted(input: &[u8]) -> Result<Vec<u8>, String> {
+    other_form(input).map_err(|code| format!("refused: {}\n", code.number()))
+}
+
+/// What each program prints for an input, which is what the function of the package gives.
+fn convert(input: &[u8]) -> Result<Vec<u8>, String> {
+    for program in programs() {
+        let printed = run(&program, input, input.len().max(1));
+        assert_eq!(printed, wanted(input), "{program:?} of {input:?}");
+    }
+    wanted(input)
+}
+
+fn refused(code: u32) -> Result<Vec<u8>, String> {
+    Err(format!("refused: {code}\n"))
+}
+
+fn printed(bytes: &[u8]) -> Result<Vec<u8>, String> {
+    Ok(bytes.to_vec())
+}
+
+#[test]
+fn a_text_is_printed_as_its_bytes_and_nothing_else() {
+    assert_eq!(convert(ONE_TEXT.as_bytes()), printed(&ONE));
+    let two = b"E9641419D18C02B9495F0008,6401C37EFB366A87F4210003";
+    let bytes = [
+        0xE9, 0x64, 0x14, 0x19, 0xD1, 0x8C, 0x02, 0xB9, 0x49, 0x5F, 0x00, 0x08, 0x64, 0x01, 0xC3,
+        0x7E, 0xFB, 0x36, 0x6A, 0x87, 0xF4, 0x21, 0x00, 0x03,
+    ];
+    assert_eq!(convert(two), printed(&bytes));
+    assert_eq!(convert(&bytes), printed(&[&two[..], b"\n"].concat()));
+}
+
+#[test]
+fn bytes_are_printed_as_a_text_and_a_line_feed() {
+    assert_eq!(convert(&ONE), printed(format!("{ONE_TEXT}\n").as_bytes()));
+    let eight = format!("{}\n", [ONE_TEXT; 8].join(","));
+    assert_eq!(convert(&ONE.repeat(8)), printed(eight.as_bytes()));
+}
+
+/// What the program prints is an input of it: for a text with a line feed the bytes come
+/// back, and for bytes the text.
+#[test]
+fn there_and_back() {
+    for count in 1..=8 {
+        let bytes = ONE.repeat(count);
+        let text = convert(&bytes).expect("a text");
+        assert_eq!(text.len(), 25 * count);
+        assert_eq!(convert(&text), printed(&bytes));
+    }
+}
+
+#[test]
+fn one_line_feed_at_the_end_is_dropped() {
+    for count in 1..=8 {
+        let text = [ONE_TEXT].repeat(count).join(",");
+        let bytes = ONE.repeat(count);
+        assert_eq!(convert(text.as_bytes()), printed(&bytes));
+        assert_eq!(convert(format!("{text}\n").as_bytes()), printed(&bytes));
+        assert_eq!(convert(format!("{text}\r\n").as_bytes()), refused(13));
+        assert_eq!(convert(format!("{text}\n\n").as_bytes()), refused(13));
+        assert_eq!(convert(format!("\n{text}").as_bytes()), refused(13));
+    }
+}
+
+/// A sequence whose last byte is a line feed, 0A, keeps it: the whole input is written.
+#[test]
+fn bytes_that_end_in_a_line_feed() {
+    let bytes = [1, 2, 3, 4, 5, 6, 7, 8, 9, 10, 0, 10];
+    assert_eq!(convert(&bytes), printed(b"0102030405060708090A000A\n"));
+    // With another line feed they are 13 bytes.
+    assert_eq!(convert(&[&bytes[..], b"\n"].concat()), refused(13));
+    // Number 0A0A, and all bytes line feeds.
+    assert_eq!(convert(&[10; 12]), printed(b"0A0A0A0A0A0A0A0A0A0A0A0A\n"));
+}
+
+/// 24 bytes may be a text of one sequence or the bytes of two. The text goes first.
+#[test]
+fn a_text_of_one_before_the_bytes_of_two() {
+    assert_eq!(
+        convert(b"303132333435363738394142"),
+        printed(b"0123456789AB")
+    );
+    // A text of number 0000 is a text, though its bytes could be written.
+    assert_eq!(convert(b"303132333435363738390000"), refused(14));
+    assert_eq!(convert(b"303132333435363738390000\n"), refused(14));
+    // One small letter, and it is no text but two sequences.
+    let digits = b"303130323033303430353036,303730383039306130423043\n";
+    assert_eq!(convert(b"0102030405060708090a0B0C"), printed(digits));
+    assert_eq!(convert(b"0102030405060708090a0B0C\n"), refused(13));
+    // A character short, with a line feed: 24 bytes again.
+    let digits = b"303130323033303430353036,30373038303930413042300A\n";
+    assert_eq!(convert(b"0102030405060708090A0B0\n"), printed(digits));
+    assert_eq!(convert(b"0102030405060708090A0B0"), refused(13));
+}
+
+#[test]
+fn refusals() {
+    assert_eq!(convert(b""), refused(13));
+    assert_eq!(convert(b"\n"), refused(13));
+    assert_eq!(convert(b"no sequence"), refused(13));
+    assert_eq!(convert(&[7; 11]), refused(13));
+    assert_eq!(convert(&[7; 13]), refused(13));
+    assert_eq!(convert(&[7; 108]), refused(13));
+    assert_eq!(convert(&[0; 12]), refused(14));
+    assert_eq!(convert(&[&ONE[..], &[0; 12]].concat()), refused(14));
+    let zero = b"0102030405060708090A0B0C,000000000000000000010000";
+    assert_eq!(convert(zero), refused(14));
+    assert_eq!(convert(&[&zero[..], b"\n"].concat()), refused(14));
+    let nine = [ONE_TEXT; 9].join(",");
+    assert_eq!(convert(nine.as_bytes()), refused(13));
+}
+
+/// Every length up to more than the program takes, of bytes and of digits.
+#[test]
+fn every_length() {
+    for length in 0..=300 {
+        let bytes = vec![7; length];
+        let right = length % 12 == 0 && (12..=96).contains(&length);
+        let text = vec!["070707070707070707070707"; length / 12].join(",") + "\n";
+        let expected = match right {
+            true => printed(text.as_bytes()),
+            false => refused(13),
+        };
+        assert_eq!(convert(&bytes), expected, "{length} bytes");
+    }
+}
+
+/// A right text with much behind it is refused, and what is written to it is all read.
+#[test]
+fn a_long_input() {
+    for length in [200, 255, 256, 257, 300, 512, 500_000] {
+        let mut input = format!("{ONE_TEXT}\n").into_bytes();
+        input.resize(length, b'\n');
+        assert_eq!(convert(&input), refused(13), "{length} bytes");
+        let mut input = [ONE_TEXT; 8].join(",").into_bytes();
+        input.resize(length.max(201), 0);
+        assert_eq!(convert(&input), refused(13), "{length} bytes");
+    }
+    // A writer that waits until all is taken.
+    for program in programs() {
+        let input = vec![b'0'; 300_000];
+        assert_eq!(run(&program, &input, 1_000), refused(13), "{program:?}");
+    }
+}
+
+#[test]
+fn a_byte_at_a_time() {
+    let eight = format!("{}\n", [ONE_TEXT; 8].join(","));
+    for program in programs() {
+        let bytes = run(&program, eight.as_bytes(), 1);
+        assert_eq!(bytes, printed(&ONE.repeat(8)), "{program:?}");
+        let text = run(&program, &ONE.repeat(8), 1);
+        assert_eq!(text, printed(eight.as_bytes()), "{program:?}");
+    }
+}
+
+/// Nobody reads what it prints: it ends, not as if all were well, and by no crash.
+#[test]
+fn a_closed_output() {
+    for program in programs() {
+        for input in [&ONE[..], ONE_TEXT.as_bytes()] {
+            let status = program.end_unread(input);
+            assert!(
+                !status.success() && !crashed(status),
+                "{program:?}: {status}"
+            );
+            let status = program.end_unread_without_signal(input);
+            assert!(status.code().is_some(), "{program:?}: {status}");
+        }
+    }
+}
+
+/// Programs that print nothing, their input, or do not end well are told apart.
+#[test]
+fn a_wrong_program_is_found() {
+    let text = ONE_TEXT.as_bytes();
+    let wrong = |path: &str| run(&Program(PathBuf::from(path)), text, text.len());
+    assert_eq!(wrong("/bin/true"), printed(b""));
+    assert_eq!(wrong("/bin/cat"), printed(text));
+    assert!(!wrong("/bin/false").unwrap_err().starts_with("refused"));
+    assert_eq!(wanted(text), printed(&ONE));
+}
+
+/// Runs a program over the inputs of seeds.
+fn check_inputs(program: &Program, seeds: std::ops::Range<u64>) {
+    for seed in seeds {
+        let input = either_form(seed);
+        let found = run(program, &input, input.len().max(1));
+        assert_eq!(found, wanted(&input), "{program:?}, input {seed}");
+    }
+}
+
+/// The inputs are what they are for.
+#[test]
+fn inputs_meet_what_they_are_for() {
+    let mut seen: BTreeMap<String, usize> = BTreeMap::new();
+    for seed in 0..1_000 {
+        let input = either_form(seed);
+        let what = match other_form(&input) {
+            Ok(printed) if printed.len() % 25 == 0 => "a text printed".to_string(),
+            Ok(_) if input.ends_with(b"\n") => "a line read".to_string(),
+            Ok(_) => "a text read".to_string(),
+            Err(code) => format!("refused by {}", code.number()),
+        };
+        *seen.entry(what).or_default() += 1;
+        *seen.entry("too long".to_string()).or_default() += usize::from(input.len() > 256);
+    }
+    assert_eq!(seen.len(), 6, "{seen:?}");
+    assert!(seen.values().all(|count| *count >= 5), "{seen:?}");
+}
+
+#[test]
+fn some_inputs() {
+    for program in programs() {
+        check_inputs(&program, 0..300);
+    }
+}
+
+#[cfg(feature = "library-sequences")]
+#[test]
+fn ten_thousand_inputs() {
+    check_inputs(&proved(), 300..10_300);
+}
