@@ -29,8 +29,9 @@ struct area {
 
 static struct area image = {"the image", NULL, NULL, 0}, message = {"the message", NULL, NULL, 0},
                    steps = {"the steps", NULL, NULL, 0}, line = {"the line", NULL, NULL, 0},
-                   commands = {"the commands", NULL, NULL, 0};
-static struct area *const areas[] = {&image, &message, &steps, &line, &commands};
+                   commands = {"the commands", NULL, NULL, 0}, characters = {"the text", NULL, NULL, 0},
+                   sequences = {"the sequences", NULL, NULL, 0};
+static struct area *const areas[] = {&image, &message, &steps, &line, &commands, &characters, &sequences};
 enum { AREAS = sizeof areas / sizeof areas[0] };
 
 enum place { AT_END, AT_START, UNALIGNED };
@@ -48,7 +49,9 @@ static struct kind emptying = {"empty", BIT(0) | BIT(1), 0},
                    delivering = {"deliver", BIT(9) - 1, 0},
                    composing = {"compose", BIT(0) | BIT(1) | BIT(2) | BIT(3) | BIT(6) | BIT(9) | BIT(10) | BIT(11), 0},
                    asking = {"setpoint", BIT(0) | BIT(1) | BIT(2) | BIT(12), 0},
-                   finding = {"log message", BIT(0) | BIT(1) | BIT(2) | BIT(12), 0};
+                   finding = {"log message", BIT(0) | BIT(1) | BIT(2) | BIT(12), 0},
+                   reading = {"read sequences", BIT(0) | BIT(1) | BIT(13) | BIT(14), 0},
+                   writing = {"write sequences", BIT(0) | BIT(1) | BIT(13) | BIT(14), 0};
 
 static const char *call = "nothing";
 static unsigned long calls;
@@ -171,6 +174,22 @@ static void log_message(const uint8_t *bytes, size_t size, uint32_t at) {
     end_call(&finding, bivamolune_log_message_code(bivamolune_log_message(image.at, size, at)));
 }
 
+static void read_sequences(const uint8_t *bytes, size_t size, size_t room) {
+    begin_call("read sequences");
+    lay(&characters, bytes, size, 1);
+    lay(&sequences, NULL, room, 0);
+    end_call(&reading, bivamolune_code(bivamolune_read_sequences(characters.at, size, sequences.at, room)));
+    around(&sequences);
+}
+
+static void write_sequences(const uint8_t *bytes, size_t size, size_t room) {
+    begin_call("write sequences");
+    lay(&sequences, bytes, size, 1);
+    lay(&characters, NULL, room, 0);
+    end_call(&writing, bivamolune_code(bivamolune_write_sequences(sequences.at, size, characters.at, room)));
+    around(&characters);
+}
+
 /* ---- the generator's calls: a letter, then each buffer as a size and its bytes, then numbers; all numbers of four bytes */
 static uint32_t number(void) {
     uint32_t n;
@@ -203,6 +222,8 @@ static void run_input(void) {
             else if (letter == 'c') compose(one, size, &r, last);
             else if (letter == 's') setpoint(one, size, last);
             else if (letter == 'l') log_message(one, size, last);
+            else if (letter == 'r') read_sequences(one, size, last);
+            else if (letter == 'w') write_sequences(one, size, last);
             else die("a letter that means no call\n");
         }
     }
@@ -217,6 +238,9 @@ static const size_t step_sizes[] = {0, 1, 79, 80, 81, 2032, 10159, 10160, 10161,
 static const size_t line_sizes[] = {0, 1, 9, 10, 11, 12};
 static const size_t command_sizes[] = {0, 1, 7, 8, 9, 63, 64, 65, 72};
 static const size_t room_sizes[] = {0, 1, 48, 199, 200, 201};
+static const size_t text_sizes[] = {0, 1, 23, 24, 25, 48, 49, 50, 74, 174, 198, 199, 200, 224, 4096};
+static const size_t sequence_sizes[] = {0, 1, 11, 12, 13, 24, 36, 84, 95, 96, 97, 108, 4096};
+static const size_t text_room_sizes[] = {0, 1, 12, 24, 95, 96, 97, 198, 199, 200, 224, 4096};
 #define EACH(i, sizes) (size_t i = 0; i < sizeof(sizes) / sizeof(sizes)[0]; i++)
 
 /* An image, grown by zeros; messages of four kinds: right, one that claims the most, all ones, and random; commands. */
@@ -250,6 +274,22 @@ static void run_sizes(const uint8_t *right) {
     }
 }
 
+/* Texts and sequences of four kinds: right, of zeros and commas, all ones, and random. */
+static void run_texts(void) {
+    static uint8_t kinds[4][4096];
+    for (size_t i = 0; i < 4096; i++) {
+        kinds[0][i] = i % 25 == 24 ? ',' : "0123456789ABCDEF"[i % 16];
+        kinds[1][i] = i % 25 == 24 ? ',' : '0';
+        kinds[2][i] = 255;
+        kinds[3][i] = (uint8_t)(i * 2654435761u >> 13);
+    }
+    for (size_t kind = 0; kind < 4; kind++)
+        for EACH(r, text_room_sizes) {
+            for EACH(t, text_sizes) read_sequences(kinds[kind], text_sizes[t], text_room_sizes[r]);
+            for EACH(s, sequence_sizes) write_sequences(kinds[kind], sequence_sizes[s], text_room_sizes[r]);
+        }
+}
+
 /* A null pointer with size 0 in the place of each buffer, and of all. */
 static void run_nulls(const uint8_t *right) {
     for (unsigned which = 1; which < 8; which++) {
@@ -270,6 +310,15 @@ static void run_nulls(const uint8_t *right) {
     begin_call("setpoint and log message with null");
     bivamolune_setpoint(NULL, 0, 0);
     bivamolune_log_message(NULL, 0, 0);
+    begin_call("texts with null");
+    lay(&characters, NULL, BIVAMOLUNE_TEXT_ROOM, 0);
+    lay(&sequences, NULL, BIVAMOLUNE_SEQUENCES_ROOM, 0);
+    bivamolune_read_sequences(NULL, 0, sequences.at, sequences.size);
+    bivamolune_read_sequences(characters.at, characters.size, NULL, 0);
+    bivamolune_read_sequences(NULL, 0, NULL, 0);
+    bivamolune_write_sequences(NULL, 0, characters.at, characters.size);
+    bivamolune_write_sequences(sequences.at, sequences.size, NULL, 0);
+    bivamolune_write_sequences(NULL, 0, NULL, 0);
 }
 
 static void run_hostile(void) {
@@ -278,9 +327,11 @@ static void run_hostile(void) {
     bivamolune_empty(right, sizeof right);
     place = AT_END;
     run_sizes(right);
+    run_texts();
     run_nulls(right);
     place = AT_START;
     run_sizes(right);
+    run_texts();
     place = UNALIGNED;
     for (shift = 1; shift < 16; shift++) {
         empty(right, sizeof right);
@@ -289,12 +340,14 @@ static void run_hostile(void) {
         compose(right, sizeof right, &plain, BIVAMOLUNE_MESSAGE_ROOM);
         setpoint(right, sizeof right, 63);
         log_message(right, sizeof right, 0);
+        read_sequences((const uint8_t *)"00000000000A000000010001,00000000000B000000010001", 49, BIVAMOLUNE_SEQUENCES_ROOM);
+        write_sequences(a1 + 12, BIVAMOLUNE_SEQUENCE_SIZE, BIVAMOLUNE_TEXT_ROOM);
     }
 }
 
 /* Each call has answered each of its codes. */
 static void check_codes(void) {
-    const struct kind *const kinds[] = {&emptying, &delivering, &composing, &asking, &finding};
+    const struct kind *const kinds[] = {&emptying, &delivering, &composing, &asking, &finding, &reading, &writing};
     for EACH(i, kinds) {
         char text[200];
         snprintf(text, sizeof text, "%s did not answer each of its codes\n", kinds[i]->name);

@@ -2,7 +2,7 @@
 #include "bivamolune.h"
 #include "bivamolune.h"
 
-static_assert(BIVAMOLUNE_NOT_THERE == 12 && BIVAMOLUNE_ACCEPTED == 0, "codes are constants");
+static_assert(BIVAMOLUNE_NOT_THERE == 12 && BIVAMOLUNE_ZERO_NUMBER == 14 && BIVAMOLUNE_ACCEPTED == 0, "codes are constants");
 
 int main() {
     const bivamolune_result wanted = BIVAMOLUNE_ACCEPTED;
@@ -11,5 +11,7 @@ int main() {
     const uint8_t message[BIVAMOLUNE_MESSAGE_LEAST] = {};
     if (bivamolune_empty(image, sizeof image) != wanted) return 1;
     const uint32_t answer = bivamolune_deliver(image, sizeof image, message, sizeof message, steps, sizeof steps);
-    return bivamolune_code(answer) == BIVAMOLUNE_WRONG_LAYOUT ? 0 : 1;
+    static uint8_t text[BIVAMOLUNE_TEXT_ROOM];
+    const uint32_t written = bivamolune_write_sequences(message, BIVAMOLUNE_SEQUENCE_SIZE, text, sizeof text);
+    return bivamolune_code(answer) == BIVAMOLUNE_WRONG_LAYOUT && bivamolune_code(written) == BIVAMOLUNE_ZERO_NUMBER ? 0 : 1;
 }

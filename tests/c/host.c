@@ -1,5 +1,5 @@
-/* A host in C, which C++ reads as well: begins a station, delivers the paper's examples, and checks answers, images, steps
- * and what the header gives beside the calls. */
+/* A host in C, which C++ reads as well: begins a station, delivers the paper's examples, reads and writes sequences as text,
+ * and checks answers, images, steps and what the header gives beside the calls. */
 #include "station.h"
 
 static void run_examples(void) {
@@ -151,6 +151,97 @@ static void run_readers(void) {
         && bivamolune_pair_tag(step, 0xFFFFFFFFu) == 0 && bivamolune_pair_value(step, 0xFFFFFFFFu) == 0, "no ninth pair");
 }
 
+/* ---- sequences as text */
+static uint8_t sequences[BIVAMOLUNE_SEQUENCES_ROOM + 16], text[BIVAMOLUNE_TEXT_ROOM + 17];
+
+/* Whether a buffer has some bytes at its front and is as it was behind them. */
+static int holds(const uint8_t *buffer, size_t size, const void *bytes, size_t length) {
+    int right = memcmp(buffer, bytes, length) == 0;
+    for (size_t i = length; i < size; i++) right = right && buffer[i] == 0xEE;
+    return right;
+}
+
+/* Reads a text with room for so many bytes: the code, and the sequences. The text is as it was. */
+static int reads(const char *from, size_t room, uint32_t code, const uint8_t *expected, size_t length) {
+    uint8_t copy[256];
+    size_t size = strlen(from);
+    uint32_t answer;
+    memcpy(copy, from, size);
+    memset(sequences, 0xEE, sizeof sequences);
+    answer = bivamolune_read_sequences(copy, size, sequences, room);
+    return bivamolune_code(answer) == code && bivamolune_written_length(answer) == length && memcmp(copy, from, size) == 0
+        && holds(sequences, sizeof sequences, expected, length);
+}
+
+/* Writes sequences in the same way; the expected text ends in a NUL, the written one does not. */
+static int writes(const uint8_t *from, size_t size, size_t room, uint32_t code, const char *expected) {
+    uint8_t copy[256];
+    uint32_t answer;
+    memcpy(copy, from, size);
+    memset(text, 0xEE, sizeof text);
+    answer = bivamolune_write_sequences(copy, size, text, room);
+    return bivamolune_code(answer) == code && bivamolune_written_length(answer) == strlen(expected)
+        && memcmp(copy, from, size) == 0 && holds(text, sizeof text, expected, strlen(expected));
+}
+
+/* Nine sequences, and their text: the first eight end at 96 bytes and 199 characters. */
+static const uint8_t nine[108] = {
+    0x01, 0x23, 0x45, 0x67, 0x89, 0xAB, 0xCD, 0xEF, 0x00, 0x10, 0x00, 0x01,
+    0xFF, 0xFF, 0xFF, 0xFF, 0xFF, 0xFF, 0xFF, 0xFF, 0xFF, 0xFF, 0xFF, 0xFF,
+    0x00, 0x00, 0x00, 0x00, 0x00, 0x00, 0x00, 0x00, 0x00, 0x00, 0x01, 0x00,
+    0x9A, 0xA9, 0x0F, 0xF0, 0x90, 0x09, 0xA0, 0x0A, 0x5A, 0xA5, 0x00, 0x10,
+    0, 0, 0, 0, 0, 5, 0, 0, 0, 1, 0, 5,
+    0, 0, 0, 0, 0, 6, 0, 0, 0, 1, 0, 6,
+    0, 0, 0, 0, 0, 7, 0, 0, 0, 1, 0, 7,
+    0, 0, 0, 0, 0, 8, 0, 0, 0, 1, 0, 8,
+    0, 0, 0, 0, 0, 9, 0, 0, 0, 1, 0, 9,
+};
+static const char nine_text[] =
+    "0123456789ABCDEF00100001,FFFFFFFFFFFFFFFFFFFFFFFF,000000000000000000000100,9AA90FF09009A00A5AA50010,"
+    "000000000005000000010005,000000000006000000010006,000000000007000000010007,000000000008000000010008,"
+    "000000000009000000010009";
+
+/* The text of the first so many. */
+static const char *front(size_t count) {
+    static char part[sizeof nine_text];
+    memcpy(part, nine_text, sizeof part);
+    part[25 * count - 1] = 0;
+    return part;
+}
+
+static void run_texts(void) {
+    int read = 1, written = 1;
+    check(reads("0102030405060708090A0B0C", 96, 0, (const uint8_t *)"\1\2\3\4\5\6\7\10\11\12\13\14", 12), "a text of one");
+    for (size_t count = 1; count <= BIVAMOLUNE_SEQUENCES_MOST; count++) {
+        read = read && reads(front(count), BIVAMOLUNE_SEQUENCES_ROOM, 0, nine, count * BIVAMOLUNE_SEQUENCE_SIZE);
+        written = written && writes(nine, count * BIVAMOLUNE_SEQUENCE_SIZE, BIVAMOLUNE_TEXT_ROOM, 0, front(count));
+    }
+    check(read, "texts of one to eight");
+    check(written, "one to eight as text, and no NUL behind it");
+    check(reads(front(8), sizeof sequences, 0, nine, 96) && writes(nine, 96, sizeof text, 0, front(8)), "more room than needed");
+    check(reads(nine_text, sizeof sequences, 13, nine, 0) && writes(nine, 108, sizeof text, 13, ""), "nine sequences");
+}
+
+static void run_text_refusals(void) {
+    static const uint8_t zero[24] = {1, 2, 3, 4, 5, 6, 7, 8, 9, 10, 0, 0, 1, 2, 3, 4, 5, 6, 7, 8, 9, 10, 0, 1};
+    check(reads("0102030405060708090a0B0C", 96, 13, nine, 0), "a small letter");
+    check(reads("0102030405060708090A0B0G", 96, 13, nine, 0), "a G");
+    check(reads("0102030405060708090A0B0", 96, 13, nine, 0), "23 characters");
+    check(reads("0102030405060708090A0B0C,", 96, 13, nine, 0), "a comma behind the last");
+    check(reads("0102030405060708090A0B0C;0102030405060708090A0B0C", 96, 13, nine, 0), "a semicolon");
+    check(reads("", 96, 13, nine, 0) && bivamolune_read_sequences(NULL, 0, sequences, 96) == 13, "no text");
+    check(reads("0102030405060708090A0000", 96, 14, nine, 0), "a number 0000");
+    check(reads("0102030405060708090A0000,0102030405060708090a0001", 96, 13, nine, 0), "13 before 14");
+    check(reads("0102030405060708090A0000", 95, 1, nine, 0) && reads("x", 95, 1, nine, 0), "95 bytes for sequences");
+    check(bivamolune_read_sequences(NULL, 0, NULL, 0) == 1, "nothing to read and no room");
+    check(writes(nine, 11, 199, 13, "") && writes(nine, 13, 199, 13, "") && writes(nine, 97, 199, 13, ""), "11, 13 and 97 bytes");
+    check(writes(nine, 0, 199, 13, "") && bivamolune_write_sequences(NULL, 0, text, 199) == 13, "no sequences");
+    check(writes(zero, 12, 199, 14, "") && writes(zero, 24, 199, 14, ""), "a number 0000 to write");
+    check(writes(zero, 23, 199, 13, ""), "13 before 14 to write");
+    check(writes(nine, 12, 198, 1, "") && writes(zero, 11, 198, 1, ""), "198 bytes for a text");
+    check(bivamolune_write_sequences(NULL, 0, NULL, 0) == 1, "nothing to write and no room");
+}
+
 /* ---- what the header gives beside the calls */
 static void run_header(void) {
     char version[32];
@@ -162,17 +253,22 @@ static void run_header(void) {
     check(strcmp(version, BIVAMOLUNE_VERSION) == 0, "the version");
     check(!bivamolune_accepted(success), "a refusal is not accepted");
     check(strcmp(bivamolune_code_name((uint32_t)full), "full") == 0, "the name of a code");
-    for (uint32_t code = 0; code <= BIVAMOLUNE_NOT_THERE + 1; code++)
+    for (uint32_t code = 0; code <= BIVAMOLUNE_ZERO_NUMBER + 1; code++)
         for (uint32_t other = 0; other < code; other++)
             differ = differ && strcmp(bivamolune_code_name(code), bivamolune_code_name(other)) != 0;
     check(differ, "the names differ");
-    check(strcmp(bivamolune_code_name(13), bivamolune_code_name(0xFFFFFFFFu)) == 0, "no code");
+    check(strcmp(bivamolune_code_name(15), bivamolune_code_name(0xFFFFFFFFu)) == 0, "no code");
+    check(strcmp(bivamolune_code_name(13), "wrong form") == 0 && strcmp(bivamolune_code_name(14), "zero number") == 0,
+        "the names of the codes of texts");
     check(BIVAMOLUNE_MESSAGE_LEAST == 40 + 8 && BIVAMOLUNE_STEP_ROOM == BIVAMOLUNE_STEPS_MOST * BIVAMOLUNE_STEP_SIZE
         && BIVAMOLUNE_MESSAGE_MOST == 40 + 12 * BIVAMOLUNE_DEPENDENCIES_MOST + 8 * BIVAMOLUNE_COMMANDS_MOST
         && BIVAMOLUNE_MESSAGE_ROOM == BIVAMOLUNE_MESSAGE_MOST, "limits");
     check(BIVAMOLUNE_STEP_ROOM == 10160 && BIVAMOLUNE_STEP_SIZE == 80 && BIVAMOLUNE_PAIRS_MOST == BIVAMOLUNE_COMMANDS_MOST
         && BIVAMOLUNE_STEP_SEQUENCE_AT + BIVAMOLUNE_SEQUENCE_SIZE == BIVAMOLUNE_STEP_PAIRS_AT
         && BIVAMOLUNE_STEP_PAIRS_AT + BIVAMOLUNE_PAIRS_MOST * BIVAMOLUNE_PAIR_SIZE == BIVAMOLUNE_STEP_SIZE, "parts of a step");
+    check(BIVAMOLUNE_SEQUENCES_MOST == 8 && BIVAMOLUNE_SEQUENCE_TEXT_SIZE == 2 * BIVAMOLUNE_SEQUENCE_SIZE
+        && BIVAMOLUNE_SEQUENCES_ROOM == BIVAMOLUNE_SEQUENCES_MOST * BIVAMOLUNE_SEQUENCE_SIZE
+        && BIVAMOLUNE_TEXT_ROOM == BIVAMOLUNE_SEQUENCES_MOST * (BIVAMOLUNE_SEQUENCE_TEXT_SIZE + 1) - 1, "sizes of texts");
 
     begin();
     success = deliver(delta(10, 1, 1, 0, BIVAMOLUNE_VALUE_LEAST));
@@ -188,10 +284,12 @@ static void run_header(void) {
     check(setpoint(0) == INT32_MAX, "the greatest number of four bytes");
 }
 
-/* Answers of 64 bits, written out. */
+/* Answers with a length, and those of 64 bits, written out. */
 static void run_answers(void) {
     const uint64_t high = 4294967296u;
     check(bivamolune_composed_length(200 * 256) == 200 && bivamolune_accepted(200 * 256), "the length of a composed message");
+    check(bivamolune_written_length(199 * 256) == 199 && bivamolune_accepted(199 * 256) && bivamolune_written_length(14) == 0
+        && bivamolune_code(14) == BIVAMOLUNE_ZERO_NUMBER, "the length of a text");
     check(bivamolune_setpoint_value(1500 * high) == 1500 && bivamolune_setpoint_code(1500 * high) == 0, "the value 1500");
     check(bivamolune_setpoint_value(0xFFFFFFECu * high) == -20, "the value -20");
     check(bivamolune_setpoint_value(0x80000000u * high) == INT32_MIN
@@ -211,6 +309,8 @@ int main(void) {
     run_pairs();
     run_hardware();
     run_readers();
+    run_texts();
+    run_text_refusals();
     run_header();
     run_answers();
     return report();

@@ -1,5 +1,6 @@
 /* The published ordering example, MS-GRVDYNM section 4.5, composed and delivered at three stations through C. Groups,
- * sequences, dependencies and the final order are those of the publication. C++ reads it as well. */
+ * sequences, dependencies and the final order are those of the publication, as is the text of each DepSeq. C++ reads it as
+ * well. */
 #include "station.h"
 
 /* Endpoint UIDs and creator identifiers of the publication. */
@@ -70,6 +71,25 @@ static void check_order(const uint8_t *station) {
     }
 }
 
+/* A DepSeq as it is printed: read, it names these, and written again it is the same. */
+static void check_text(const char *dep_seq, struct name one, struct name two) {
+    uint8_t sequences[BIVAMOLUNE_SEQUENCES_ROOM], text[BIVAMOLUNE_TEXT_ROOM];
+    size_t length = strlen(dep_seq), size = two.line == NULL ? 12 : 24;
+    uint32_t answer = bivamolune_read_sequences((const uint8_t *)dep_seq, length, sequences, sizeof sequences);
+    check(bivamolune_accepted(answer) && bivamolune_written_length(answer) == size, "a DepSeq is read");
+    check(named(sequences, one) && (two.line == NULL || named(sequences + 12, two)), "what a DepSeq names");
+    check(bivamolune_write_sequences(sequences, size, text, sizeof text) == 256 * length, "a DepSeq is written");
+    check(memcmp(text, dep_seq, length) == 0, "a DepSeq as it was");
+}
+
+/* The DepSeq of A1, B1, C1 and A3. That of C1 is not ascending. */
+static void check_texts(void) {
+    check_text("E2D20DF7D85D3E419CCD0002", c0, none);
+    check_text("E9641419D18C02B9495F0007", a1, none);
+    check_text("E9641419D18C02B9495F0008,6401C37EFB366A87F4210003", a2, b1);
+    check_text("E2D20DF7D85D3E419CCD0003", c1, none);
+}
+
 int main(void) {
     struct delta first, second, from_b, from_c, later_b, last;
     begin_space();
@@ -96,5 +116,6 @@ int main(void) {
     check_order(at_b);
     check_order(at_c);
     check(memcmp(at_a, at_b, sizeof at_a) == 0 && memcmp(at_b, at_c, sizeof at_b) == 0, "equal images");
+    check_texts();
     return report();
 }

@@ -13,6 +13,12 @@
 #define COMPOSE_WRITE 9   /* compose writes into the image */
 #define SETPOINT_PAST 10  /* setpoint reads the byte past the image */
 #define LOG_WRITE 11      /* log message writes into the image */
+#define TEXT_PAST 12      /* the reader reads the byte past the text */
+#define SEQUENCES_PAST 13 /* the reader writes the byte past the sequences */
+#define TEXT_WRITE 14     /* the reader writes into the text */
+#define WRITTEN_PAST 15   /* the writer writes a NUL past the text */
+#define NUMBER_PAST 16    /* the writer reads the byte past the sequences */
+#define SORTED 17         /* the writer writes into the sequences */
 
 uint32_t bivamolune_empty(uint8_t *image, size_t image_size) {
     if (image_size != BIVAMOLUNE_IMAGE_SIZE) return BIVAMOLUNE_WRONG_SIZE;
@@ -64,4 +70,30 @@ uint64_t bivamolune_log_message(const uint8_t *image, size_t image_size, uint32_
     if (image_size != BIVAMOLUNE_IMAGE_SIZE) return BIVAMOLUNE_WRONG_SIZE;
     if (FAULT == LOG_WRITE) *(volatile uint8_t *)image = 1;
     return place < bivamolune_log_count(image) ? BIVAMOLUNE_ACCEPTED : BIVAMOLUNE_NOT_THERE;
+}
+
+uint32_t bivamolune_read_sequences(const uint8_t *text, size_t text_size, uint8_t *sequences, size_t sequences_size) {
+    if (sequences_size < BIVAMOLUNE_SEQUENCES_ROOM) return BIVAMOLUNE_WRONG_SIZE;
+    if (text_size == 0) return BIVAMOLUNE_WRONG_FORM;
+    sequences[sequences_size - 1] = text[text_size - 1];
+    switch (FAULT) {
+    case TEXT_PAST: sequences[0] = ((const volatile uint8_t *)text)[text_size]; break;
+    case SEQUENCES_PAST: sequences[sequences_size] = 0; break;
+    case TEXT_WRITE: *(volatile uint8_t *)text = 1; break;
+    default: break;
+    }
+    return BIVAMOLUNE_ACCEPTED;
+}
+
+uint32_t bivamolune_write_sequences(const uint8_t *sequences, size_t sequences_size, uint8_t *text, size_t text_size) {
+    if (text_size < BIVAMOLUNE_TEXT_ROOM) return BIVAMOLUNE_WRONG_SIZE;
+    if (sequences_size == 0) return BIVAMOLUNE_WRONG_FORM;
+    text[text_size - 1] = sequences[sequences_size - 1];
+    switch (FAULT) {
+    case WRITTEN_PAST: text[text_size] = 0; break;
+    case NUMBER_PAST: text[0] = ((const volatile uint8_t *)sequences)[sequences_size]; break;
+    case SORTED: *(volatile uint8_t *)sequences = 1; break;
+    default: break;
+    }
+    return BIVAMOLUNE_ACCEPTED;
 }
