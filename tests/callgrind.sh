@@ -1,5 +1,6 @@
 #!/bin/sh
-# Instructions of one delivery, of the library and of the second implementation.
+# Instructions of one delivery, or of one call on texts, of the library and of the second
+# implementation.
 #
 #   sh callgrind.sh [options of cargo build, such as --features library]
 #
@@ -11,7 +12,9 @@ set -eu
 # The slowest shapes are among them: lone, priority and fan.
 cases='chain-latest-0 chain-latest-63 chain-earliest-63 waiting-first-63
 lone-latest-63 priority-latest-63 priority-earliest-63 fan-latest-63 fan-earliest-63
-needs-latest-63 longest-latest-63 ring200-held-63 longest-code8-64'
+needs-latest-63 longest-latest-63 ring200-held-63 longest-code8-64
+read-right-1 read-right-8 read-code13-8 read-code14-8
+write-right-1 write-right-8 write-code14-8'
 few=5
 many=25
 
@@ -52,6 +55,14 @@ each() {
     echo $(((high - low) / (many - few)))
 }
 
+# refill CASE: the instructions of one refilling; the buffers of texts are smaller.
+refill() {
+    case $1 in
+    read-* | write-*) each "$1" copy ;;
+    *) echo "$copy" ;;
+    esac
+}
+
 # The program says what stands on the library's side.
 first=$("$bench" --case chain-latest-0 --of library --calls 0 2>&1)
 first=${first##* }
@@ -60,13 +71,14 @@ if [ "$first" != library ]; then
     echo '"itself" is the second implementation once more.'
 fi
 copy=$(each chain-latest-0 copy)
-echo "Instructions a call, without the $copy of refilling the buffers."
+echo "Instructions a call, without the $copy of refilling the buffers (less for texts)."
 printf '%-22s%14s%14s%14s\n' case "$first" second "$first/2nd"
 for name in $cases; do
     one=$(each "$name" library)
     two=$(each "$name" second)
-    one=$((one - copy))
-    two=$((two - copy))
+    own=$(refill "$name")
+    one=$((one - own))
+    two=$((two - own))
     ratio=$(awk "BEGIN { printf \"%.2f\", $one / $two }")
     printf '%-22s%14d%14d%14s\n' "$name" "$one" "$two" "$ratio"
 done

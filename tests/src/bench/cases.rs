@@ -1,7 +1,9 @@
-//! The cases of the benchmark: an image, a message that arrives, and the answer.
+//! The cases of the benchmark: an image, a message that arrives, and the answer. Those of
+//! texts are in `texts`.
 
 use std::fmt;
 
+use crate::bench::texts;
 use crate::boundary::{Calls, Reference};
 use crate::edit::Edit;
 use crate::reference::image::SIZE;
@@ -39,6 +41,10 @@ pub enum Shape {
     /// Each delta names the next eight of a ring and has eight commands: all held, and
     /// all messages of 200 bytes.
     RingLongest,
+    /// No deltas: a text is read.
+    Read,
+    /// No deltas: sequences are written as text.
+    Write,
 }
 
 /// What arrives.
@@ -56,6 +62,8 @@ pub enum Arrival {
     Repeat,
     /// What is refused by a code.
     Refused(u32),
+    /// Sequences in either form, all right.
+    Right,
 }
 
 /// A case before its image is built, which takes as many deliveries as it holds.
@@ -66,10 +74,20 @@ pub struct Spec {
     pub count: usize,
 }
 
-/// A case: what a delivery gets, and what it must answer.
+/// The call of a case.
+#[derive(Clone, Copy, Debug, PartialEq, Eq)]
+pub enum Call {
+    Deliver,
+    Read,
+    Write,
+}
+
+/// A case: what a delivery gets, and what it must answer. A call on texts gets its input as
+/// the message and its buffer as the steps, and leaves the image alone.
 #[derive(Clone, Debug, PartialEq, Eq)]
 pub struct Case {
     pub name: String,
+    pub call: Call,
     pub image: Vec<u8>,
     pub message: Vec<u8>,
     pub steps: Vec<u8>,
@@ -109,6 +127,7 @@ pub fn specs() -> Vec<Spec> {
         let count = if code == 8 { 64 } else { 63 };
         specs.push(Spec::new(Shape::Longest, Arrival::Refused(code), count));
     }
+    specs.extend(texts::specs());
     specs
 }
 
@@ -128,8 +147,12 @@ impl Spec {
 
     /// The case, its image as the second implementation writes it.
     pub fn build(&self) -> Case {
+        if matches!(self.shape, Shape::Read | Shape::Write) {
+            return texts::build(self);
+        }
         let mut case = Case {
             name: self.to_string(),
+            call: Call::Deliver,
             image: self.shape.image(self.count),
             message: self.draft().bytes(),
             steps: vec![0xA5; BUFFER],
@@ -149,7 +172,7 @@ impl Spec {
         let next = self.shape.member(self.count);
         match self.arrival {
             Arrival::Latest if self.shape == Shape::Priority => next.priority(9, 0),
-            Arrival::Latest | Arrival::Held => next,
+            Arrival::Latest | Arrival::Held | Arrival::Right => next,
             Arrival::Earliest => self.shape.before_all(),
             Arrival::First => Draft::new(line(FIRST_LINE), 1),
             Arrival::Repeat => self.shape.member(self.count - 1),
@@ -165,7 +188,7 @@ impl Spec {
             Arrival::Latest => 65_536,
             Arrival::Earliest => 256 * count + 65_536 * (count + 1),
             Arrival::First => 65_536 * (count + 1),
-            Arrival::Held | Arrival::Repeat => 0,
+            Arrival::Held | Arrival::Repeat | Arrival::Right => 0,
             Arrival::Refused(code) => code,
         }
     }
@@ -272,6 +295,8 @@ impl fmt::Display for Shape {
             Shape::Fan => "fan",
             Shape::Ring => "ring",
             Shape::RingLongest => "ring200",
+            Shape::Read => "read",
+            Shape::Write => "write",
         })
     }
 }
@@ -285,6 +310,7 @@ impl fmt::Display for Arrival {
             Arrival::Held => f.write_str("held"),
             Arrival::Repeat => f.write_str("repeat"),
             Arrival::Refused(code) => write!(f, "code{code}"),
+            Arrival::Right => f.write_str("right"),
         }
     }
 }

@@ -7,3 +7,4 @@ pub mod report;
 pub mod saved;
 pub mod sides;
 pub mod stack;
+pub mod texts;

@@ -47,8 +47,11 @@ fn print_head() {
     println!("all sides take turns, and who goes first alternates; the cases that differ only in");
     println!("the number of deltas share their rounds.");
     println!("Each timed call follows an untimed one of the same side, and gets a fresh copy of");
-    println!("image and step buffer, made outside the timed part. Calls that write nothing are");
-    println!("timed in batches on one such copy, and the worst is that of a batch.");
+    println!("image and step buffer, made outside the timed part. Calls that write nothing, and");
+    println!(
+        "those on texts, which write nothing that they read, are timed in batches on one such"
+    );
+    println!("copy, and the worst is that of a batch.");
     println!();
     println!("What flatters whom:");
     println!("- the library: the second implementation allocates in every call, was written to be");

@@ -2,7 +2,7 @@
 
 use std::arch::asm;
 
-use crate::bench::cases::Case;
+use crate::bench::cases::{Call, Case};
 use crate::boundary::{Calls, Reference, SUBJECT};
 
 /// The name of the first side: without the library's deliver it is the second
@@ -87,7 +87,8 @@ pub fn black_box<T>(value: T) -> T {
     value
 }
 
-/// The image and the step buffer of a call, at the same addresses for both sides.
+/// The image and the step buffer of a call, or the buffer of a call on texts, at the same
+/// addresses for both sides.
 #[derive(Clone, Debug, PartialEq, Eq)]
 pub struct Buffers {
     pub image: Vec<u8>,
@@ -109,20 +110,26 @@ impl Buffers {
         black_box(&mut self.steps).copy_from_slice(black_box(&case.steps));
     }
 
-    /// One delivery of the case.
-    pub fn deliver(&mut self, calls: &dyn Calls, case: &Case) -> u32 {
-        black_box(calls.deliver(&mut self.image, &case.message, &mut self.steps))
+    /// One call of the case.
+    #[inline(always)]
+    pub fn call(&mut self, calls: &dyn Calls, case: &Case) -> u32 {
+        let steps = &mut self.steps;
+        black_box(match case.call {
+            Call::Deliver => calls.deliver(&mut self.image, &case.message, steps),
+            Call::Read => calls.read_sequences(&case.message, steps),
+            Call::Write => calls.write_sequences(&case.message, steps),
+        })
     }
 }
 
-/// Refills the buffers and delivers, so many times, and nothing else.
+/// Refills the buffers and makes the call, so many times, and nothing else.
 pub fn repeat(case: &Case, side: Side, times: u64) {
     let calls = side.calls();
     let mut buffers = Buffers::new(case);
     for _ in 0..times {
         buffers.refill(case);
         if let Some(calls) = calls {
-            buffers.deliver(calls, case);
+            buffers.call(calls, case);
         }
     }
 }

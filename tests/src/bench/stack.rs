@@ -37,7 +37,7 @@ const PATTERNS: [u8; 2] = [0xA5, 0x5A];
 enum Job<'a> {
     Nothing,
     Empty,
-    Deliver(&'a Case),
+    Case(&'a Case),
     /// On the image of the case: a compose, and the calls that only look.
     Compose(&'a Case),
     Read(&'a Case),
@@ -100,7 +100,7 @@ fn measure(specs: &[Spec]) -> Result<(usize, Vec<Depths>), String> {
     for spec in specs {
         let case = spec.build();
         check(&case)?;
-        rows.push(probe.depths(&case.name, Job::Deliver(&case))?);
+        rows.push(probe.depths(&case.name, Job::Case(&case))?);
         if matches!(spec.arrival, Arrival::Latest | Arrival::Held) {
             let name = |call| format!("{call} {} {}", spec.shape, spec.count);
             rows.push(probe.depths(&name("compose"), Job::Compose(&case))?);
@@ -176,7 +176,7 @@ impl Probe {
 impl Job<'_> {
     fn buffers(self) -> Buffers {
         match self {
-            Job::Deliver(case) | Job::Compose(case) | Job::Read(case) => Buffers::new(case),
+            Job::Case(case) | Job::Compose(case) | Job::Read(case) => Buffers::new(case),
             Job::Nothing | Job::Empty => Buffers {
                 image: vec![0xA5; 16_384],
                 steps: Vec::new(),
@@ -191,8 +191,8 @@ impl Job<'_> {
             Job::Empty => {
                 black_box(calls.empty(&mut buffers.image));
             }
-            Job::Deliver(case) => {
-                black_box(calls.deliver(&mut buffers.image, &case.message, &mut buffers.steps));
+            Job::Case(case) => {
+                buffers.call(calls, case);
             }
             Job::Compose(_) => {
                 black_box(calls.compose(&buffers.image, &REQUEST, &mut buffers.steps));
