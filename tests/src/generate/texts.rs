@@ -13,7 +13,7 @@ const NO_DIGITS: &[u8] = b"/:@G`abcdefg,;.- \n\r\tOlxX\0\x7F\x80\xB0\xFF";
 /// Characters that are no comma.
 const NO_COMMAS: &[u8] = b"0F;.+- \n\0\xAC";
 /// Lengths that sequences never have.
-const LENGTHS: [usize; 14] = [0, 1, 6, 10, 11, 13, 23, 25, 48 + 5, 95, 97, 108, 120, 199];
+const LENGTHS: [usize; 14] = [0, 1, 6, 10, 11, 13, 23, 25, 53, 95, 97, 108, 120, 199];
 
 /// One to eight sequences end to end, in any order, some of them twice.
 pub fn any_sequences(random: &mut Random) -> Vec<u8> {
@@ -85,7 +85,7 @@ fn put_no_digit(random: &mut Random, text: &mut [u8]) {
     let at = random.below(text.len());
     let at = if at % 25 == 24 { at + 1 } else { at };
     text[at] = match random.chance(30) {
-        // A small letter or G where a letter stood, so that only its case or place is wrong.
+        // A small letter where its capital stood, so that only its case is wrong.
         true if text[at].is_ascii_uppercase() => text[at].to_ascii_lowercase(),
         _ => random.pick(NO_DIGITS),
     };
