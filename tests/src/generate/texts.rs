@@ -12,6 +12,8 @@ const TEXTS: u64 = 0x7E87_5EED;
 const NO_DIGITS: &[u8] = b"/:@G`abcdefg,;.- \n\r\tOlxX\0\x7F\x80\xB0\xFF";
 /// Characters that are no comma.
 const NO_COMMAS: &[u8] = b"0F;.+- \n\0\xAC";
+/// Bytes that are not printable, those beside the printable ones first.
+const NOT_PRINTABLE: &[u8] = b"\x1F\x7F\n\r\t\0\x80\xFF";
 /// Lengths that sequences never have.
 const LENGTHS: [usize; 14] = [0, 1, 6, 10, 11, 13, 23, 25, 53, 95, 97, 108, 120, 199];
 
@@ -164,15 +166,26 @@ fn writing(random: &mut Random) -> Action {
     Action::WriteSequences { sequences, room }
 }
 
+/// Printable bytes of a length of sequences, or one less; in half of them one byte is none.
+fn printable(random: &mut Random) -> Vec<u8> {
+    let length = random.pick(&[12, 12, 24, 24, 36, 48, 60, 72, 84, 96, 11, 23, 95]);
+    let mut bytes: Vec<u8> = (0..length).map(|_| random.within(32, 126) as u8).collect();
+    if random.chance(50) {
+        bytes[random.below(length)] = random.pick(NOT_PRINTABLE);
+    }
+    bytes
+}
+
 /// An input of the program that prints the other form: a text or sequences, right or
 /// nearly, most texts with a line feed.
 pub fn either_form(seed: u64) -> Vec<u8> {
     let mut random = Random::new(seed);
-    let mut input = match random.below(10) {
+    let mut input = match random.below(12) {
         0..=2 => text(&any_sequences(&mut random)),
         3 | 4 => any_sequences(&mut random),
         5 | 6 => nearly_right_text(&mut random).1,
         7 | 8 => nearly_right_sequences(&mut random).1,
+        9 | 10 => printable(&mut random),
         _ => noise(&mut random),
     };
     match random.below(8) {
