@@ -137,11 +137,121 @@ fn bytes_that_end_in_a_line_feed() {
     assert_eq!(convert(&[&bytes[..], b"\n"].concat()), refused(13));
     // Number 0A0A, and all bytes line feeds.
     assert_eq!(convert(&[10; 12]), printed(b"0A0A0A0A0A0A0A0A0A0A0A0A\n"));
+    // One byte beside is not printable, the first, or the one before the line feed.
+    let text = b"1F204041505A607A7D7E410A\n";
+    assert_eq!(convert(b"\x1F @APZ`z}~A\n"), printed(text));
+    let text = b"41204041505A607A7D7E7F0A\n";
+    assert_eq!(convert(b"A @APZ`z}~\x7F\n"), printed(text));
+    let text = b"41204041505A607A7D7E000A\n";
+    assert_eq!(convert(b"A @APZ`z}~\0\n"), printed(text));
 }
 
-/// 24 bytes may be a text of one sequence or the bytes of two. The text goes first.
+/// Bytes of sequences that are all printable but for a line feed, the last byte of all, are a
+/// line.
 #[test]
-fn a_text_of_one_before_the_bytes_of_two() {
+fn printable_bytes_and_a_line_feed_are_a_line() {
+    for count in 1..=8 {
+        let mut bytes = vec![b'A'; 12 * count];
+        bytes[12 * count - 1] = b'\n';
+        assert_eq!(convert(&bytes), refused(13), "{count}");
+    }
+    assert_eq!(convert(b"A @APZ`z}~ \n"), refused(13));
+    // A line feed in any other place is not printable.
+    for place in 0..11 {
+        let mut bytes = [b'A'; 12];
+        bytes[place] = b'\n';
+        let mut text = *b"414141414141414141414141\n";
+        text[2 * place..][..2].copy_from_slice(b"0A");
+        assert_eq!(convert(&bytes), printed(&text), "{place}");
+    }
+}
+
+/// The bytes around the printable ones, the byte before and behind each edge first.
+const AROUND: [(u8, &[u8; 2]); 11] = [
+    (31, b"1F"),
+    (127, b"7F"),
+    (0, b"00"),
+    (9, b"09"),
+    (11, b"0B"),
+    (13, b"0D"),
+    (27, b"1B"),
+    (128, b"80"),
+    (160, b"A0"),
+    (195, b"C3"),
+    (255, b"FF"),
+];
+
+/// One byte that is not printable, in any place, and printable bytes are sequences; with 32
+/// or 126 in that place they are a text, and no right one.
+#[test]
+fn printable_bytes_but_one() {
+    for place in 0..12 {
+        let mut bytes = [b'A'; 12];
+        for (byte, digits) in AROUND {
+            bytes[place] = byte;
+            let mut text = *b"414141414141414141414141\n";
+            text[2 * place..][..2].copy_from_slice(digits);
+            assert_eq!(convert(&bytes), printed(&text), "{byte} at {place}");
+        }
+        for byte in [32, 126] {
+            bytes[place] = byte;
+            assert_eq!(convert(&bytes), refused(13), "{byte} at {place}");
+        }
+    }
+}
+
+/// Every byte among printable ones.
+#[test]
+fn every_byte_among_printable_ones() {
+    for byte in 0..=255 {
+        let bytes = [b'~', b' ', b'A', b'Z', byte, b'a', b'z', 48, 57, 44, 32, 32];
+        let text = format!("7E20415A{byte:02X}617A30392C2020\n");
+        let expected = match byte {
+            32..=126 => refused(13),
+            _ => printed(text.as_bytes()),
+        };
+        assert_eq!(convert(&bytes), expected, "{byte}");
+    }
+}
+
+/// One printable byte, in any place, and bytes that are none are sequences.
+#[test]
+fn one_printable_byte() {
+    let edges = [(31, b"1F"), (32, b"20"), (126, b"7E"), (127, b"7F")];
+    for place in 0..12 {
+        for (byte, digits) in edges {
+            let mut bytes = [7; 12];
+            bytes[place] = byte;
+            let mut text = *b"070707070707070707070707\n";
+            text[2 * place..][..2].copy_from_slice(digits);
+            assert_eq!(convert(&bytes), printed(&text), "{byte} at {place}");
+        }
+    }
+}
+
+/// Of printable bytes the number is at least 2020. One of its bytes below, and they are
+/// sequences.
+#[test]
+fn the_least_number_of_printable_bytes() {
+    assert_eq!(convert(&[32; 12]), refused(13));
+    assert_eq!(convert(b"AAAAAAAAAA  "), refused(13));
+    let text = b"41414141414141414141201F\n";
+    assert_eq!(convert(b"AAAAAAAAAA \x1F"), printed(text));
+    let text = b"414141414141414141411F20\n";
+    assert_eq!(convert(b"AAAAAAAAAA\x1F "), printed(text));
+    // A number as stations give it, in two sequences; one of them is enough.
+    let text = b"414141414141414141410001,414141414141414141414141\n";
+    assert_eq!(convert(b"AAAAAAAAAA\0\x01AAAAAAAAAAAA"), printed(text));
+    let text = b"414141414141414141414141,414141414141414141410001\n";
+    assert_eq!(convert(b"AAAAAAAAAAAAAAAAAAAAAA\0\x01"), printed(text));
+    // Number 0000 is not printable either, and is the writer's 14.
+    assert_eq!(convert(b"AAAAAAAAAA\0\0"), refused(14));
+    assert_eq!(convert(b"AAAAAAAAAA\0\0AAAAAAAAAAAA"), refused(14));
+}
+
+/// 24 printable bytes are a text of one sequence, right or not, and never those of two.
+#[test]
+fn a_text_of_one_and_not_the_bytes_of_two() {
     assert_eq!(
         convert(b"303132333435363738394142"),
         printed(b"0123456789AB")
@@ -149,14 +259,72 @@ fn a_text_of_one_before_the_bytes_of_two() {
     // A text of number 0000 is a text, though its bytes could be written.
     assert_eq!(convert(b"303132333435363738390000"), refused(14));
     assert_eq!(convert(b"303132333435363738390000\n"), refused(14));
-    // One small letter, and it is no text but two sequences.
-    let digits = b"303130323033303430353036,303730383039306130423043\n";
-    assert_eq!(convert(b"0102030405060708090a0B0C"), printed(digits));
-    assert_eq!(convert(b"0102030405060708090a0B0C\n"), refused(13));
-    // A character short, with a line feed: 24 bytes again.
-    let digits = b"303130323033303430353036,30373038303930413042300A\n";
-    assert_eq!(convert(b"0102030405060708090A0B0\n"), printed(digits));
-    assert_eq!(convert(b"0102030405060708090A0B0"), refused(13));
+    // With a wrong character too, 13 goes first.
+    assert_eq!(convert(b"30313233343536373839000O"), refused(13));
+    assert_eq!(convert(b"x03132333435363738390000\n"), refused(13));
+}
+
+/// A mistyped text, with and without its line feed.
+#[test]
+fn a_mistyped_text_is_refused() {
+    let mistyped = [
+        // A small letter, a letter O, a blank, a comma, a tilde.
+        "0102030405060708090a0B0C",
+        "0102030405060708090A0B0O",
+        "0102030405060708090A0B0 ",
+        " 102030405060708090A0B0C",
+        "010203040506,708090A0B0C",
+        "~102030405060708090A0B0C",
+        // A character too few, 23 and a line feed being 24 bytes, and one too many.
+        "0102030405060708090A0B0",
+        "0102030405060708090A0B0CD",
+        // Of two: 48 characters with and without a comma, then a comma too many.
+        "0102030405060708090A0B0C,0102030405060708090A0B0",
+        "0102030405060708090A0B0C0102030405060708090A0B0C",
+        "0102030405060708090A0B0C,,0102030405060708090A0B0C",
+        // A half of one, three halves, and no more than a comma.
+        "010203040506",
+        "0102030405060708090A0B0C010203040506",
+        "0102030405060708090A0B0C010203040506,",
+        ",",
+    ];
+    for text in mistyped {
+        assert_eq!(convert(text.as_bytes()), refused(13), "{text}");
+        let line = format!("{text}\n");
+        assert_eq!(
+            convert(line.as_bytes()),
+            refused(13),
+            "{text} and a line feed"
+        );
+    }
+}
+
+/// A character that is not printable makes sequences of a text, if the length is theirs.
+#[test]
+fn a_text_with_a_character_that_is_not_printable() {
+    let text = b"303130323033303430353036,303730383039304130423009\n";
+    assert_eq!(convert(b"0102030405060708090A0B0\t"), printed(text));
+    let text = b"1F3130323033303430353036,303730383039304130423043\n";
+    assert_eq!(convert(b"\x1F102030405060708090A0B0C"), printed(text));
+    let text = b"303130323033303430353036,7F3730383039304130423043\n";
+    assert_eq!(convert(b"010203040506\x7F708090A0B0C"), printed(text));
+    assert_eq!(convert(b"0102030405060708090A0B0\t\n"), refused(13));
+    assert_eq!(convert(b"0102030405060708090A0B0C\t"), refused(13));
+    assert_eq!(convert(b"0102030405060708090A0B0C\0"), refused(13));
+}
+
+/// A carriage return is not printable: no right text with one is read. With 22 characters
+/// before it and the line feed there are 24 bytes, and these are two sequences.
+#[test]
+fn a_carriage_return() {
+    assert_eq!(convert(b"0102030405060708090A0B0C\r\n"), refused(13));
+    assert_eq!(convert(b"0102030405060708090A0B0C\r"), refused(13));
+    assert_eq!(convert(b"0102030405060708090A0B0\r\n"), refused(13));
+    assert_eq!(convert(b"\r\n"), refused(13));
+    let text = b"303130323033303430353036,30373038303930413042300D\n";
+    assert_eq!(convert(b"0102030405060708090A0B0\r"), printed(text));
+    let text = b"303130323033303430353036,303730383039304130420D0A\n";
+    assert_eq!(convert(b"0102030405060708090A0B\r\n"), printed(text));
 }
 
 #[test]
@@ -174,9 +342,30 @@ fn refusals() {
     assert_eq!(convert(&[&zero[..], b"\n"].concat()), refused(14));
     let nine = [ONE_TEXT; 9].join(",");
     assert_eq!(convert(nine.as_bytes()), refused(13));
+    let nine = nine + "\n";
+    assert_eq!(convert(nine.as_bytes()), refused(13));
 }
 
-/// Every length up to more than the program takes, of bytes and of digits.
+/// Printable bytes of any length, those that sequences have among them, are refused by 13; but
+/// 24 digits are a text.
+#[test]
+fn any_length_of_printable_bytes() {
+    for length in (0..=108).chain([198, 199, 200, 255, 256, 257, 300]) {
+        for byte in b" G~," {
+            let mut bytes = vec![*byte; length];
+            assert_eq!(convert(&bytes), refused(13), "{length} of {byte}");
+            bytes.push(b'\n');
+            assert_eq!(convert(&bytes), refused(13), "{length} of {byte}, a line");
+        }
+        let expected = match length {
+            24 => printed(&[0x77; 12]),
+            _ => refused(13),
+        };
+        assert_eq!(convert(&vec![b'7'; length]), expected, "{length} digits");
+    }
+}
+
+/// Every length up to more than the program takes, of bytes that are not printable.
 #[test]
 fn every_length() {
     for length in 0..=300 {
@@ -269,9 +458,17 @@ fn inputs_meet_what_they_are_for() {
             Err(code) => format!("refused by {}", code.number()),
         };
         *seen.entry(what).or_default() += 1;
-        *seen.entry("too long".to_string()).or_default() += usize::from(input.len() > 256);
+        let none = input.iter().filter(|byte| !(32..=126).contains(*byte));
+        let what = match none.count() {
+            _ if input.len() > 256 => "too long",
+            0 if input.len() % 12 == 0 => "printable, of a length of sequences",
+            1 if input.len() % 12 == 0 && input.ends_with(b"\n") => "the same, as a line",
+            1 if input.len() % 12 == 0 => "the same, but for one byte",
+            _ => "other",
+        };
+        *seen.entry(what.to_string()).or_default() += 1;
     }
-    assert_eq!(seen.len(), 6, "{seen:?}");
+    assert_eq!(seen.len(), 10, "{seen:?}");
     assert!(seen.values().all(|count| *count >= 5), "{seen:?}");
 }
 
