@@ -9,14 +9,14 @@ use lib.ListN.{length, take}
 use lib.Dec.{T}
 use lib.IntN.{ℤ}
 use Rattle.model.specs.Lists.{_∈_, greatest}
-use Rattle.model.specs.Layout.{imageSize}
+use Rattle.model.specs.Layout.{imageSize, sequencesRoom, textRoom}
 use Rattle.model.specs.Message.{Message, blockOf}
 use Rattle.model.specs.Order.{State, find, sequencesOf, needs, effectiveBlock, keyOf, less, Executable, Grounded, IsLog, logOf, heldOf}
 use Rattle.model.specs.Setpoints.{startValues, setpointsOf}
 use Rattle.model.specs.Image.{imageOf, Valid, IsImage, stateIn, valuesIn, logIn, isImage}
 use Rattle.model.specs.Steps.{Step, common, undosOf, executionsOf, stepsOf, recordsBetween, recordsBytes, readRecords, Plays, Standing, PlaysPairs}
-use Rattle.model.specs.Codes.{lowestCode, deliverConditions, composeConditions, emptyConditions, logMessageConditions, setpointConditions}
-use Rattle.model.specs.Calls.{deliver, compose}
+use Rattle.model.specs.Codes.{lowestCode, deliverConditions, composeConditions, emptyConditions, logMessageConditions, setpointConditions, readSequencesConditions, writeSequencesConditions}
+use Rattle.model.specs.Calls.{deliver, compose, readSequences, writeSequences}
 use Rattle.model.specs.PlainStation.{receive}
 use Rattle.model.specs.Run.{delivery, Agreement, Begins, Answers}
 use Rattle.order.specs.KeyOrder.{Total}
@@ -33,6 +33,8 @@ use Rattle.laws.specs.PairLaws.{standingIn, state-pairs-play, pairs-unique}
 use Rattle.laws.specs.CodeLaws.{Lowest, lowest-is}
 use Rattle.laws.specs.DeliverLaws.{receive-valid}
 use Rattle.run_laws.specs.RunLaws.{CallFacts, call-facts, agreement}
+use Rattle.text_laws.specs.RoundTrips as trips
+use Rattle.text_laws.specs.RoundTrips.{accepted, front}
 use Rattle.compose_laws.specs.ComposeLaws.{Promised, composedBy, compose-promise}
 
 -- 1. The computed log is the declared one and the only one. A received delta is in it exactly if it is executable, and so
@@ -131,7 +133,8 @@ pub compose-law : (b line commands : List ℕ) (flag priority : ℕ) (buffer : L
 compose-law = compose-promise
 
 -- 7. A call's code is the lowest number of its own list whose condition holds, and 0 exactly where none does. That a refusal
--- leaves every buffer is in CodeLaws: `deliver-refused`, `empty-refused`, `compose-refused`, `setpoint-refused`.
+-- leaves every buffer is in CodeLaws: `deliver-refused`, `empty-refused`, `compose-refused`, `setpoint-refused`; and in AnswerLaws of
+-- texts: `read-refused`, `write-refused`.
 pub deliver-lowest : (b : List ℕ) (m : Message) (room : ℕ) → Lowest (deliverConditions b m room) (lowestCode (deliverConditions b m room))
 deliver-lowest b m room = lowest-is 0 (deliverConditions b m room) (omega arith)
 
@@ -147,6 +150,22 @@ log-message-lowest b place = lowest-is 0 (logMessageConditions b place) (omega a
 
 pub setpoint-lowest : (b : List ℕ) (tag : ℕ) → Lowest (setpointConditions b tag) (lowestCode (setpointConditions b tag))
 setpoint-lowest b tag = lowest-is 0 (setpointConditions b tag) (omega arith)
+
+pub read-sequences-lowest : (t : List ℕ) (room : ℕ) → Lowest (readSequencesConditions t room) (lowestCode (readSequencesConditions t room))
+read-sequences-lowest t room = lowest-is 0 (readSequencesConditions t room) (omega arith)
+
+pub write-sequences-lowest : (b : List ℕ) (room : ℕ) → Lowest (writeSequencesConditions b room) (lowestCode (writeSequencesConditions b room))
+write-sequences-lowest b room = lowest-is 0 (writeSequencesConditions b room) (omega arith)
+
+-- 8. Reading a written list yields the sequences, and a text that is read is the one that would be written.
+pub record TextLaw : Type 0 where
+  pub written-read : (b buffer : List ℕ) → writeSequences b buffer .code ≡ 0 → (out : List ℕ) → sequencesRoom ≤ length out
+      → readSequences (front (writeSequences b buffer)) out ≡ accepted b out
+  pub read-written : (t buffer : List ℕ) → readSequences t buffer .code ≡ 0 → (out : List ℕ) → textRoom ≤ length out
+      → writeSequences (front (readSequences t buffer)) out ≡ accepted t out
+
+pub text-law : TextLaw
+text-law = record { written-read = trips.written-read; read-written = trips.read-written }
 
 -- Demand 3, of the definitions' own calls.
 pub agreement-law : Agreement Begins Answers
