@@ -1,11 +1,11 @@
 // Code 13: the form of a text, and the size of sequences.
-use crate::parts::check_part;
 use layout::SEQUENCE_SIZE;
 use layout::SEQUENCES_ROOM;
 use layout::TEXT_PART_SIZE;
 use layout::TEXT_ROOM;
 use message::checks::Check;
 use text_digits::digits;
+use text_parts::check_part;
 ghost use mathlib.Core.Path.{_≡_};
 ghost use Prim.Native.Nat.{_/_};
 ghost use lib.ListN.{length};

@@ -3,9 +3,9 @@ pub mod parts;
 
 use crate::parts::put_text;
 use message::checks::Check;
+use sizes::check_text_room;
 use text_checks::answer::Conversion;
 use text_checks::check_numbers;
-use text_checks::check_text_room;
 use text_checks::forms::check_sequences;
 ghost use mathlib.Core.Path.{_≡_};
 ghost use Rattle.model.specs.Calls as model;

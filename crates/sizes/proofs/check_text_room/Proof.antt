@@ -1,7 +1,7 @@
--- The test of the size is the definition's.
+-- The test of the sizes is the definition's.
 use borrow.Author.Tests.{lt-ltb, le-ltb}
-use Rattle.text_checks.proofs.check_text_room.Statement.{statement}
-use Rattle.text_checks.proofs.check_text_room.Tie as tie
+use Rattle.sizes.proofs.check_text_room.Statement.{statement}
+use Rattle.sizes.proofs.check_text_room.Tie as tie
 
 returns : tie.Need-returns
 returns c = simp (lt-ltb _ _ (c .if1 .taken))

@@ -12,8 +12,8 @@ use Rattle.model.specs.Layout.{charactersSize, textPartSize}
 use Rattle.model.specs.Text.{comma, textPartRight}
 use Rattle.buffer.specs.FieldLaws.{field-byte}
 use Rattle.text_laws.specs.PartLaws.{part-is, comma-put, comma-there}
-use Rattle.text_checks.proofs.parts.check_part.Statement.{statement}
-use Rattle.text_checks.proofs.parts.check_part.Tie as tie
+use Rattle.text_parts.proofs.check_part.Statement.{statement}
+use Rattle.text_parts.proofs.check_part.Tie as tie
 
 abbrev began : tie.After-are-digits → tie.Start
 began c = c .before .before

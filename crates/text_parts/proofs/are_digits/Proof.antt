@@ -12,8 +12,8 @@ use Rattle.model.specs.Lists.{every}
 use Rattle.model.specs.Layout.{charactersSize}
 use Rattle.model.specs.Text.{noDigit, isDigit}
 use Rattle.order.specs.ScanLaws.{every-step, every-end}
-use Rattle.text_checks.proofs.parts.are_digits.Statement.{statement}
-use Rattle.text_checks.proofs.parts.are_digits.Tie as tie
+use Rattle.text_parts.proofs.are_digits.Statement.{statement}
+use Rattle.text_parts.proofs.are_digits.Tie as tie
 
 abbrev characters : List ℕ → ℕ → List ℕ
 characters t at = take charactersSize (drop at t)
