@@ -1,7 +1,7 @@
 // Hexadecimal digits and their characters.
-mod table;
+mod entries;
 
-use crate::table::DIGITS;
+use crate::entries::DIGITS;
 ghost use mathlib.Core.Path.{_≡_};
 ghost use Prim.Native.Nat.{_<_};
 ghost use Rattle.model.specs.Text.{digitOf, characterOf};
