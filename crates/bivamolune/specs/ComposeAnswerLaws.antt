@@ -17,7 +17,9 @@ use Rattle.compose_laws.specs.ComposeLaws.{Promised, compose-promise, composedB
 use Rattle.compose.specs.declared.answer.Composition.{Composition}
 use Rattle.compose.specs.declared.answer.Composition.the-variants as composition
 use Rattle.compose.specs.Answer.{composedBy}
-use Rattle.bivamolune.specs.ComposeAnswers.{numberOf, LengthUnpacks, Composes, numberBy, Short}
+use Rattle.bivamolune.specs.Packing.{numberOf, LengthUnpacks}
+use Rattle.bivamolune.specs.PackingLaws.{length-unpacked}
+use Rattle.bivamolune.specs.ComposeAnswers.{Composes, numberBy, Short}
 
 -- ---- a written message passes 3 to 6, and so is at most 200 bytes long
 compose-short : (b line commands : List ℕ) (flag priority : ℕ) (buffer : List ℕ) → compose b line commands flag priority buffer .size ≤ messageRoom
@@ -74,9 +76,6 @@ short-if composition.WrongContent message h = tt
 short-if composition.HeldLine message h = tt
 short-if composition.PastLimit message h = tt
 short-if composition.ManyDependencies message h = tt
-
-pub length-unpacked : (code size : ℕ) → code < 256 → LengthUnpacks (numberOf code size) code size
-length-unpacked code size h = record { code-back = omega arith; length-back = omega arith }
 
 module _ (image line commands : List ℕ) (flag priority : ℕ) (message : List ℕ) (c : Composition) (exit : List ℕ) (e : composedBy c exit ≡ compose image line commands flag priority message) where
   abbrev x : Composed

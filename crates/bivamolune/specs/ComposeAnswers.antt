@@ -1,25 +1,12 @@
 -- What compose promises in C: the number that it answers, and every byte of the message buffer.
 use mathlib.Core.Path.{_≡_}
 use mathlib.Core.List.{List}
-use Prim.Native.Nat.{ℕ, _+_, _*_, _/_, _≤_}
+use Prim.Native.Nat.{ℕ, _≤_}
 use Rattle.model.specs.Layout.{messageRoom}
 use Rattle.model.specs.Calls.{compose}
 use Rattle.compose.specs.declared.answer.Composition.{Composition}
 use Rattle.compose.specs.declared.answer.Composition.the-variants as composition
-use Rattle.bivamolune.specs.Packing.{codeIn}
-
--- A code and a length in one number: a byte for the code.
-abbrev pub numberOf : ℕ → ℕ → ℕ
-numberOf code size = code + 256 * size
-
--- bivamolune_composed_length of include/bivamolune.h
-abbrev pub lengthIn : ℕ → ℕ
-lengthIn answer = answer / 256
-
--- What the header gives back of an answer.
-pub record LengthUnpacks (answer code size : ℕ) : Type 0 where
-  pub code-back : codeIn answer ≡ code
-  pub length-back : lengthIn answer ≡ size
+use Rattle.bivamolune.specs.Packing.{numberOf, LengthUnpacks}
 
 -- code + 256 × length, and the header gives the two back
 pub record Composes (image line commands : List ℕ) (flag priority : ℕ) (message : List ℕ) (r : ℕ) (message-exit : List ℕ) : Type 0 where

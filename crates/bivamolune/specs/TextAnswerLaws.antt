@@ -8,8 +8,8 @@ use Rattle.model.specs.Calls.{Converted}
 use Rattle.text_checks.specs.declared.answer.Conversion.{Conversion}
 use Rattle.text_checks.specs.declared.answer.Conversion.the-variants as conversion
 use Rattle.text_checks.specs.Answer.{convertedBy, buffer-is}
-use Rattle.bivamolune.specs.ComposeAnswers.{numberOf, LengthUnpacks}
-use Rattle.bivamolune.specs.ComposeAnswerLaws.{length-unpacked}
+use Rattle.bivamolune.specs.Packing.{numberOf, LengthUnpacks}
+use Rattle.bivamolune.specs.PackingLaws.{length-unpacked}
 use Rattle.bivamolune.specs.TextAnswers.{Converts, numberBy, Short}
 
 -- ---- the number of an answer is that of its parts

@@ -6,7 +6,7 @@ use Rattle.model.specs.Layout.{textRoom}
 use Rattle.model.specs.Calls.{Converted, readSequences, writeSequences}
 use Rattle.text_checks.specs.declared.answer.Conversion.{Conversion}
 use Rattle.text_checks.specs.declared.answer.Conversion.the-variants as conversion
-use Rattle.bivamolune.specs.ComposeAnswers.{numberOf, LengthUnpacks}
+use Rattle.bivamolune.specs.Packing.{numberOf, LengthUnpacks}
 
 -- code + 256 × length, and the header gives the two back
 pub record Converts (answer : Converted) (r : ℕ) (exit : List ℕ) : Type 0 where

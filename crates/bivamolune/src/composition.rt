@@ -1,11 +1,9 @@
 // Compose, for C.
+use crate::packing::LENGTH_UNIT;
 use compose::answer::Composition;
 use compose::compose;
 ghost use mathlib.Core.Path.{_≡_};
 ghost use Rattle.bivamolune.specs.ComposeAnswers.{Composes, numberBy, Short};
-
-// what an answer's length is multiplied by
-pub const LENGTH_UNIT: u32 = 256;
 
 // The number of what compose answers.
 fn pack_composition(c: Composition) -> u32

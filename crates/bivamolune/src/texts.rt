@@ -1,5 +1,5 @@
 // Sequences as text, for C. Each call answers code + 256 × length.
-use crate::composition::LENGTH_UNIT;
+use crate::packing::LENGTH_UNIT;
 use text_checks::answer::Conversion;
 use text_reading::read_sequences;
 use text_writing::write_sequences;

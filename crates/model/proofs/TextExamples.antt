@@ -56,7 +56,7 @@ unfolding texts sequenceBytesIn digitOf
 sequences-hold = refl
 
 -- ---- 13, of a text; true is right
--- so many sequences, each with a character before its comma
+-- one sequence and so many more, joined by commas
 abbrev many : ℕ → List ℕ
 many zero = firstText
 many (suc n) = firstText ++ 44 ∷ many n
@@ -72,7 +72,7 @@ rightTexts =
     -- eight, and nine
     ∷ (many 7, true)
     ∷ (many 8, false)
-    -- none; one character short, and one over; 23 and 25 beside 49
+    -- none; one character short, and one over; 48 and 50 beside 49
     ∷ ([], false)
     ∷ (take 23 firstText, false)
     ∷ (firstText ++ 48 ∷ [], false)

@@ -3,7 +3,7 @@
 use mathlib.Core.Bool.{cond}
 use mathlib.Core.List.{List, [], _∷_, _++_}
 use Prim.Native.Nat.{ℕ, zero, suc, _+_}
-use lib.ListN.{length, drop, getD}
+use lib.ListN.{length, take, drop, getD}
 use lib.Dec.{eqb}
 use lib.IntN.{ℤ, pos}
 use Rattle.model.specs.Bytes.{number}
@@ -139,6 +139,10 @@ pub record Converted : Type 0 where
 abbrev pub convertedAnswer : ℕ → List ℕ → List ℕ → Converted
 convertedAnswer zero new buffer = record { code = 0; size = length new; buffer = written new buffer }
 convertedAnswer (suc n) new buffer = record { code = suc n; size = 0; buffer = buffer }
+
+-- what a call wrote
+abbrev pub front : Converted → List ℕ
+front a = take (a .size) (a .buffer)
 
 unfoldable pub readSequences : List ℕ → List ℕ → Converted
 readSequences t buffer = convertedAnswer (lowestCode (readSequencesConditions t (length buffer))) (sequenceBytesIn t) buffer

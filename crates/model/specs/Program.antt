@@ -71,10 +71,14 @@ abbrev pub printed : ℕ → List ℕ → Printed
 printed zero output = record { code = 0; output = output }
 printed (suc n) output = record { code = suc n; output = [] }
 
--- The reader's and the writer's answers, with room enough. A text is printed as a line.
+-- A text becomes sequences, and sequences become a line of text: by the reader's and the writer's rules, with room enough.
+abbrev pub printedSequences : List ℕ → Printed
+printedSequences t = printed (lowestCode (readSequencesConditions t sequencesRoom)) (sequenceBytesIn t)
+
+abbrev pub printedText : List ℕ → Printed
+printedText b = printed (lowestCode (writeSequencesConditions b textRoom)) (textOf b ++ lineFeed ∷ [])
+
 unfoldable pub otherForm : List ℕ → Printed
 otherForm input =
     let text = withoutLineFeed input in
-    cond (every printable text)
-    (printed (lowestCode (readSequencesConditions text sequencesRoom)) (sequenceBytesIn text))
-    (printed (lowestCode (writeSequencesConditions input textRoom)) (textOf input ++ lineFeed ∷ []))
+    cond (every printable text) (printedSequences text) (printedText input)

@@ -57,8 +57,11 @@ textOf b = joined (map charactersOf (sequenceParts b))
 abbrev pub textParts : List ℕ → List (List ℕ)
 textParts t = parts (suc (length t) / textPartSize) textPartSize (t ++ comma ∷ [])
 
+abbrev pub sequenceIn : List ℕ → List ℕ
+sequenceIn p = bytesIn (take charactersSize p)
+
 unfoldable pub sequenceBytesIn : List ℕ → List ℕ
-sequenceBytesIn t = join (map (λ p. bytesIn (take charactersSize p)) (textParts t))
+sequenceBytesIn t = join (map sequenceIn (textParts t))
 
 -- ---- what 13 asks of a text: characters, commas and length; 24, 49 and so on to 199
 abbrev pub textPartRight : List ℕ → Bool

@@ -1,11 +1,12 @@
 -- Laws of lists that every crate uses: items by their places, the greatest of a list, and the members of its parts.
-use mathlib.Core.Path.{_≡_, refl, sym, ap}
+use mathlib.Core.Path.{_≡_, refl, sym, _∙_, ap, ap₂, subst}
 use mathlib.Core.Logic.{_⊎_, inl, inr, ⊎-elim}
-use mathlib.Core.List.{List, [], _∷_, map, reverse, reverseAux, List·Memᴰ·head, List·Memᴰ·tail, List·Memᴰ·not-nil, List·Memᴰ·cases-cons}
-use Prim.Native.Nat.{ℕ, zero, suc, _≤_, _<_, zero-le, suc-le-suc}
+use mathlib.Core.List.{List, [], _∷_, map, reverse, reverseAux, List·Memᴰ·head, List·Memᴰ·tail, List·Memᴰ·not-nil, List·Memᴰ·cases-cons, Memᴰ·of-map}
+use Prim.Native.Nat.{ℕ, zero, suc, _+_, _≤_, _<_, zero-le, suc-le-suc}
 use native.Mathlib.Omega.{arith}
 use native.Mathlib.Nat.{le-of-suc-le-suc}
 use lib.ListN.{length, take, drop, getD}
+use lib.Seq.{getD-take, getD-drop}
 use Rattle.model.specs.Lists.{_∈_, greatest}
 
 pub getD-∈ : {A : Type 0} (l : List A) (k : ℕ) (d : A) → k < length l → getD l k d ∈ l
@@ -30,6 +31,14 @@ pub map-map : {A B C : Type 0} (g : B → C) (f : A → B) (l : List A) → map 
 map-map g f [] = refl
 map-map g f (a ∷ l) = ap (λ (k : List _). g (f a) ∷ k) (map-map g f l)
 
+pub map-same : {A : Type 0} (f : A → A) (l : List A) → ((a : A) → a ∈ l → f a ≡ a) → map f l ≡ l
+map-same f [] h = refl
+map-same f (a ∷ l) h = ap₂ _∷_ (h a (List·Memᴰ·head refl)) (map-same f l (λ b k. h b (List·Memᴰ·tail k)))
+
+-- what holds of each item's image holds of each item of the map
+pub map-all : {A B : Type 0} (P : B → Type 0) (f : A → B) (l : List A) → ((a : A) → a ∈ l → P (f a)) → (b : B) → b ∈ map f l → P b
+map-all P f l h b k = let m = Memᴰ·of-map f l k in subst P (m .2) (h (m .0) (m .1))
+
 pub take-map : {A B : Type 0} (n : ℕ) (f : A → B) (l : List A) → take n (map f l) ≡ map f (take n l)
 take-map zero f l = refl
 take-map (suc n) f [] = refl
@@ -46,6 +55,10 @@ map-reversed f (a ∷ l) r = map-reversed f l (a ∷ r)
 
 pub map-reverse : {A B : Type 0} (f : A → B) (l : List A) → map f (reverse l) ≡ reverse (map f l)
 map-reverse f l = map-reversed f l []
+
+-- ---- an item of a part
+pub getD-part : {A : Type 0} (l : List A) (from n i : ℕ) (d : A) → i < n → getD (take n (drop from l)) i d ≡ getD l (from + i) d
+getD-part l from n i d h = getD-take n (drop from l) i d h ∙ getD-drop from l i d
 
 -- ---- members of a part, and of a list turned round
 pub ∈-take : {A : Type 0} (n : ℕ) (l : List A) {a : A} → a ∈ take n l → a ∈ l

@@ -6,7 +6,7 @@ use standard_input::drop_rest;
 use standard_input::read_input;
 use text_checks::answer::Conversion;
 use text_forms::OUTPUT_ROOM;
-use text_forms::other_form;
+use text_forms::convert;
 
 // More than either form has: an input that fills it is refused.
 const INPUT_ROOM: usize = 256;
@@ -27,9 +27,10 @@ fn refuse(line: &[u8]) {
 // Prints the other form of an input, or the code that refuses it.
 fn print_other(input: &[u8]) {
     let mut out = [0u8; OUTPUT_ROOM];
-    let answer = other_form(input, &mut out);
+    let answer = convert(input, &mut out);
     match answer {
         Conversion::Written(n) => print(&out[..n]),
+        // the output is large enough
         Conversion::WrongSize => refuse(b"refused: 1\n"),
         Conversion::WrongForm => refuse(b"refused: 13\n"),
         Conversion::ZeroNumber => refuse(b"refused: 14\n"),

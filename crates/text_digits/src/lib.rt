@@ -1,4 +1,4 @@
-// Hexadecimal digits and their characters.
+// The characters of a text: hexadecimal digits, and the comma.
 mod entries;
 
 use crate::entries::DIGITS;
@@ -9,6 +9,9 @@ ghost use Rattle.text_digits.specs.DigitTable.{HasDigits};
 
 // how many characters there are
 pub const CHARACTER_COUNT: usize = 256;
+
+// what stands between two sequences of a text
+pub const COMMA: u8 = b',';
 
 // what the table has for a character that is no digit
 pub const NO_DIGIT: u8 = 255;

@@ -1,95 +1,94 @@
--- What the reader or the writer answered, as what is printed.
-use mathlib.Core.Path.{_≡_, refl, sym, _∙_, ap, subst}
-use mathlib.Core.Bool.{Bool, true, false, cond}
+-- What the reader or the writer answered, as what is printed; and the line of an input.
+use mathlib.Core.Path.{_≡_, refl, sym, _∙_, ap, ap₂}
+use mathlib.Core.Bool.{Bool, cond}
 use mathlib.Core.List.{List, [], _∷_, _++_}
 use Prim.Native.Nat.{ℕ, zero, suc, _+_, _-_, _≤_, _<_}
 use native.Mathlib.Omega.{arith}
-use native.Mathlib.Numerals.{add-one}
-use lib.ListN.{length, take, drop, set, getD, length-append, length-set}
-use lib.Seq.{take-at, take-suc-set, take-length}
+use lib.ListN.{length, take, drop, set, getD, length-append}
+use lib.Seq.{append-snoc, drop-cons, set-at, take-length}
 use borrow.Author.Tests.{eq-eqb, ne-eqb, le-ltb}
 use Rattle.model.specs.Lists.{every}
 use Rattle.model.specs.Layout.{sequencesRoom, textRoom}
 use Rattle.model.specs.Text.{textOf, sequenceBytesIn}
 use Rattle.model.specs.Codes.{lowestCode, readSequencesConditions, writeSequencesConditions}
-use Rattle.model.specs.Calls.{Converted, convertedAnswer, readSequences, writeSequences}
-use Rattle.model.specs.Program.{lineFeed, printable, withoutLineFeed, printed, otherForm}
+use Rattle.model.specs.Calls.{written, Converted, convertedAnswer, readSequences, writeSequences}
+use Rattle.model.specs.Program.{lineFeed, printable, withoutLineFeed, Printed, printed, printedSequences, printedText, otherForm}
 use Rattle.text_laws.specs.AnswerLaws.{read-by, write-by}
 use Rattle.text_checks.specs.declared.answer.Conversion.{Conversion}
-use Rattle.text_checks.specs.declared.answer.Conversion.the-variants as conversion
 use Rattle.text_checks.specs.Answer.{convertedBy, buffer-is}
-use Rattle.text_forms.specs.Forms.{Printing, Prints, PrintsText, LineSize}
+use Rattle.text_forms.specs.Forms.{putAtFront, LineSize}
 
--- ---- what a call wrote is printed as it is
-printing : (n : ℕ) (new entry : List ℕ) (r : Conversion) (exit : List ℕ) → convertedBy r exit ≡ convertedAnswer n new entry → Printing (printed n new) r exit
-printing n new entry r exit e = record {
-  code = ap (λ (a : Converted). a .code) e ∙ codes n;
-  output = ap (take (convertedBy r exit .size)) (buffer-is r exit) ∙ ap (λ (a : Converted). take (a .size) (a .buffer)) e ∙ fronts n;
-  inside = subst (λ (l : List ℕ). convertedBy r exit .size ≤ length l) (sym (buffer-is r exit)) (subst (λ (a : Converted). a .size ≤ length (a .buffer)) (sym e) (fits n));
-}
-  where
-    codes : (n : ℕ) → convertedAnswer n new entry .code ≡ printed n new .code
-    codes zero = refl
-    codes (suc n) = refl
+-- ---- a text: what the reader wrote is printed as it is
+answer-printed : (n : ℕ) (new entry : List ℕ) → convertedAnswer n new entry ≡ putAtFront (printed n new) entry
+unfolding putAtFront
+answer-printed zero new entry = refl
+answer-printed (suc n) new entry = refl
 
-    fronts : (n : ℕ) → take (convertedAnswer n new entry .size) (convertedAnswer n new entry .buffer) ≡ printed n new .output
-    fronts zero = take-at new (drop (length new) entry) (length new) refl
-    fronts (suc n) = refl
+pub sequences-printed : (t entry : List ℕ) → sequencesRoom ≤ length entry → readSequences t entry ≡ putAtFront (printedSequences t) entry
+sequences-printed t entry room =
+    read-by t entry (le-ltb (length entry) sequencesRoom room) refl refl
+    ∙ answer-printed (lowestCode (readSequencesConditions t sequencesRoom)) (sequenceBytesIn t) entry
 
-    fits : (n : ℕ) → convertedAnswer n new entry .size ≤ length (convertedAnswer n new entry .buffer)
-    fits zero = omega (arith, length-append new (drop (length new) entry))
-    fits (suc n) = omega arith
+-- ---- sequences: what the writer wrote, and a line feed behind it
+line-put : (new entry : List ℕ) → length new < length entry → set (written new entry) (length new) lineFeed ≡ written (new ++ lineFeed ∷ []) entry
+line-put new entry h =
+    ap (λ (l : List ℕ). set (new ++ l) (length new) lineFeed) (drop-cons entry (length new) 0 h)
+    ∙ set-at new (getD entry (length new) 0) (drop (suc (length new)) entry) lineFeed (length new) refl
+    ∙ sym (append-snoc new lineFeed (drop (suc (length new)) entry))
+    ∙ ap (λ (n : ℕ). new ++ lineFeed ∷ [] ++ drop n entry) {x = suc (length new)} {y = length (new ++ lineFeed ∷ [])} (omega (arith, length-append new (lineFeed ∷ [])))
 
--- ---- and a line feed behind it
+-- with a code of 0 it is as long as the answer says
 module _ (n : ℕ) (new entry : List ℕ) where
-  line-printing : (size : ℕ) (exit : List ℕ) → convertedBy (conversion.Written size) exit ≡ convertedAnswer n new entry → size < length exit
-      → Printing (printed n (new ++ lineFeed ∷ [])) (conversion.Written (size + 1)) (set exit size lineFeed)
-  line-printing size exit e h = go n e
+  line-printed : (size : ℕ) (exit : List ℕ) → record { code = 0; size = size; buffer = exit } ≡ convertedAnswer n new entry → size < length entry
+      → record { code = 0; size = size + 1; buffer = set exit size lineFeed } ≡ putAtFront (printed n (new ++ lineFeed ∷ [])) entry
+  unfolding putAtFront
+  line-printed size exit e h = go n e
     where
-      go : (n : ℕ) → convertedBy (conversion.Written size) exit ≡ convertedAnswer n new entry → Printing (printed n (new ++ lineFeed ∷ [])) (conversion.Written (size + 1)) (set exit size lineFeed)
-      go zero e = record {
-        code = refl;
-        output =
-            ap (λ (k : ℕ). take k (set exit size lineFeed)) (add-one size) ∙ take-suc-set exit size lineFeed h
-            ∙ ap (λ (l : List ℕ). l ++ lineFeed ∷ []) (ap (λ (a : Converted). take (a .size) (a .buffer)) e ∙ take-at new (drop (length new) entry) (length new) refl);
-        inside = omega (arith, length-set exit size lineFeed);
-      }
+      go : (n : ℕ) → record { code = 0; size = size; buffer = exit } ≡ convertedAnswer n new entry
+          → record { code = 0; size = size + 1; buffer = set exit size lineFeed } ≡ putAtFront (printed n (new ++ lineFeed ∷ [])) entry
+      go zero e =
+          let long : size ≡ length new = ap (λ (a : Converted). a .size) e in
+          ap₂ (λ (k : ℕ) (l : List ℕ). record { code = 0; size = k; buffer = l }) {x = size + 1} {y = length (new ++ lineFeed ∷ [])} (omega (arith, length-append new (lineFeed ∷ [])))
+          (ap₂ (λ (l : List ℕ) (k : ℕ). set l k lineFeed) (ap (λ (a : Converted). a .buffer) e) long ∙ line-put new entry (omega arith))
       go (suc n) e = let z : ⊥ = omega (arith, ap (λ (a : Converted). a .code) e) in absurd z
 
-  refused-printing : (r : Conversion) (exit : List ℕ) → (convertedBy r exit .code ≡ 0 → ⊥) → convertedBy r exit ≡ convertedAnswer n new entry
-      → Printing (printed n (new ++ lineFeed ∷ [])) r exit
-  refused-printing r exit f e = go n e
+  refusal-printed : (a : Converted) → (a .code ≡ 0 → ⊥) → a ≡ convertedAnswer n new entry → a ≡ putAtFront (printed n (new ++ lineFeed ∷ [])) entry
+  unfolding putAtFront
+  refusal-printed a f e = go n e
     where
-      go : (n : ℕ) → convertedBy r exit ≡ convertedAnswer n new entry → Printing (printed n (new ++ lineFeed ∷ [])) r exit
-      go zero e = absurd (f (ap (λ (a : Converted). a .code) e))
-      go (suc n) e = printing (suc n) new entry r exit e
+      go : (n : ℕ) → a ≡ convertedAnswer n new entry → a ≡ putAtFront (printed n (new ++ lineFeed ∷ [])) entry
+      go zero e = absurd (f (ap (λ (b : Converted). b .code) e))
+      go (suc n) e = e
 
--- ---- the writer, with room enough
-module _ (b entry : List ℕ) (room : textRoom ≤ length entry) where
-  writer-answers : writeSequences b entry ≡ convertedAnswer (lowestCode (writeSequencesConditions b textRoom)) (textOf b) entry
-  writer-answers = write-by b entry (le-ltb (length entry) textRoom room) refl refl
+module _ (b entry : List ℕ) (room : textRoom < length entry) where
+  abbrev code : ℕ
+  code = lowestCode (writeSequencesConditions b textRoom)
 
-  pub text-line : (size : ℕ) (exit : List ℕ) → convertedBy (conversion.Written size) exit ≡ writeSequences b entry → size < length exit
-      → PrintsText b (conversion.Written (size + 1)) (set exit size lineFeed)
-  text-line size exit e h = line-printing (lowestCode (writeSequencesConditions b textRoom)) (textOf b) entry size exit (e ∙ writer-answers) h
+  answers : writeSequences b entry ≡ convertedAnswer code (textOf b) entry
+  answers = write-by b entry (le-ltb (length entry) textRoom (omega arith)) refl refl
 
-  pub text-refused : (r : Conversion) (exit : List ℕ) → (convertedBy r exit .code ≡ 0 → ⊥) → convertedBy r exit ≡ writeSequences b entry → PrintsText b r exit
-  text-refused r exit f e = refused-printing (lowestCode (writeSequencesConditions b textRoom)) (textOf b) entry r exit f (e ∙ writer-answers)
+  pub text-printed : (size : ℕ) (exit : List ℕ) → record { code = 0; size = size; buffer = exit } ≡ writeSequences b entry → size ≤ textRoom
+      → record { code = 0; size = size + 1; buffer = set exit size lineFeed } ≡ putAtFront (printedText b) entry
+  text-printed size exit e h = line-printed code (textOf b) entry size exit (e ∙ answers) (omega arith)
 
--- ---- the program
-pub as-text : (input entry : List ℕ) → sequencesRoom ≤ length entry → every printable (withoutLineFeed input) ≡ true
-    → (r : Conversion) (exit : List ℕ) → convertedBy r exit ≡ readSequences (withoutLineFeed input) entry → Prints input r exit
+  pub text-refused : (a : Converted) → (a .code ≡ 0 → ⊥) → a ≡ writeSequences b entry → a ≡ putAtFront (printedText b) entry
+  text-refused a f e = refusal-printed code (textOf b) entry a f (e ∙ answers)
+
+-- ---- the two forms of an input
+abbrev formBy : Bool → List ℕ → Printed
+formBy t input = cond t (printedSequences (withoutLineFeed input)) (printedText input)
+
+pub form-is : (input : List ℕ) {t : Bool} → every printable (withoutLineFeed input) ≡ t → formBy t input ≡ otherForm input
 unfolding otherForm
-as-text input entry room t r exit e =
-    let text : List ℕ = withoutLineFeed input in
-    subst (λ (b : Bool). Printing (cond b (printed (lowestCode (readSequencesConditions text sequencesRoom)) (sequenceBytesIn text)) (printed (lowestCode (writeSequencesConditions input textRoom)) (textOf input ++ lineFeed ∷ []))) r exit) (sym t)
-    (printing (lowestCode (readSequencesConditions text sequencesRoom)) (sequenceBytesIn text) entry r exit (e ∙ read-by text entry (le-ltb (length entry) sequencesRoom room) refl refl))
+form-is input e = ap (λ (t : Bool). formBy t input) (sym e)
 
-pub as-bytes : (input : List ℕ) → every printable (withoutLineFeed input) ≡ false → (r : Conversion) (exit : List ℕ) → PrintsText input r exit → Prints input r exit
-unfolding otherForm
-as-bytes input t r exit p =
-    let text : List ℕ = withoutLineFeed input in
-    subst (λ (b : Bool). Printing (cond b (printed (lowestCode (readSequencesConditions text sequencesRoom)) (sequenceBytesIn text)) (printed (lowestCode (writeSequencesConditions input textRoom)) (textOf input ++ lineFeed ∷ []))) r exit) (sym t) p
+-- ---- what is printed lies within the output
+pub put-inside : (p : Printed) (entry : List ℕ) (r : Conversion) (exit : List ℕ) → convertedBy r exit ≡ putAtFront p entry → convertedBy r exit .size ≤ length exit
+unfolding putAtFront
+put-inside p entry r exit e =
+    let long : convertedBy r exit .size ≡ length (p .output) = ap (λ (a : Converted). a .size) e in
+    let whole : length exit ≡ length (written (p .output) entry) = ap length (buffer-is r exit ∙ ap (λ (a : Converted). a .buffer) e) in
+    omega (arith, length-append (p .output) (drop (length (p .output)) entry))
 
 -- ---- the line of an input
 pub no-line : (input : List ℕ) → length input ≡ 0 → LineSize input 0

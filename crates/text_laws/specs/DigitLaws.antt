@@ -14,7 +14,7 @@ use Rattle.model.specs.Text.{noDigit, digitOf, isDigit, characterOf, characters
 use Rattle.order.specs.TestLaws.{and-l, and-r, and-i, decide, true-T}
 
 -- ---- the character of a digit has that digit
-pub digit-back : (d : ℕ) → d < 16 → digitOf (characterOf d) ≡ d
+digit-back : (d : ℕ) → d < 16 → digitOf (characterOf d) ≡ d
 unfolding digitOf characterOf
 digit-back d h = ⊎-elim decimal letter (decide (ltb d 10))
   where
@@ -54,7 +54,7 @@ digit-small c t = go (digit-case c t)
     go (decimal low high e) = omega arith
     go (letter low high e) = omega arith
 
-pub character-back : (c : ℕ) → T (isDigit c) → characterOf (digitOf c) ≡ c
+character-back : (c : ℕ) → T (isDigit c) → characterOf (digitOf c) ≡ c
 unfolding characterOf
 character-back c t = go (digit-case c t)
   where

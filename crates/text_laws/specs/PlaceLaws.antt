@@ -8,13 +8,13 @@ use lib.ListN.{length, take, drop, getD, length-drop}
 use lib.Seq.{length-take-le, take-at, drop-at}
 use Rattle.model.specs.Lists.{every, same}
 use Rattle.model.specs.Layout.{sequenceSize, charactersSize, textPartSize}
-use Rattle.model.specs.Text.{comma, isDigit, charactersOf, bytesIn, sequenceParts, textOf, textParts, sequenceBytesIn, textPartRight}
+use Rattle.model.specs.Text.{comma, isDigit, charactersOf, bytesIn, sequenceParts, textOf, textParts, sequenceIn, sequenceBytesIn, textPartRight}
 use Rattle.order.specs.ListLaws.{getD-∈, getD-map}
 use Rattle.order.specs.TestLaws.{and-l}
 use Rattle.wire_laws.specs.BytesLaws.{length-parts, parts-at}
 use Rattle.text_laws.specs.DigitLaws.{length-characters}
 use Rattle.text_laws.specs.PartLaws.{characters-are, behind-is, comma-there}
-use Rattle.text_laws.specs.TextLaws.{textPartOf, sequenceIn, Sequences, text-length, text-parts-are, Text, read-length, read-parts}
+use Rattle.text_laws.specs.TextLaws.{textPartOf, Sequences, text-length, text-parts-are, Text, read-length, read-parts}
 
 -- ---- in a text that is written
 module _ (b : List ℕ) (s : Sequences b (length b / sequenceSize)) (k : ℕ) (h : k < length b / sequenceSize) where
@@ -50,19 +50,19 @@ module _ (b : List ℕ) (s : Sequences b (length b / sequenceSize)) (k : ℕ) (h
 
 -- ---- in a text that is read
 module _ (t : List ℕ) (x : Text t (suc (length t) / textPartSize)) (k : ℕ) (h : k < suc (length t) / textPartSize) where
-  abbrev number : ℕ
-  number = suc (length t) / textPartSize
+  abbrev count : ℕ
+  count = suc (length t) / textPartSize
 
   within : textPartSize * k + charactersSize ≤ length t
   within = omega (arith, x .whole)
 
   found-is : getD (textParts t) k [] ≡ take textPartSize (drop (textPartSize * k) (t ++ comma ∷ []))
-  found-is = parts-at number textPartSize (t ++ comma ∷ []) k h
+  found-is = parts-at count textPartSize (t ++ comma ∷ []) k h
 
   pub digits-at : T (every isDigit (take charactersSize (drop (textPartSize * k) t)))
   digits-at =
       let here = getD (textParts t) k [] in
-      let right : T (textPartRight here) = x .parts-right here (getD-∈ (textParts t) k [] (omega (arith, length-parts number textPartSize (t ++ comma ∷ [])))) in
+      let right : T (textPartRight here) = x .parts-right here (getD-∈ (textParts t) k [] (omega (arith, length-parts count textPartSize (t ++ comma ∷ [])))) in
       subst (λ (l : List ℕ). T (every isDigit l)) (ap (take charactersSize) found-is ∙ characters-are t (textPartSize * k) within)
       (and-l (every isDigit (take charactersSize here)) (same (drop charactersSize here) (comma ∷ [])) right)
 
@@ -70,5 +70,5 @@ module _ (t : List ℕ) (x : Text t (suc (length t) / textPartSize)) (k : ℕ) (
   bytes-at =
       sym (parts-at (length (sequenceBytesIn t) / sequenceSize) sequenceSize (sequenceBytesIn t) k (omega (arith, read-length t x)))
       ∙ ap (λ (l : List (List ℕ)). getD l k []) (read-parts t x)
-      ∙ getD-map sequenceIn (textParts t) k [] [] (omega (arith, length-parts number textPartSize (t ++ comma ∷ [])))
+      ∙ getD-map sequenceIn (textParts t) k [] [] (omega (arith, length-parts count textPartSize (t ++ comma ∷ [])))
       ∙ ap sequenceIn found-is ∙ ap bytesIn (characters-are t (textPartSize * k) within)

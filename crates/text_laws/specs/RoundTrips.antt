@@ -5,31 +5,23 @@ use mathlib.Core.List.{List}
 use Prim.Native.Nat.{ℕ, zero, suc, _/_, _≤_}
 use native.Mathlib.Omega.{arith}
 use lib.Dec.{T, ltb, nltb→le}
-use lib.ListN.{length, take, drop}
+use lib.ListN.{length, drop}
 use lib.Seq.{take-at}
 use borrow.Author.Tests.{le-ltb}
 use Rattle.model.specs.Layout.{sequenceSize, textPartSize, sequencesRoom, textRoom}
 use Rattle.model.specs.Text.{textOf, sequenceBytesIn, textRight, sequencesRight, allNumbered}
 use Rattle.model.specs.Codes.{lowestCode, readSequencesConditions, writeSequencesConditions}
-use Rattle.model.specs.Calls.{Converted, convertedAnswer, readSequences, writeSequences}
+use Rattle.model.specs.Calls.{convertedAnswer, front, readSequences, writeSequences}
 use Rattle.order.specs.TestLaws.{is-true}
 use Rattle.text_laws.specs.AnswerLaws.{codeOf, read-by, write-by}
 use Rattle.text_laws.specs.TextLaws.{Sequences, sized-out, sized-in, text-length, written-reads, written-right, Text, text-out, read-sized, read-writes}
 
 -- ---- an answer of 0
--- What a call answers that was accepted: the new bytes at the front of its buffer.
-abbrev pub accepted : List ℕ → List ℕ → Converted
-accepted new buffer = convertedAnswer 0 new buffer
-
--- what a call wrote
-abbrev pub front : Converted → List ℕ
-front a = take (a .size) (a .buffer)
-
 code-is : (n : ℕ) (new buffer : List ℕ) → convertedAnswer n new buffer .code ≡ n
 code-is zero new buffer = refl
 code-is (suc n) new buffer = refl
 
-front-is : (new buffer : List ℕ) → front (accepted new buffer) ≡ new
+front-is : (new buffer : List ℕ) → front (convertedAnswer 0 new buffer) ≡ new
 front-is new buffer = take-at new (drop (length new) buffer) (length new) refl
 
 none-holds : (x y z : Bool) → codeOf x y z ≡ 0 → T (not x) × T y × T z
@@ -39,16 +31,16 @@ none-holds false true false e = let f : ⊥ = omega arith in absurd f
 none-holds false true true e = (tt, tt, tt)
 
 -- ---- the reader
-pub record Readable (t buffer : List ℕ) : Type 0 where
-  pub room : sequencesRoom ≤ length buffer
-  pub formed : T (textRight t)
-  pub numbers : T (allNumbered (sequenceBytesIn t))
+record Readable (t buffer : List ℕ) : Type 0 where
+  room : sequencesRoom ≤ length buffer
+  formed : T (textRight t)
+  numbers : T (allNumbered (sequenceBytesIn t))
 
-pub reads : (t buffer : List ℕ) → Readable t buffer → readSequences t buffer ≡ accepted (sequenceBytesIn t) buffer
+reads : (t buffer : List ℕ) → Readable t buffer → readSequences t buffer ≡ convertedAnswer 0 (sequenceBytesIn t) buffer
 reads t buffer r =
     read-by t buffer (le-ltb (length buffer) sequencesRoom (r .room)) (is-true (textRight t) (r .formed)) (is-true (allNumbered (sequenceBytesIn t)) (r .numbers))
 
-pub readable : (t buffer : List ℕ) → readSequences t buffer .code ≡ 0 → Readable t buffer
+readable : (t buffer : List ℕ) → readSequences t buffer .code ≡ 0 → Readable t buffer
 unfolding readSequences
 readable t buffer e =
     let n = none-holds (ltb (length buffer) sequencesRoom) (textRight t) (allNumbered (sequenceBytesIn t))
@@ -56,16 +48,16 @@ readable t buffer e =
     record { room = nltb→le (length buffer) sequencesRoom (n .0); formed = n .1; numbers = n .2 }
 
 -- ---- the writer
-pub record Writable (b buffer : List ℕ) : Type 0 where
-  pub room : textRoom ≤ length buffer
-  pub formed : T (sequencesRight b)
-  pub numbers : T (allNumbered b)
+record Writable (b buffer : List ℕ) : Type 0 where
+  room : textRoom ≤ length buffer
+  formed : T (sequencesRight b)
+  numbers : T (allNumbered b)
 
-pub writes : (b buffer : List ℕ) → Writable b buffer → writeSequences b buffer ≡ accepted (textOf b) buffer
+writes : (b buffer : List ℕ) → Writable b buffer → writeSequences b buffer ≡ convertedAnswer 0 (textOf b) buffer
 writes b buffer w =
     write-by b buffer (le-ltb (length buffer) textRoom (w .room)) (is-true (sequencesRight b) (w .formed)) (is-true (allNumbered b) (w .numbers))
 
-pub writable : (b buffer : List ℕ) → writeSequences b buffer .code ≡ 0 → Writable b buffer
+writable : (b buffer : List ℕ) → writeSequences b buffer .code ≡ 0 → Writable b buffer
 unfolding writeSequences
 writable b buffer e =
     let n = none-holds (ltb (length buffer) textRoom) (sequencesRight b) (allNumbered b)
@@ -74,11 +66,11 @@ writable b buffer e =
 
 -- ---- "Reading a written list yields the sequences"
 pub written-read : (b buffer : List ℕ) → writeSequences b buffer .code ≡ 0 → (out : List ℕ) → sequencesRoom ≤ length out
-    → readSequences (front (writeSequences b buffer)) out ≡ accepted b out
+    → readSequences (front (writeSequences b buffer)) out ≡ convertedAnswer 0 b out
 written-read b buffer e out h =
     ap (λ (t : List ℕ). readSequences t out) (ap front (writes b buffer w) ∙ front-is (textOf b) buffer)
     ∙ reads (textOf b) out (record { room = h; formed = written-right b s; numbers = subst (λ (x : List ℕ). T (allNumbered x)) (sym (written-reads b s)) (w .numbers) })
-    ∙ ap (λ (x : List ℕ). accepted x out) (written-reads b s)
+    ∙ ap (λ (x : List ℕ). convertedAnswer 0 x out) (written-reads b s)
   where
     w : Writable b buffer
     w = writable b buffer e
@@ -88,11 +80,11 @@ written-read b buffer e out h =
 
 -- ---- "a text that is read is the one that would be written"
 pub read-written : (t buffer : List ℕ) → readSequences t buffer .code ≡ 0 → (out : List ℕ) → textRoom ≤ length out
-    → writeSequences (front (readSequences t buffer)) out ≡ accepted t out
+    → writeSequences (front (readSequences t buffer)) out ≡ convertedAnswer 0 t out
 read-written t buffer e out h =
     ap (λ (b : List ℕ). writeSequences b out) (ap front (reads t buffer r) ∙ front-is (sequenceBytesIn t) buffer)
     ∙ writes (sequenceBytesIn t) out (record { room = h; formed = sized-in (sequenceBytesIn t) (suc (length t) / textPartSize) (read-sized t x); numbers = r .numbers })
-    ∙ ap (λ (b : List ℕ). accepted b out) (read-writes t x)
+    ∙ ap (λ (b : List ℕ). convertedAnswer 0 b out) (read-writes t x)
   where
     r : Readable t buffer
     r = readable t buffer e

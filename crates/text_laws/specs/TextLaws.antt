@@ -1,7 +1,7 @@
 -- The text of sequences is right and reads back as these; the sequences of a right text are of a right size, and their text is that
 -- text.
 use mathlib.Core.Path.{_≡_, refl, sym, _∙_, ap, ap₂, subst}
-use mathlib.Core.List.{List, [], _∷_, _++_, map, append-assoc, append-nil, List·Memᴰ·head, List·Memᴰ·tail, Memᴰ·of-map}
+use mathlib.Core.List.{List, [], _∷_, _++_, map, append-assoc, append-nil}
 use Prim.Native.Nat.{ℕ, zero, suc, _+_, _*_, _/_, _%_, _≤_}
 use native.Mathlib.Omega.{arith}
 use lib.Dec.{T, eqb, leb, eqb→eq, leb→le, le→leb}
@@ -10,27 +10,15 @@ use lib.Seq.{length-take-le, take-at, drop-at}
 use Rattle.model.specs.Lists.{_∈_, every, same}
 use Rattle.model.specs.Bytes.{isBytes, parts, join}
 use Rattle.model.specs.Layout.{sequenceSize, mostSequences, charactersSize, textPartSize, sequencesRoom, textRoom}
-use Rattle.model.specs.Text.{comma, isDigit, charactersOf, bytesIn, sequenceParts, joined, textOf, textParts, sequenceBytesIn, textPartRight, textRight, sequencesRight}
-use Rattle.order.specs.ListLaws.{map-map}
+use Rattle.model.specs.Text.{comma, isDigit, charactersOf, bytesIn, sequenceParts, joined, textOf, textParts, sequenceIn, sequenceBytesIn, textPartRight, textRight, sequencesRight}
+use Rattle.order.specs.ListLaws.{map-map, map-same, map-all}
 use Rattle.order.specs.TestLaws.{and-l, and-r, and-i, eq→eqb, every-∈, ∈-every, same-refl, same→eq}
-use Rattle.wire_laws.specs.BytesLaws.{isBytes-append, length-parts, parts-join, parts-sized, parts-bytes, join-parts, length-join}
+use Rattle.wire_laws.specs.BytesLaws.{length-parts, parts-join, parts-sized, parts-bytes, join-parts, join-bytes, length-join}
 use Rattle.text_laws.specs.DigitLaws.{length-characters, length-bytesIn, characters-digits, bytes-back, bytesIn-bytes, characters-back}
 
--- the part of a text that a sequence has, and the sequence of a part
+-- the part of a text that a sequence has
 abbrev pub textPartOf : List ℕ → List ℕ
 textPartOf s = charactersOf s ++ comma ∷ []
-
-abbrev pub sequenceIn : List ℕ → List ℕ
-sequenceIn e = bytesIn (take charactersSize e)
-
--- a map that leaves each item as it is
-map-same : (f : List ℕ → List ℕ) (l : List (List ℕ)) → ((a : List ℕ) → a ∈ l → f a ≡ a) → map f l ≡ l
-map-same f [] h = refl
-map-same f (a ∷ l) h = ap₂ _∷_ (h a (List·Memᴰ·head refl)) (map-same f l (λ b k. h b (List·Memᴰ·tail k)))
-
--- what holds of all items' images holds of a map's items
-map-all : (P : List ℕ → Type 0) (f : List ℕ → List ℕ) (l : List (List ℕ)) → ((a : List ℕ) → a ∈ l → P (f a)) → (b : List ℕ) → b ∈ map f l → P b
-map-all P f l h b k = let m = Memᴰ·of-map f l k in subst P (m .2) (h (m .0) (m .1))
 
 -- ---- one part
 part-of-sized : (s : List ℕ) → length s ≡ sequenceSize → length (textPartOf s) ≡ textPartSize
@@ -177,35 +165,31 @@ text-out t r =
     let right : T (every textPartRight (textParts t)) = search (and-l, and-r) depth 8 in
     record { least = omega arith; most = omega arith; whole = omega arith; parts-right = every-∈ textPartRight (textParts t) right }
 
-join-bytes : (l : List (List ℕ)) → ((b : List ℕ) → b ∈ l → T (isBytes b)) → T (isBytes (join l))
-join-bytes [] h = tt
-join-bytes (b ∷ l) h = isBytes-append b (join l) (h b (List·Memᴰ·head refl)) (join-bytes l (λ c k. h c (List·Memᴰ·tail k)))
-
 module _ (t : List ℕ) (x : Text t (suc (length t) / textPartSize)) where
-  abbrev number : ℕ
-  number = suc (length t) / textPartSize
+  abbrev partCount : ℕ
+  partCount = suc (length t) / textPartSize
 
   abbrev found : List (List ℕ)
   found = textParts t
 
-  closed-length : length (t ++ comma ∷ []) ≡ number * textPartSize
+  closed-length : length (t ++ comma ∷ []) ≡ partCount * textPartSize
   closed-length = length-append t (comma ∷ []) ∙ x .whole
 
   text-part-size : (e : List ℕ) → e ∈ found → length e ≡ textPartSize
-  text-part-size = parts-sized number textPartSize (t ++ comma ∷ []) (omega (arith, closed-length))
+  text-part-size = parts-sized partCount textPartSize (t ++ comma ∷ []) (omega (arith, closed-length))
 
   sequence-size : (p : List ℕ) → p ∈ map sequenceIn found → length p ≡ sequenceSize
   sequence-size = map-all (λ p. length p ≡ sequenceSize) sequenceIn found (λ e k. sequence-sized e (text-part-size e k) (x .parts-right e k))
 
-  sequence-count : length (map sequenceIn found) ≡ number
-  sequence-count = length-map found sequenceIn ∙ length-parts number textPartSize (t ++ comma ∷ [])
+  sequence-count : length (map sequenceIn found) ≡ partCount
+  sequence-count = length-map found sequenceIn ∙ length-parts partCount textPartSize (t ++ comma ∷ [])
 
   -- how many bytes are read
-  pub read-length : length (sequenceBytesIn t) ≡ number * sequenceSize
+  pub read-length : length (sequenceBytesIn t) ≡ partCount * sequenceSize
   unfolding sequenceBytesIn
   read-length = length-join sequenceSize (map sequenceIn found) sequence-size ∙ ap (λ (n : ℕ). n * sequenceSize) sequence-count
 
-  pub read-sized : Sequences (sequenceBytesIn t) number
+  pub read-sized : Sequences (sequenceBytesIn t) partCount
   unfolding sequenceBytesIn
   read-sized = record {
     bytes = join-bytes (map sequenceIn found) (map-all (λ p. T (isBytes p)) sequenceIn found (λ e k. sequence-bytes e (text-part-size e k) (x .parts-right e k)));
@@ -229,4 +213,4 @@ module _ (t : List ℕ) (x : Text t (suc (length t) / textPartSize)) where
       (closed (length (sequenceBytesIn t) / sequenceSize) (sequenceBytesIn t) (omega (arith, read-length, x .least))
       ∙ ap (λ (l : List (List ℕ)). join (map textPartOf l)) read-parts
       ∙ ap join (map-map textPartOf sequenceIn found ∙ map-same (λ e. textPartOf (sequenceIn e)) found (λ e k. part-back e (text-part-size e k) (x .parts-right e k)))
-      ∙ join-parts number textPartSize (t ++ comma ∷ []) closed-length)
+      ∙ join-parts partCount textPartSize (t ++ comma ∷ []) closed-length)

@@ -1,8 +1,8 @@
 // A part of a text: the characters of a sequence, and the comma behind them. Behind the last part none stands.
-use buffer::byte;
 use layout::CHARACTERS_SIZE;
 use message::checks::Check;
 use text_digits::CHARACTER_COUNT;
+use text_digits::COMMA;
 use text_digits::NO_DIGIT;
 use text_digits::digit;
 ghost use mathlib.Core.Path.{_≡_};
@@ -14,8 +14,6 @@ ghost use Rattle.model.specs.Layout.{charactersSize, textPartSize};
 ghost use Rattle.model.specs.Text.{comma, isDigit, textPartRight};
 ghost use Rattle.message.specs.Check.{right};
 ghost use Rattle.text_digits.specs.DigitTable.{HasDigits};
-
-const COMMA: u32 = 44;
 
 // Whether the characters of a sequence are digits. It looks at all of them.
 fn are_digits(table: &[u8; CHARACTER_COUNT], text: &[u8], at: usize) -> bool
@@ -43,7 +41,7 @@ pub fn check_part(table: &[u8; CHARACTER_COUNT], text: &[u8], at: usize) -> Chec
     if behind == text.len() {
         return Check::Right;
     }
-    if byte(text, behind) != COMMA {
+    if text[behind] != COMMA {
         return Check::Wrong;
     }
     Check::Right

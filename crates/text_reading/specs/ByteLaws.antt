@@ -4,10 +4,10 @@ use mathlib.Core.List.{List}
 use Prim.Native.Nat.{ℕ, _+_, _*_, _<_}
 use native.Mathlib.Omega.{arith}
 use lib.ListN.{length, take, drop, getD, length-drop}
-use lib.Seq.{length-take-le, getD-take, getD-drop}
+use lib.Seq.{length-take-le}
 use Rattle.model.specs.Layout.{sequenceSize, charactersSize}
 use Rattle.model.specs.Text.{digitOf, isDigit, bytesIn}
-use Rattle.order.specs.ListLaws.{getD-∈}
+use Rattle.order.specs.ListLaws.{getD-∈, getD-part}
 use Rattle.order.specs.TestLaws.{every-∈}
 use Rattle.text_laws.specs.DigitLaws.{digit-small, length-bytesIn, byte-at}
 use Rattle.text_reading.specs.Parts.{PartReadable}
@@ -23,7 +23,7 @@ module _ {table text : List ℕ} {from : ℕ} {bytes : List ℕ} {at : ℕ} (p :
   bytes-sized = length-bytesIn sequenceSize characters sized
 
   character-is : (i : ℕ) → i < charactersSize → getD characters i 0 ≡ getD text (from + i) 0
-  character-is i h = getD-take charactersSize (drop from text) i 0 h ∙ getD-drop from text i 0
+  character-is i h = getD-part text from charactersSize i 0 h
 
   -- a character there is a digit below 16
   digit-below : (i : ℕ) → i < charactersSize → digitOf (getD text (from + i) 0) < 16

@@ -4,9 +4,10 @@ use mathlib.Core.List.{List}
 use Prim.Native.Nat.{ℕ, suc, _+_, _*_, _/_, _%_, _≤_, _<_}
 use native.Mathlib.Omega.{arith}
 use lib.ListN.{length, set, take, drop, getD, length-drop}
-use lib.Seq.{paste, paste-suc, length-take-le, getD-take, getD-drop}
+use lib.Seq.{paste, paste-suc, length-take-le}
 use Rattle.model.specs.Layout.{sequenceSize, charactersSize}
 use Rattle.model.specs.Text.{characterOf, charactersOf}
+use Rattle.order.specs.ListLaws.{getD-part}
 use Rattle.text_laws.specs.DigitLaws.{length-characters, high-at, low-at}
 
 module _ (sequences : List ℕ) (from : ℕ) (inside : from + sequenceSize ≤ length sequences) where
@@ -20,7 +21,7 @@ module _ (sequences : List ℕ) (from : ℕ) (inside : from + sequenceSize ≤ l
   characters-sized = length-characters sequence ∙ omega (arith, sized)
 
   value-is : (k : ℕ) → k < sequenceSize → getD sequence k 0 ≡ getD sequences (from + k) 0
-  value-is k h = getD-take sequenceSize (drop from sequences) k 0 h ∙ getD-drop from sequences k 0
+  value-is k h = getD-part sequences from sequenceSize k 0 h
 
   high-is : (k : ℕ) → k < sequenceSize → characterOf (getD sequences (from + k) 0 / 16) ≡ getD (charactersOf sequence) (2 * k) 0
   high-is k h = ap (λ (v : ℕ). characterOf (v / 16)) (sym (value-is k h)) ∙ sym (high-at sequence k (omega (arith, sized)))

@@ -3,6 +3,7 @@ use layout::CHARACTERS_SIZE;
 use layout::SEQUENCE_SIZE;
 use layout::TEXT_PART_SIZE;
 use text_checks::forms::count_sequences;
+use text_digits::COMMA;
 use text_digits::character;
 ghost use mathlib.Core.Path.{_≡_};
 ghost use lib.ListN.{take, drop};
@@ -10,8 +11,6 @@ ghost use lib.Seq.{paste};
 ghost use Rattle.model.specs.Layout.{sequenceSize, charactersSize};
 ghost use Rattle.model.specs.Text.{charactersOf};
 ghost use Rattle.text_writing.specs.Parts.{PartWritable, TextWritable, TextPut};
-
-const COMMA: u8 = 44;
 
 // The characters of the sequence that starts at a place.
 fn put_characters(text: &mut [u8], at: usize, sequences: &[u8], from: usize)

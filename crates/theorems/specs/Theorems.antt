@@ -16,7 +16,7 @@ use Rattle.model.specs.Setpoints.{startValues, setpointsOf}
 use Rattle.model.specs.Image.{imageOf, Valid, IsImage, stateIn, valuesIn, logIn, isImage}
 use Rattle.model.specs.Steps.{Step, common, undosOf, executionsOf, stepsOf, recordsBetween, recordsBytes, readRecords, Plays, Standing, PlaysPairs}
 use Rattle.model.specs.Codes.{lowestCode, deliverConditions, composeConditions, emptyConditions, logMessageConditions, setpointConditions, readSequencesConditions, writeSequencesConditions}
-use Rattle.model.specs.Calls.{deliver, compose, readSequences, writeSequences}
+use Rattle.model.specs.Calls.{deliver, compose, convertedAnswer, front, readSequences, writeSequences}
 use Rattle.model.specs.PlainStation.{receive}
 use Rattle.model.specs.Run.{delivery, Agreement, Begins, Answers}
 use Rattle.order.specs.KeyOrder.{Total}
@@ -34,7 +34,6 @@ use Rattle.laws.specs.CodeLaws.{Lowest, lowest-is}
 use Rattle.laws.specs.DeliverLaws.{receive-valid}
 use Rattle.run_laws.specs.RunLaws.{CallFacts, call-facts, agreement}
 use Rattle.text_laws.specs.RoundTrips as trips
-use Rattle.text_laws.specs.RoundTrips.{accepted, front}
 use Rattle.compose_laws.specs.ComposeLaws.{Promised, composedBy, compose-promise}
 
 -- 1. The computed log is the declared one and the only one. A received delta is in it exactly if it is executable, and so
@@ -160,9 +159,9 @@ write-sequences-lowest b room = lowest-is 0 (writeSequencesConditions b room) (o
 -- 8. Reading a written list yields the sequences, and a text that is read is the one that would be written.
 pub record TextLaw : Type 0 where
   pub written-read : (b buffer : List ℕ) → writeSequences b buffer .code ≡ 0 → (out : List ℕ) → sequencesRoom ≤ length out
-      → readSequences (front (writeSequences b buffer)) out ≡ accepted b out
+      → readSequences (front (writeSequences b buffer)) out ≡ convertedAnswer 0 b out
   pub read-written : (t buffer : List ℕ) → readSequences t buffer .code ≡ 0 → (out : List ℕ) → textRoom ≤ length out
-      → writeSequences (front (readSequences t buffer)) out ≡ accepted t out
+      → writeSequences (front (readSequences t buffer)) out ≡ convertedAnswer 0 t out
 
 pub text-law : TextLaw
 text-law = record { written-read = trips.written-read; read-written = trips.read-written }

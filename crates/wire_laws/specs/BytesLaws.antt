@@ -142,6 +142,10 @@ length-join size [] h = omega arith
 length-join size (b ∷ l) h =
     length-append b (join l) ∙ omega (arith, h b (List·Memᴰ·head refl), length-join size l (λ c k. h c (List·Memᴰ·tail k)))
 
+pub join-bytes : (l : List (List ℕ)) → ((b : List ℕ) → b ∈ l → T (isBytes b)) → T (isBytes (join l))
+join-bytes [] h = tt
+join-bytes (b ∷ l) h = isBytes-append b (join l) (h b (List·Memᴰ·head refl)) (join-bytes l (λ c k. h c (List·Memᴰ·tail k)))
+
 pub join-append : (l k : List (List ℕ)) → join l ++ join k ≡ join (l ++ k)
 join-append [] k = refl
 join-append (b ∷ l) k = append-assoc b (join l) (join k) ∙ ap (λ (x : List ℕ). b ++ x) (join-append l k)

@@ -7,24 +7,25 @@ use lib.Seq.{length-take-le}
 use borrow.Author.Needs.{needs}
 use Rattle.text_checks.specs.declared.answer.Conversion.{Conversion}
 use Rattle.text_checks.specs.Answer.{convertedBy}
+use Rattle.text_forms.specs.FormCases.{put-inside}
 use Rattle.sequences.proofs.print_other.Statement.{statement}
 use Rattle.sequences.proofs.print_other.Tie as tie
 
 -- how much is printed, and where it was found
-abbrev formed : tie.After-known-told → tie.After-other-form
+abbrev formed : tie.After-known-told → tie.After-convert
 formed c = c .before .before .before
 
 abbrev size : tie.After-known-told → ℕ
 size c = c .before .answer .given .0 .0
 
 abbrev out : tie.After-known-told → List ℕ
-out c = formed c .other-form .last .1 .0
+out c = formed c .convert .last .1 .0
 
 fits : (c : tie.After-known-told) → size c ≤ length (out c)
-fits c = subst (λ (r : Conversion). convertedBy r (out c) .size ≤ length (out c)) (c .before .answer .given .1) (formed c .other-form .ensures .inside)
+fits c = subst (λ (r : Conversion). convertedBy r (out c) .size ≤ length (out c)) (c .before .answer .given .1) (put-inside _ _ (formed c .convert .result) (out c) (formed c .convert .ensures))
 
-other-form-requires : tie.Need-other-form-requires
-other-form-requires c κs = search needs
+convert-requires : tie.Need-convert-requires
+convert-requires c κs = search needs
 
 enum-known-answer : tie.Need-enum-known-answer
 enum-known-answer c = search needs
@@ -81,7 +82,7 @@ pub print-other-spec : {M : Type 1} → statement M
 print-other-spec =
     tie.close
     (tie.spec
-    other-form-requires
+    convert-requires
     enum-known-answer
     array-share-prefix-out
     slice-aggregate-print

@@ -1,6 +1,6 @@
 -- What the writer refuses is refused; what it wrote leaves room for a line feed.
 use mathlib.Core.Path.{_≡_, sym, _∙_, ap, subst}
-use Prim.Native.Nat.{ℕ, _≤_}
+use Prim.Native.Nat.{ℕ, _≤_, _<_}
 use native.Mathlib.Omega.{arith}
 use lib.ListN.{length}
 use borrow.Author.Needs.{needs}
@@ -10,7 +10,7 @@ use Rattle.text_laws.specs.RoundTrips.{write-short}
 use Rattle.text_checks.specs.declared.answer.Conversion.{Conversion}
 use Rattle.text_checks.specs.declared.answer.Conversion.the-variants as conversion
 use Rattle.text_checks.specs.Answer.{convertedBy}
-use Rattle.text_forms.specs.FormCases.{text-line, text-refused}
+use Rattle.text_forms.specs.FormCases.{text-printed, text-refused}
 use Rattle.text_checks.proofs.ConversionTags.{not-written}
 use Rattle.text_forms.proofs.put_line.Statement.{statement}
 use Rattle.text_forms.proofs.put_line.Tie as tie
@@ -19,7 +19,7 @@ abbrev began : tie.After-write-sequences → tie.Start
 began c = c .before .before .before
 
 -- the output has room for a text and a line feed
-room : (c : tie.After-write-sequences) → textRoom ≤ length (began c .args .output .now)
+room : (c : tie.After-write-sequences) → textRoom < length (began c .args .output .now)
 room c = omega (arith, began c .good)
 
 -- what was written, and that it is a text
@@ -50,7 +50,7 @@ returns : tie.Need-returns
 returns c =
     let w = c .before in
     let a = began w .args in
-    text-refused (a .sequences .now) (a .output .now) (room w) (w .write-sequences .result) _ (not-written (w .write-sequences .result) _ (c .match .keys2)) (w .write-sequences .ensures)
+    text-refused (a .sequences .now) (a .output .now) (room w) (convertedBy (w .write-sequences .result) (w .write-sequences .last .1 .0)) (not-written (w .write-sequences .result) _ (c .match .keys2)) (w .write-sequences .ensures)
 
 element-write-output : tie.Need-element-write-output
 element-write-output c = omega (arith, small c)
@@ -62,7 +62,7 @@ returns-2 : tie.Need-returns-2
 returns-2 c =
     let w = writing c in
     let a = began w .args in
-    text-line (a .sequences .now) (a .output .now) (room w) (size c) (w .write-sequences .last .1 .0) (wrote c) (omega (arith, small c, began w .good, w .write-sequences .kept))
+    text-printed (a .sequences .now) (a .output .now) (room w) (size c) (w .write-sequences .last .1 .0) (wrote c) (small c)
 
 pub put-line-spec : {M : Type 1} → statement M
 put-line-spec = tie.close (tie.spec write-sequences-requires enum-known-written returns element-write-output add-t9 returns-2)

@@ -4,13 +4,14 @@ use mathlib.Core.Path.{_≡_, refl, sym, ap, _∙_}
 use mathlib.Core.Bool.{Bool, true, false, not, _&&_, and-true}
 use mathlib.Core.List.{List}
 use lib.ListN.{length, take, drop, getD, length-drop}
-use lib.Seq.{length-take-le, getD-take, getD-drop}
+use lib.Seq.{length-take-le}
 use lib.Dec.{eqb}
 use native.Mathlib.Omega.{arith}
 use borrow.Author.Needs.{needs}
 use Rattle.model.specs.Lists.{every}
 use Rattle.model.specs.Layout.{charactersSize}
 use Rattle.model.specs.Text.{noDigit, isDigit}
+use Rattle.order.specs.ListLaws.{getD-part}
 use Rattle.order.specs.ScanLaws.{every-step, every-end}
 use Rattle.text_parts.proofs.are_digits.Statement.{statement}
 use Rattle.text_parts.proofs.are_digits.Tie as tie
@@ -26,7 +27,7 @@ step : (ok : Bool) (t : List ℕ) (at i : ℕ) → at + charactersSize ≤ lengt
     → ok && every isDigit (drop i (characters t at)) ≡ (ok && isDigit (getD t (at + i) 0)) && every isDigit (drop (i + 1) (characters t at))
 step true t at i h k =
     every-step isDigit (characters t at) i 0 (omega (arith, sized t at h))
-    ∙ ap (λ (x : ℕ). isDigit x && every isDigit (drop (i + 1) (characters t at))) (getD-take charactersSize (drop at t) i 0 k ∙ getD-drop at t i 0)
+    ∙ ap (λ (x : ℕ). isDigit x && every isDigit (drop (i + 1) (characters t at))) (getD-part t at charactersSize i 0 k)
 step false t at i h k = refl
 
 abbrev Inv-loop : tie.InvT-loop

@@ -2,7 +2,7 @@
 use mathlib.Core.Path.{_≡_, refl, sym, _∙_, ap₂}
 use mathlib.Core.Bool.{Bool, true, _&&_}
 use mathlib.Core.List.{List, [], _∷_, _++_}
-use Prim.Native.Nat.{ℕ, _+_, _<_}
+use Prim.Native.Nat.{ℕ, _+_}
 use native.Mathlib.Omega.{arith}
 use lib.Dec.{eqb}
 use lib.ListN.{length, take, drop, getD}
@@ -10,7 +10,6 @@ use borrow.Author.Tests.{eq-eqb, ne-eqb, not-true, not-false}
 use borrow.Author.Needs.{needs}
 use Rattle.model.specs.Layout.{charactersSize, textPartSize}
 use Rattle.model.specs.Text.{comma, textPartRight}
-use Rattle.buffer.specs.FieldLaws.{field-byte}
 use Rattle.text_laws.specs.PartLaws.{part-is, comma-put, comma-there}
 use Rattle.text_parts.proofs.check_part.Statement.{statement}
 use Rattle.text_parts.proofs.check_part.Tie as tie
@@ -33,15 +32,14 @@ by-answers c e f = part-is (text c) (began c .args .at) (omega arith) ∙ ap₂ 
 digits-right : (c : tie.Else1) → c .before .are-digits .result ≡ true
 digits-right c = not-false (c .before .are-digits .result) (c .if1 .left)
 
--- what was read there
-abbrev digits : tie.After-byte → tie.After-are-digits
-digits c = c .before .before .before
+-- where more of the text stands behind the characters
+abbrev digits : tie.Else2 → tie.After-are-digits
+digits c = c .before .before
 
-behind-is : (c : tie.After-byte) → behind (digits c) ≡ c .byte .result
+behind-is : (c : tie.Else2) → behind (digits c) ≡ getD (text (digits c)) (began (digits c) .args .at + charactersSize) 0
 behind-is c =
     let d = digits c in
-    let here : began d .args .at + charactersSize < length (text d) = omega (arith, c .before .if2 .left) in
-    comma-there (text d) (began d .args .at) (omega arith) here ∙ sym (field-byte (text d) (began d .args .at + charactersSize) here) ∙ sym (c .byte .ensures .0)
+    comma-there (text d) (began d .args .at) (omega arith) (omega (arith, c .if2 .left))
 
 are-digits-requires : tie.Need-are-digits-requires
 are-digits-requires c κs = search needs
@@ -58,20 +56,22 @@ returns-2 c =
     let e : began d .args .at + charactersSize ≡ length (text d) = c .if2 .taken in
     sym (by-answers d (digits-right (c .before)) (eq-eqb (behind d) comma (comma-put (text d) (began d .args .at) (omega arith) e)))
 
-byte-requires : tie.Need-byte-requires
-byte-requires c κs = search needs
+shared-slice-read-if3 : tie.Need-shared-slice-read-if3
+shared-slice-read-if3 c = search needs
 
 returns-3 : tie.Need-returns-3
 returns-3 c =
-    let d = digits (c .before) in
-    sym (by-answers d (digits-right (c .before .before .before)) (ne-eqb (behind d) comma (λ e. c .if3 .taken (sym (behind-is (c .before)) ∙ e))))
+    let e = c .before .before in
+    let d = digits e in
+    sym (by-answers d (digits-right (e .before)) (ne-eqb (behind d) comma (λ f. c .if3 .taken (sym (behind-is e) ∙ f))))
 
 returns-4 : tie.Need-returns-4
 returns-4 c =
-    let d = digits (c .before) in
-    sym (by-answers d (digits-right (c .before .before .before)) (eq-eqb (behind d) comma (behind-is (c .before) ∙ c .if3 .left)))
+    let e = c .before .before in
+    let d = digits e in
+    sym (by-answers d (digits-right (e .before)) (eq-eqb (behind d) comma (behind-is e ∙ c .if3 .left)))
 
 pub check-part-spec : {M : Type 1} → statement M
 check-part-spec =
     tie.close
-    (tie.spec are-digits-requires returns add-behind returns-2 byte-requires returns-3 returns-4)
+    (tie.spec are-digits-requires returns add-behind returns-2 shared-slice-read-if3 returns-3 returns-4)

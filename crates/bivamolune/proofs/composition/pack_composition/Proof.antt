@@ -3,7 +3,8 @@ use mathlib.Core.Path.{_≡_, sym, _∙_, ap, subst}
 use Prim.Native.Nat.{ℕ, _*_, _≤_}
 use native.Mathlib.Omega.{arith}
 use Rattle.model.specs.Layout.{messageRoom}
-use Rattle.bivamolune.specs.ComposeAnswers.{numberOf, numberBy, Short}
+use Rattle.bivamolune.specs.Packing.{numberOf}
+use Rattle.bivamolune.specs.ComposeAnswers.{numberBy, Short}
 use borrow.Author.Needs.{needs}
 use Rattle.bivamolune.proofs.composition.pack_composition.Statement.{statement}
 use Rattle.bivamolune.proofs.composition.pack_composition.Tie as tie

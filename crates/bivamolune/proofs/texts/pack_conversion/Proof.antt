@@ -3,7 +3,7 @@ use mathlib.Core.Path.{_≡_, sym, _∙_, ap, subst}
 use Prim.Native.Nat.{ℕ, _*_, _≤_}
 use native.Mathlib.Omega.{arith}
 use Rattle.model.specs.Layout.{textRoom}
-use Rattle.bivamolune.specs.ComposeAnswers.{numberOf}
+use Rattle.bivamolune.specs.Packing.{numberOf}
 use Rattle.bivamolune.specs.TextAnswers.{numberBy, Short}
 use borrow.Author.Needs.{needs}
 use Rattle.bivamolune.proofs.texts.pack_conversion.Statement.{statement}

@@ -10,10 +10,11 @@ use borrow.Author.Needs.{needs}
 use Rattle.model.specs.Lists.{every}
 use Rattle.model.specs.Layout.{sequencesRoom}
 use Rattle.model.specs.Calls.{readSequences}
-use Rattle.model.specs.Program.{printable, withoutLineFeed}
-use Rattle.text_forms.specs.FormCases.{as-text, as-bytes}
-use Rattle.text_forms.proofs.other_form.Statement.{statement}
-use Rattle.text_forms.proofs.other_form.Tie as tie
+use Rattle.model.specs.Program.{printable, withoutLineFeed, Printed}
+use Rattle.text_forms.specs.Forms.{putAtFront}
+use Rattle.text_forms.specs.FormCases.{sequences-printed, form-is}
+use Rattle.text_forms.proofs.convert.Statement.{statement}
+use Rattle.text_forms.proofs.convert.Tie as tie
 
 abbrev began : tie.After-line-size → tie.Start
 began c = c .before .before
@@ -48,8 +49,9 @@ returns c =
     let p = t .before in
     let a = began (measured p) .args in
     let room : sequencesRoom ≤ length (a .output .now) = omega (arith, began (measured p) .good) in
-    as-text (a .input .now) (a .output .now) room (told p (t .if1 .taken)) (c .read-sequences .result) (c .read-sequences .last .1 .0)
-    (c .read-sequences .ensures ∙ ap (λ (l : List ℕ). readSequences l (a .output .now)) (measured p .line-size .ensures .line))
+    c .read-sequences .ensures ∙ ap (λ (l : List ℕ). readSequences l (a .output .now)) (measured p .line-size .ensures .line)
+    ∙ sequences-printed (withoutLineFeed (a .input .now)) (a .output .now) room
+    ∙ ap (λ (f : Printed). putAtFront f (a .output .now)) (form-is (a .input .now) (told p (t .if1 .taken)))
 
 put-line-requires : tie.Need-put-line-requires
 put-line-requires c κs = search needs
@@ -59,10 +61,10 @@ returns-2 c =
     let t = c .before .before in
     let p = t .before in
     let a = began (measured p) .args in
-    as-bytes (a .input .now) (told p (t .if1 .left)) (c .put-line .result) (c .put-line .last .1 .0) (c .put-line .ensures)
+    c .put-line .ensures ∙ ap (λ (f : Printed). putAtFront f (a .output .now)) (form-is (a .input .now) (told p (t .if1 .left)))
 
-pub other-form-spec : {M : Type 1} → statement M
-other-form-spec =
+pub convert-spec : {M : Type 1} → statement M
+convert-spec =
     tie.close
     (tie.spec
     line-size-requires
