@@ -264,5 +264,5 @@ fn some_streams() {
 #[cfg(feature = "library-listing")]
 #[test]
 fn ten_thousand_streams() {
-    check_streams(&program::proved(), 300..10_300);
+    check_streams(&program::proved("listing"), 300..10_300);
 }

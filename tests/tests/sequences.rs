@@ -13,10 +13,6 @@ use bivamolune_tests::generate::either_form;
 use bivamolune_tests::reference::sequences::other_form;
 use program::{crashed, Program};
 
-/// Where the proved program is built, seen from this package.
-#[cfg(feature = "library-sequences")]
-const PROVED: &str = "../target/bin/sequences";
-
 /// `0102030405060708090A0B0C` in bytes.
 const ONE: [u8; 12] = [1, 2, 3, 4, 5, 6, 7, 8, 9, 10, 11, 12];
 const ONE_TEXT: &str = "0102030405060708090A0B0C";
@@ -26,21 +22,8 @@ fn programs() -> Vec<Program> {
     vec![
         Program(PathBuf::from(env!("CARGO_BIN_EXE_sequences"))),
         #[cfg(feature = "library-sequences")]
-        proved(),
+        program::proved("sequences"),
     ]
-}
-
-/// The proved program: named by the environment, or else where it is built. It must be there.
-#[cfg(feature = "library-sequences")]
-fn proved() -> Program {
-    let built = || PathBuf::from(env!("CARGO_MANIFEST_DIR")).join(PROVED);
-    let path = std::env::var_os("BIVAMOLUNE_SEQUENCES").map_or_else(built, PathBuf::from);
-    assert!(
-        path.is_file(),
-        "{} is missing: run `rt check sequences`, or set BIVAMOLUNE_SEQUENCES",
-        path.display()
-    );
-    Program(path)
 }
 
 /// What a program prints for an input in pieces: the output, or the number of its refusal.
@@ -482,5 +465,5 @@ fn some_inputs() {
 #[cfg(feature = "library-sequences")]
 #[test]
 fn ten_thousand_inputs() {
-    check_inputs(&proved(), 300..10_300);
+    check_inputs(&program::proved("sequences"), 300..10_300);
 }

@@ -16,9 +16,8 @@ const SIGPIPE: i32 = 13;
 /// How long a program may take to end.
 const LIMIT: Duration = Duration::from_secs(20);
 
-/// Where the proved program is built, seen from this package.
-#[cfg(feature = "library-listing")]
-const PROVED: &str = "../target/bin/listing";
+/// Where the proved programs are built, seen from this package.
+const BUILT: &str = "../target/bin";
 
 /// A program by its path.
 #[derive(Clone, Debug)]
@@ -29,18 +28,23 @@ pub fn programs() -> Vec<Program> {
     vec![
         Program(PathBuf::from(env!("CARGO_BIN_EXE_listing"))),
         #[cfg(feature = "library-listing")]
-        proved(),
+        proved("listing"),
     ]
 }
 
-/// The proved program: named by the environment, or else where it is built. It must be there.
-#[cfg(feature = "library-listing")]
-pub fn proved() -> Program {
-    let built = || PathBuf::from(env!("CARGO_MANIFEST_DIR")).join(PROVED);
-    let path = std::env::var_os("BIVAMOLUNE_LISTING").map_or_else(built, PathBuf::from);
+/// The proved program of a name: as the environment says, or else where it is built. It must
+/// be there.
+pub fn proved(name: &str) -> Program {
+    let variable = format!("BIVAMOLUNE_{}", name.to_uppercase());
+    let built = || {
+        PathBuf::from(env!("CARGO_MANIFEST_DIR"))
+            .join(BUILT)
+            .join(name)
+    };
+    let path = std::env::var_os(&variable).map_or_else(built, PathBuf::from);
     assert!(
         path.is_file(),
-        "{} is missing: run `rt check listing`, or set BIVAMOLUNE_LISTING",
+        "{} is missing: run `rt check {name}`, or set {variable}",
         path.display()
     );
     Program(path)
