@@ -4,6 +4,7 @@ pub mod GroundExamples
 pub mod StationExamples
 pub mod SetpointExamples
 pub mod ImageExamples
+pub mod OffsetExamples
 pub mod WholeImageExamples
 pub mod StepExamples
 pub mod RecordExamples

@@ -6,9 +6,9 @@ use Prim.Native.Nat.{ℕ, zero, suc, _+_, _-_}
 use lib.ListN.{length, take, drop, replicate}
 use lib.Dec.{leb}
 use lib.IntN.{ℤ}
-use Rattle.model.specs.Lists.{every, same}
+use Rattle.model.specs.Lists.{every, sum, same}
 use Rattle.model.specs.Bytes.{number, bytes, field, parts, join, integer, word}
-use Rattle.model.specs.Layout.{lengthAt, valueSize, tagCount, valuesSize, imageSize, logCountAt, heldCountAt, zerosAt, setpointsStart, capacity}
+use Rattle.model.specs.Layout.{lengthAt, valueSize, tagCount, valuesSize, imageSize, logCountAt, heldCountAt, usedAt, zerosAt, setpointsStart, capacity}
 use Rattle.model.specs.Message.{Message, passes}
 use Rattle.model.specs.Order.{State, stateOf, RightSet, insert, logOf, heldOf}
 use Rattle.model.specs.Setpoints.{setpointsOf}
@@ -78,6 +78,24 @@ logIn b = cut (logCount b) (drop (messagesStartIn b) b)
 abbrev pub messagesIn : List ℕ → List Message
 messagesIn b = cut (logCount b + heldCount b) (drop (messagesStartIn b) b)
 
+-- ---- where they lie (document 02, Paper 3)
+-- "the offset of the first message plus the lengths of all messages before the place"
+unfoldable pub offsetOf : ℕ → List Message → ℕ → ℕ
+offsetOf first l place = first + sum length (take place l)
+
+-- "adds each length once and carries the offset as a running value": what a walk comes by, at each message and past the last one.
+abbrev pub walk : ℕ → List Message → List ℕ
+walk at [] = at ∷ []
+walk at (m ∷ l) = at ∷ walk (at + length m) l
+
+-- The offset of a place of a buffer's messages, and the bytes used by its header.
+abbrev pub offsetIn : List ℕ → ℕ → ℕ
+offsetIn b place = offsetOf (messagesStartIn b) (messagesIn b) place
+
+abbrev pub usedIn : List ℕ → ℕ
+usedIn b = field b usedAt 2
+
+-- ---- the state
 abbrev pub setOf : List Message → List Message
 setOf [] = []
 setOf (m ∷ l) = insert m (setOf l)

@@ -1,7 +1,7 @@
 -- Membership, and the tests on lists that the definitions compute with.
 use mathlib.Core.Bool.{Bool, true, false, cond, _&&_, _||_}
 use mathlib.Core.List.{List, [], _∷_, List·Memᴰ}
-use Prim.Native.Nat.{ℕ, max}
+use Prim.Native.Nat.{ℕ, _+_, max}
 use lib.Dec.{eqb, ltb}
 
 infix 40 _∈_
@@ -37,6 +37,11 @@ keep p (a ∷ l) = cond (p a) (a ∷ keep p l) (keep p l)
 abbrev pub greatest : {A : Type 0} → (A → ℕ) → List A → ℕ
 greatest f [] = 0
 greatest f (a ∷ l) = max (f a) (greatest f l)
+
+-- The sum of f over a list.
+abbrev pub sum : {A : Type 0} → (A → ℕ) → List A → ℕ
+sum f [] = 0
+sum f (a ∷ l) = f a + sum f l
 
 -- Whether two lists of numbers are equal.
 abbrev pub same : List ℕ → List ℕ → Bool
