@@ -8,24 +8,23 @@ use Rattle.model.specs.Layout.{imageSize, capacity}
 use Rattle.model.specs.Image.{logCount, logIn, messagesIn}
 use Rattle.order.specs.TestLaws.{Same}
 use Rattle.table.specs.Table.{deltasOf, deltasAt, Holds}
-use Rattle.table_reading.specs.ReadingLaws.{countIn, Walk}
+use Rattle.walk.specs.Walk.{OfLog}
 
--- The messages of an image are in the table.
-pub record Readable (b starts : List ℕ) (logged : ℕ) : Type 0 where
+-- The messages of an image are in the table, and its log's start at the offsets.
+pub record Readable (b starts offsets : List ℕ) : Type 0 where
   pub sized : length b ≡ imageSize
   pub holds : Holds b starts
   pub messages : Same (messagesIn b) (deltasOf b starts)
-  pub counted : logged ≡ logCount b
-  pub few : countIn b ≤ capacity
+  pub log : OfLog b offsets
+  pub few : logCount b ≤ capacity
 
 pub record ReadsLog (b starts : List ℕ) (logged : ℕ) (places : List ℕ) : Type 0 where
   pub log : deltasAt (deltasOf b starts) (take logged places) ≡ logIn b
   pub inside : (i : ℕ) → i ∈ take logged places → i < length starts
 
--- What holds where the loop of `read_places` tests: the first k messages are at the first k places.
-pub record LogReading (b starts : List ℕ) (logged : ℕ) (places : List ℕ) (at k : ℕ) : Type 0 where
-  pub upto : k ≤ logged
+-- What holds where the loop of `read_places` tests: the first k messages of the log are at the first k places.
+pub record LogReading (b starts offsets places : List ℕ) (k : ℕ) : Type 0 where
+  pub upto : k ≤ length offsets
   pub size : length places ≡ capacity
-  pub walk : Walk b k at
-  pub so-far : deltasAt (deltasOf b starts) (take k places) ≡ take k (messagesIn b)
+  pub so-far : deltasAt (deltasOf b starts) (take k places) ≡ take k (logIn b)
   pub inside : (i : ℕ) → i ∈ take k places → i < length starts

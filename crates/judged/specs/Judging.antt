@@ -14,6 +14,7 @@ use Rattle.message.specs.declared.checks.Check.the-variants.{Right, Wrong}
 use Rattle.table.specs.declared.Table.{Table}
 use Rattle.table.specs.Table.{startsOf, deltasOf, deltasAt, setIn, Holds}
 use Rattle.table_reading.specs.Reading.{IsTable}
+use Rattle.walk.specs.Walk.{OfLog}
 use Rattle.judged.specs.declared.judging.Station.{Station}
 use Rattle.image_log.specs.LogRead.{ReadsLog}
 
@@ -21,12 +22,17 @@ use Rattle.image_log.specs.LogRead.{ReadsLog}
 abbrev pub placesIn : Station → List ℕ
 placesIn r = take (r .logged) (r .places)
 
+-- And its offsets.
+abbrev pub logOffsetsIn : Station → List ℕ
+logOffsetsIn r = take (r .logged) (r .offsets)
+
 -- The table, and the log as the buffer lists it; nothing is judged yet.
 pub record ListsLog (b : List ℕ) (t : Table) (r : Station) : Type 0 where
   pub unjudged : r .check ≡ Wrong
   pub table : r .table ≡ t
   pub fits : r .logged ≤ capacity
   pub log : ReadsLog b (startsOf t) (r .logged) (r .places)
+  pub offsets : OfLog b (logOffsetsIn r)
 
 -- The listed log is that of the set, and there is a buffer for its image.
 pub record Rewritable (out b : List ℕ) (r : Station) : Type 0 where
@@ -48,6 +54,7 @@ pub record IsStation (b : List ℕ) (r : Station) : Type 0 where
   pub log : deltasAt (deltasOf b (startsOf (r .table))) (placesIn r) ≡ logOf (setIn b (startsOf (r .table)))
   pub inside : (i : ℕ) → i ∈ placesIn r → i < length (startsOf (r .table))
   pub fits : r .logged ≤ capacity
+  pub offsets : OfLog b (logOffsetsIn r)
 
 abbrev judgedBy : List ℕ → Station → Check → Type 0
 judgedBy b r Right = IsStation b r

@@ -13,36 +13,56 @@ use needs::rows::ROWS;
 use prepared::prepare;
 use table::Table;
 use table_reading::read_table;
+use walk::Walk;
+use walk::walk_messages;
 ghost use mathlib.Core.Path.{_≡_};
 ghost use lib.ListN.{length};
 ghost use Rattle.model.specs.Layout.{imageSize};
+ghost use Rattle.message.specs.declared.checks.Check.the-variants.{Wrong};
 ghost use Rattle.table.specs.Table.{startsOf, setIn};
 ghost use Rattle.table_reading.specs.Reading.{IsTable};
+ghost use Rattle.walk.specs.Walk.{IsWalk, offsetsOf};
 ghost use Rattle.image_header.specs.Pieces.{UsedWritten};
 ghost use Rattle.log_check.specs.Checking.{ChecksLog};
 ghost use Rattle.judged.specs.Judging.{ListsLog, Rewritable, placesIn, Blank, Judges, Copies};
 
-// A judged buffer: whether it is an image, where its messages lie, and the places of its log.
+// A judged buffer: whether it is an image, where its messages lie, and of its log's messages the places in the table and the offsets.
 pub struct Station {
     pub check: Check,
     pub table: Table,
     pub places: [u8; CAPACITY],
+    pub offsets: [u16; CAPACITY],
     pub logged: usize,
 }
 
+// No image: there is no table and no log.
+fn refuse() -> Station
+    ensures { λ r. ⌜ r .check ≡ Wrong ⌝ }
+{
+    Station {
+        check: Check::Wrong,
+        table: Table::new(),
+        places: [0; CAPACITY],
+        offsets: [0; CAPACITY],
+        logged: 0,
+    }
+}
+
 // A buffer whose messages were read, with its log as it lists it. Nothing is judged yet.
-fn list(b: &[u8], table: Table) -> Station
-    requires { ⌜ (length (now b) ≡ imageSize) × IsTable (now b) table ⌝ }
+fn list(b: &[u8], walk: Walk, table: Table) -> Station
+    requires { ⌜ (length (now b) ≡ imageSize) × IsWalk (now b) (offsetsOf walk) × IsTable (now b) table ⌝ }
     ensures { λ r. ⌜ ListsLog (now (b .entry)) table r ⌝ }
 {
     let starts = table.starts;
     let count = table.count;
+    let offsets = walk.offsets;
     let logged = get_u16(b, LOG_COUNT_AT) as usize;
-    let places = read_places(b, &starts[..count], logged);
+    let places = read_places(b, &starts[..count], &offsets[..logged]);
     Station {
         check: Check::Wrong,
         table,
         places,
+        offsets,
         logged,
     }
 }
@@ -86,11 +106,11 @@ fn rewrite(out: &mut [u8], b: &[u8], listed: Station) -> usize
 
 // Judges a buffer whose messages were read: its log has to be that of their set, and it has to be their image, byte for byte. That
 // image is written into `copy`, which is all zeros.
-fn judge(b: &[u8], table: Table, copy: &mut [u8]) -> Station
-    requires { ⌜ (length (now b) ≡ imageSize) × IsTable (now b) table × Blank (now copy) ⌝ }
+fn judge(b: &[u8], walk: Walk, table: Table, copy: &mut [u8]) -> Station
+    requires { ⌜ (length (now b) ≡ imageSize) × IsWalk (now b) (offsetsOf walk) × IsTable (now b) table × Blank (now copy) ⌝ }
     ensures { λ r. ⌜ Judges (now (b .entry)) r × Copies (now (b .entry)) (now (copy .exit)) (r .check) ⌝ }
 {
-    let listed = list(b, table);
+    let listed = list(b, walk, table);
     let checked = check_listed(b, listed);
     let Check::Right = checked else {
         return listed;
@@ -100,11 +120,13 @@ fn judge(b: &[u8], table: Table, copy: &mut [u8]) -> Station
         return listed;
     }
     let places = listed.places;
+    let offsets = listed.offsets;
     let logged = listed.logged;
     Station {
         check: Check::Right,
         table,
         places,
+        offsets,
         logged,
     }
 }
@@ -114,18 +136,20 @@ pub fn read_and_copy(b: &[u8], copy: &mut [u8]) -> Station
     requires { ⌜ (length (now b) ≡ imageSize) × Blank (now copy) ⌝ }
     ensures { λ r. ⌜ Judges (now (b .entry)) r × Copies (now (b .entry)) (now (copy .exit)) (r .check) ⌝ }
 {
-    let reading = read_table(b);
+    let walk = walk_messages(b);
+    let walked = walk.check;
+    let Check::Right = walked else {
+        return refuse();
+    };
+    let offsets = walk.offsets;
+    let count = walk.count;
+    let reading = read_table(b, &offsets[..count]);
     let check = reading.check;
     let table = reading.table;
     let Check::Right = check else {
-        return Station {
-            check: Check::Wrong,
-            table,
-            places: [0; CAPACITY],
-            logged: 0,
-        };
+        return refuse();
     };
-    judge(b, table, copy)
+    judge(b, walk, table, copy)
 }
 
 // Reads a buffer of an image's size and judges it.

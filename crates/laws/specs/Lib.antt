@@ -2,6 +2,8 @@ pub mod SetLaws
 pub mod LogLaws
 pub mod EffectiveLaws
 pub mod ImageLaws
+pub mod ImageSetLaws
+pub mod OffsetLaws
 pub mod CodeLaws
 pub mod DeliverLaws
 pub mod UsedLaws

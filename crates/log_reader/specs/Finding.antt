@@ -6,15 +6,16 @@ use lib.ListN.{length, take, drop}
 use lib.Dec.{T}
 use Rattle.model.specs.Layout.{imageSize}
 use Rattle.model.specs.Message.{Message}
-use Rattle.model.specs.Image.{messagesStartIn, logCount, logIn, isImage}
+use Rattle.model.specs.Image.{messagesStartIn, logCount, logIn, offsetIn, isImage}
 use Rattle.model.specs.Calls.{messageAt}
-use Rattle.reading.specs.Parts.{logOffset}
+use Rattle.walk.specs.Walk.{OfLog}
 use Rattle.log_reader.specs.declared.finding.Found.{Found}
 use Rattle.log_reader.specs.declared.finding.Found.the-variants as found
 
-pub record Searchable (b : List ℕ) : Type 0 where
+pub record Searchable (b offsets : List ℕ) : Type 0 where
   pub sized : length b ≡ imageSize
   pub image : T (isImage b)
+  pub log : OfLog b offsets
 
 -- the message of the log that starts at an offset, by the definition
 abbrev pub startingAt : List ℕ → ℕ → Message
@@ -29,7 +30,6 @@ Finds b offset (found.Message size) = IsMessage b offset size
 Finds b offset found.Nothing = startingAt b offset ≡ []
 
 -- What holds where the loop of `find_message` tests: none of the first k messages starts there.
-pub record Looking (b : List ℕ) (offset at k : ℕ) : Type 0 where
+pub record Looking (b : List ℕ) (offset k : ℕ) : Type 0 where
   pub upto : k ≤ logCount b
-  pub here : at ≡ logOffset b k
-  pub left : startingAt b offset ≡ messageAt at (drop k (logIn b)) offset
+  pub left : startingAt b offset ≡ messageAt (offsetIn b k) (drop k (logIn b)) offset

@@ -2,27 +2,22 @@
 -- or on a buffer that answers 1 or 2, it gives empty parts and stays.
 use mathlib.Core.Path.{_≡_, refl, sym, _∙_, ap, subst}
 use mathlib.Core.Logic.{⊎-elim}
-use mathlib.Core.Bool.{Bool, cond, not}
-use mathlib.Core.List.{List, [], _∷_, _++_, List·Memᴰ·head, List·Memᴰ·tail}
-use Prim.Native.Nat.{ℕ, zero, suc, _+_, _-_, _≤_, _<_, min}
+use mathlib.Core.Bool.{not}
+use mathlib.Core.List.{List, [], _∷_, _++_}
+use Prim.Native.Nat.{ℕ, zero, suc, _+_, _-_, _<_, min}
 use native.Mathlib.Omega.{arith}
 use native.Mathlib.Numerals.{add-one}
-use lib.ListN.{length, take, getD, replicate, length-append}
+use lib.ListN.{length, take, getD, replicate}
 use lib.Seq.{take-all}
-use lib.Dec.{T, ltb, leb, ltb→lt, nltb→le, leb→le, nleb→lt}
-use borrow.Author.Tests.{eq-eqb, ne-eqb}
-use Rattle.model.specs.Lists.{_∈_}
-use Rattle.model.specs.Bytes.{join}
+use lib.Dec.{T, leb, leb→le, nleb→lt}
+use Rattle.model.specs.Lists.{_∈_, sum}
 use Rattle.model.specs.Message.{Message}
-use Rattle.model.specs.Image.{messagesStartIn, logIn, isImage}
+use Rattle.model.specs.Image.{messagesStartIn, logIn, offsetOf, offsetIn}
 use Rattle.model.specs.Codes.{lowestCode, readConditions}
 use Rattle.model.specs.Calls as model
-use Rattle.model.specs.Calls.{messageAt, nextMessage}
+use Rattle.model.specs.Calls.{nextMessage}
 use Rattle.order.specs.TestLaws.{decide}
-use Rattle.wire_laws.specs.MessageLaws.{sized-range}
-use Rattle.setpoints.specs.ChangeLaws.{getD-past}
-use Rattle.reading.specs.Parts.{logOffset}
-use Rattle.reading.specs.PartLaws.{offset-first, log-sized, offset-next}
+use Rattle.laws.specs.OffsetLaws.{offset-first, offset-next, message-at-offset, log-count, log-offset, log-full}
 use Rattle.log_reader.specs.declared.reader.LogReader.{LogReader}
 use Rattle.log_reader.specs.Reader.{readerOf, Starts, readOf, Reads}
 use Rattle.log_reader.specs.ReaderLaws.{code-image}
@@ -46,7 +41,7 @@ pub record OfImage (b : List ℕ) (n : ℕ) (parts : List (List ℕ)) (end : mod
   -- the log's messages in order, and then empty parts
   pub given : parts ≡ take n (logIn b) ++ replicate (n - length (logIn b)) []
   -- the reader stands at the next message, and past the last one it stays
-  pub stands : end ≡ record { image = b; offset = logOffset b (min n (length (logIn b))) }
+  pub stands : end ≡ record { image = b; offset = offsetIn b (min n (length (logIn b))) }
   -- no message is empty, so that the first empty part is the end of the log
   pub full : (m : Message) → m ∈ logIn b → 0 < length m
 
@@ -57,15 +52,6 @@ pub record OfOther (b : List ℕ) (n : ℕ) (parts : List (List ℕ)) (end : mod
 pub record WholeReading (b : List ℕ) (n : ℕ) (parts : List (List ℕ)) (end : model.Reader) : Type 0 where
   pub of-image : lowestCode (readConditions b) ≡ 0 → OfImage b n parts end
   pub of-other : ¬ (lowestCode (readConditions b) ≡ 0) → OfOther b n parts end
-
--- ---- at the offset of a place stands the message at that place, and past the last one none
-place-message : (at : ℕ) (l : List Message) → ((m : Message) → m ∈ l → 0 < length m) → (k : ℕ) → messageAt at l (at + length (join (take k l))) ≡ getD l k []
-place-message at [] full k = refl
-place-message at (m ∷ l) full zero = ap (λ (t : Bool). cond t m (messageAt (at + length m) l (at + 0))) (eq-eqb at (at + 0) (omega arith))
-place-message at (m ∷ l) full (suc k) =
-    let far : at + length (m ++ join (take k l)) ≡ at + length m + length (join (take k l)) = omega (arith, length-append m (join (take k l))) in
-    ap (λ (t : Bool). cond t m (messageAt (at + length m) l (at + length (m ++ join (take k l))))) (ne-eqb at (at + length (m ++ join (take k l))) (λ e. omega (arith, far, full m (List·Memᴰ·head refl))))
-    ∙ ap (messageAt (at + length m) l) far ∙ place-message (at + length m) l (λ x j. full x (List·Memᴰ·tail j)) k
 
 -- ---- the parts from a place on
 partsFrom : ℕ → ℕ → List Message → List Message
@@ -101,40 +87,26 @@ take-min n l = ⊎-elim within past (decide (leb n (length l)))
     past t = let h : length l < n = nleb→lt n (length l) t in take-all n l (omega arith) ∙ sym (take-all (min n (length l)) l (omega arith))
 
 -- ---- one call of next on a reader at a place of the log
+abbrev logOffset : List ℕ → ℕ → ℕ
+logOffset b k = offsetOf (messagesStartIn b) (logIn b) k
+
 abbrev readerAt : List ℕ → ℕ → model.Reader
 readerAt b k = record { image = b; offset = logOffset b k }
 
 module _ (b : List ℕ) (accepted : lowestCode (readConditions b) ≡ 0) where
-  image : T (isImage b)
-  image = code-image b accepted .1
-
   full : (m : Message) → m ∈ logIn b → 0 < length m
-  full m k = omega (arith, sized-range m (log-sized b image m k) .0)
+  full = log-full b (code-image b accepted .1)
 
   abbrev message : ℕ → Message
   message k = getD (logIn b) k []
 
-  offset-on : (k : ℕ) → logOffset b k + length (message k) ≡ logOffset b (suc k)
-  unfolding logOffset
-  offset-on k = ⊎-elim within past (decide (ltb k (length (logIn b))))
-    where
-      within : T (ltb k (length (logIn b))) → logOffset b k + length (message k) ≡ logOffset b (suc k)
-      within t = sym (offset-next b image k (ltb→lt k (length (logIn b)) t)) ∙ ap (logOffset b) (add-one k)
-
-      past : T (not (ltb k (length (logIn b)))) → logOffset b k + length (message k) ≡ logOffset b (suc k)
-      past t =
-          let h : length (logIn b) ≤ k = nltb→le k (length (logIn b)) t in
-          let none : message k ≡ [] = getD-past (logIn b) k [] h in
-          let all : take k (logIn b) ≡ take (suc k) (logIn b) = take-all k (logIn b) h ∙ sym (take-all (suc k) (logIn b) (omega arith)) in
-          omega (arith, ap length none, ap (λ (l : List Message). length (join l)) all)
-
   next-at : (k : ℕ) → model.next (readerAt b k) ≡ readOf (message k) (readerAt b (suc k))
-  unfolding model.next logOffset
+  unfolding model.next
   next-at k =
       let m : nextMessage (lowestCode (readConditions b)) b (logOffset b k) ≡ message k =
-      ap (λ (n : ℕ). nextMessage n b (logOffset b k)) accepted ∙ place-message (messagesStartIn b) (logIn b) full k in
+      ap (λ (n : ℕ). nextMessage n b (logOffset b k)) accepted ∙ message-at-offset (messagesStartIn b) (logIn b) full k in
       ap (λ (x : Message). readOf x (record { image = b; offset = logOffset b k + length x })) m
-      ∙ ap (λ (n : ℕ). readOf (message k) (record { image = b; offset = n })) (offset-on k)
+      ∙ ap (λ (n : ℕ). readOf (message k) (record { image = b; offset = n })) (sym (offset-next (messagesStartIn b) (logIn b) k) ∙ ap (logOffset b) (add-one k))
 
   parts-on : (n k : ℕ) → partsOf n (readerAt b k) ≡ partsFrom n k (logIn b)
   unfolding partsFrom
@@ -169,18 +141,23 @@ module _ (b : List ℕ) (refused : ¬ (lowestCode (readConditions b) ≡ 0)) whe
   stays zero = refl
   stays (suc n) = ap (λ (x : model.Read). after n (x .reader)) next-other ∙ stays n
 
+-- past the last message of the log the reader stays
+stands-at : (b : List ℕ) (n : ℕ) → logOffset b n ≡ offsetIn b (min n (length (logIn b)))
+unfolding offsetOf
+stands-at b n =
+    ap (λ (l : List Message). messagesStartIn b + sum length l) (take-min n (logIn b)) ∙ log-offset b (min n (length (logIn b))) (omega (arith, log-count b))
+
 -- WHOLE READINGS of the definitions
 start-is : (b : List ℕ) → model.start b ≡ readerAt b 0
 unfolding model.start
-start-is b = ap (λ (n : ℕ). record { image = b; offset = n }) (offset-first b)
+start-is b = ap (λ (n : ℕ). record { image = b; offset = n }) (sym (offset-first (messagesStartIn b) (logIn b)))
 
 pub whole-reading : (b : List ℕ) (n : ℕ) → WholeReading b n (partsOf n (model.start b)) (after n (model.start b))
-unfolding logOffset
 whole-reading b n = record {
   of-image = λ accepted. record {
     given = ap (partsOf n) (start-is b) ∙ parts-on b accepted n 0 ∙ parts-all n (logIn b);
     stands = ap (after n) (start-is b) ∙ after-on b accepted n 0
-        ∙ ap (λ (l : List Message). record { image = b; offset = messagesStartIn b + length (join l) }) (ap (λ (k : ℕ). take k (logIn b)) {x = 0 + n} {y = n} (omega arith) ∙ take-min n (logIn b));
+        ∙ ap (λ (o : ℕ). record { image = b; offset = o }) (ap (logOffset b) {x = 0 + n} {y = n} (omega arith) ∙ stands-at b n);
     full = full b accepted;
   };
   of-other = λ refused. record { given = no-parts b refused n; stands = stays b refused n };

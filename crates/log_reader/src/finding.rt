@@ -1,11 +1,9 @@
 // The log's message that starts at an offset.
 use buffer::get_u16;
+use judged::judging::read_station;
 use layout::LENGTH_AT;
-use layout::LOG_COUNT_AT;
 use message::checks::Check;
-use reading_checks::check_image;
 use sizes::check_image_size;
-use table::start::messages_start;
 ghost use mathlib.Core.Path.{_≡_};
 ghost use Rattle.model.specs.Codes.{lowestCode, readConditions};
 ghost use Rattle.model.specs.Calls.{nextMessage};
@@ -17,20 +15,18 @@ enum Found {
     Nothing,
 }
 
-// Looks for a message of the log that starts at an offset, from the first one on.
-fn find_message(image: &[u8], offset: usize) -> Found
-    requires { ⌜ Searchable (now image) ⌝ }
+// Looks for a message of the log that starts at an offset, among the offsets of all of them.
+fn find_message(image: &[u8], offsets: &[u16], offset: usize) -> Found
+    requires { ⌜ Searchable (now image) (now offsets) ⌝ }
     ensures { λ r. ⌜ Finds (now (image .entry)) offset r ⌝ }
 {
-    let logged = get_u16(image, LOG_COUNT_AT) as usize;
-    let mut at = messages_start();
     let mut k = 0;
-    while k < logged {
-        let size = get_u16(image, at + LENGTH_AT) as usize;
+    while k < offsets.len() {
+        let at = offsets[k] as usize;
         if at == offset {
+            let size = get_u16(image, at + LENGTH_AT) as usize;
             return Found::Message(size);
         }
-        at += size;
         k += 1;
     }
     Found::Nothing
@@ -44,11 +40,14 @@ pub fn next_part(image: &[u8], offset: usize) -> &[u8]
     let Check::Right = sized else {
         return &image[0..0];
     };
-    let judged = check_image(image);
+    let station = read_station(image);
+    let judged = station.check;
     let Check::Right = judged else {
         return &image[0..0];
     };
-    let found = find_message(image, offset);
+    let offsets = station.offsets;
+    let logged = station.logged;
+    let found = find_message(image, &offsets[..logged], offset);
     let Found::Message(size) = found else {
         return &image[0..0];
     };

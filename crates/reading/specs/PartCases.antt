@@ -6,14 +6,15 @@ use Prim.Native.Nat.{ℕ, zero, suc, _+_, _≤_, _<_}
 use native.Mathlib.Omega.{arith}
 use lib.ListN.{length, take, drop, getD}
 use lib.Dec.{T, eqb, leb, eqb→eq, nleb→lt}
-use borrow.Author.Tests.{leb-false, eqb-true, ne-eqb, not-true}
+use borrow.Author.Tests.{leb-false, ne-eqb, not-true}
 use Rattle.model.specs.Bytes.{field}
 use Rattle.model.specs.Layout.{lengthAt, headerSize, imageSize}
-use Rattle.model.specs.Image.{isImage, logCount, logIn}
+use Rattle.model.specs.Image.{isImage, logCount, logIn, offsetIn}
 use Rattle.model.specs.Calls.{logMessageCode, logMessage}
 use Rattle.order.specs.TestLaws.{true-T}
-use Rattle.reading.specs.Parts.{logOffset, Part, partAnswer, logPart, Walkable}
-use Rattle.reading.specs.PartLaws.{log-count, message-range, part-is, length-is, part-inside}
+use Rattle.table.specs.TableLaws.{Lies}
+use Rattle.reading.specs.Parts.{Part, partAnswer, logPart}
+use Rattle.reading.specs.PartLaws.{part-lies, part-size, part-is}
 use Rattle.reading.specs.ReadCodes.{all-right, place-told}
 
 module _ (b : List ℕ) (place : ℕ) where
@@ -35,22 +36,16 @@ module _ (b : List ℕ) (place : ℕ) where
     image : T (isImage b)
     image = true-T (isImage b) (sym i)
 
-    below : place < logCount b
+    pub below : place < logCount b
     below = leb-false (logCount b) place (not-true (leb (logCount b) place) (sym t))
 
-    pub place-walkable : Walkable b place
-    place-walkable = record { sized = eqb-true (length b) imageSize (sym s); image = image; upto = omega (arith, below) }
-
-    here : place < length (logIn b)
-    here = omega (arith, below, log-count b)
-
     -- the message lies inside, and so does its length field
-    pub place-inside : logOffset b place + headerSize ≤ length b
-    place-inside = omega (arith, part-inside b image place here, message-range b image place here)
+    pub place-inside : offsetIn b place + headerSize ≤ length b
+    place-inside = let l : Lies b (offsetIn b place) = part-lies b image place below in omega arith
 
-    pub part-at : {offset size : ℕ} → offset ≡ logOffset b place → size ≡ field b (offset + lengthAt) 2 → record { code = 0; offset = offset; size = size } ≡ logPart b place
+    pub part-at : {offset size : ℕ} → offset ≡ offsetIn b place → size ≡ field b (offset + lengthAt) 2 → record { code = 0; offset = offset; size = size } ≡ logPart b place
     part-at e f =
-        ap₂ (λ (o n : ℕ). record { code = 0; offset = o; size = n }) e (f ∙ ap (λ (o : ℕ). field b (o + lengthAt) 2) e ∙ length-is b image place here)
+        ap₂ (λ (o n : ℕ). record { code = 0; offset = o; size = n }) e (f ∙ ap (λ (o : ℕ). field b (o + lengthAt) 2) e ∙ sym (part-size b image place below))
         ∙ part-told 0 (place-told b s i place t)
 
 -- ---- the part is the message
@@ -60,10 +55,10 @@ pub record IsPart (b : List ℕ) (place : ℕ) (p : Part) : Type 0 where
   pub bytes : take (p .size) (drop (p .offset) b) ≡ logMessage b place
 
 -- 0 is answered for a place of an image's log only
-accepted : (b : List ℕ) (place : ℕ) → logMessageCode b place ≡ 0 → (length b ≡ imageSize) × T (isImage b) × (place < length (logIn b))
+accepted : (b : List ℕ) (place : ℕ) → logMessageCode b place ≡ 0 → (length b ≡ imageSize) × T (isImage b) × (place < logCount b)
 accepted b place e =
     let r = all-right (eqb (length b) imageSize) (isImage b) (not (leb (logCount b) place)) (place-told b refl refl place refl ∙ e) in
-    (eqb→eq (length b) imageSize (r .0), r .1, omega (arith, log-count b, nleb→lt (logCount b) place (r .2)))
+    (eqb→eq (length b) imageSize (r .0), r .1, nleb→lt (logCount b) place (r .2))
 
 pub is-part : (b : List ℕ) (place : ℕ) → IsPart b place (logPart b place)
 unfolding logPart logMessage
@@ -72,7 +67,8 @@ is-part b place = go (logMessageCode b place) refl
     go : (n : ℕ) → logMessageCode b place ≡ n → IsPart b place (partAnswer n b place)
     go zero e =
         let a = accepted b place e in
-        let inside = part-inside b (a .1) place (a .2) in
+        let l : Lies b (offsetIn b place) = part-lies b (a .1) place (a .2) in
+        let inside : offsetIn b place + length (getD (logIn b) place []) ≤ length b = omega (arith, part-size b (a .1) place (a .2)) in
         record {
           inside = inside;
           small = omega (arith, inside, a .0);

@@ -1,4 +1,2 @@
 pub mod Reading
-pub mod SizeLaws
-pub mod ImageSetLaws
 pub mod ReadingLaws

@@ -1,12 +1,11 @@
 -- What reading an image's messages into a table answers.
 use mathlib.Core.Path.{_≡_}
-use mathlib.Core.Bool.{Bool, true, false, cond}
+use mathlib.Core.Bool.{Bool, true, false}
 use mathlib.Core.List.{List}
 use Prim.Native.Nat.{ℕ, _+_, _≤_}
 use lib.Dec.{T}
 use Rattle.model.specs.Lists.{has}
-use Rattle.model.specs.Bytes.{field}
-use Rattle.model.specs.Layout.{lengthAt, capacity}
+use Rattle.model.specs.Layout.{capacity}
 use Rattle.model.specs.Message.{sequenceOf, passes}
 use Rattle.model.specs.Order.{insert, sequencesOf}
 use Rattle.model.specs.Image.{logCount, heldCount, messagesIn, stateIn, isImage}
@@ -23,10 +22,6 @@ use Rattle.table.specs.Table.{startsOf, messageFrom, deltasOf, setIn, Holds}
 pub record IsMessage (b : List ℕ) (at : ℕ) (s : Sequence) : Type 0 where
   pub pass : T (passes (messageFrom b at))
   pub sequence : sequenceNumber s ≡ sequenceOf (messageFrom b at)
-
--- its size, or 0 where nothing there passes 3 to 6
-abbrev pub sizeAt : List ℕ → ℕ → ℕ
-sizeAt b at = cond (passes (messageFrom b at)) (field b (at + lengthAt) 2) 0
 
 -- ---- a message's start joins the others
 abbrev pub known : List ℕ → List ℕ → ℕ → Bool

@@ -15,7 +15,7 @@ use lib.Signed.{mag}
 use mir.Syntax.{w32}
 use mir.Val.{toZ, ofZ, sel}
 use mir.Facts.{toZ-ofZ}
-use Rattle.model.specs.Lists.{_∈_}
+use Rattle.model.specs.Lists.{_∈_, sum}
 use Rattle.model.specs.Bytes.{isBytes, numberFrom, number, bytes, field, parts, join, integer, word}
 use Rattle.order.specs.TestLaws.{and-l, and-r, and-i}
 
@@ -145,6 +145,10 @@ length-join size (b ∷ l) h =
 pub join-bytes : (l : List (List ℕ)) → ((b : List ℕ) → b ∈ l → T (isBytes b)) → T (isBytes (join l))
 join-bytes [] h = tt
 join-bytes (b ∷ l) h = isBytes-append b (join l) (h b (List·Memᴰ·head refl)) (join-bytes l (λ c k. h c (List·Memᴰ·tail k)))
+
+pub sum-lengths : (l : List (List ℕ)) → sum length l ≡ length (join l)
+sum-lengths [] = refl
+sum-lengths (b ∷ l) = omega (arith, length-append b (join l), sum-lengths l)
 
 pub join-append : (l k : List (List ℕ)) → join l ++ join k ≡ join (l ++ k)
 join-append [] k = refl

@@ -1,113 +1,86 @@
--- The invariant: the starts are those of the first `count` messages, and the next one starts at `at`.
+-- The invariant: the starts are those of the first `count` messages.
 use mathlib.Core.Path.{_≡_, refl, sym, _∙_, subst}
-use mathlib.Core.List.{List, []}
-use Prim.Native.Nat.{ℕ, _+_, _-_, _≤_}
+use mathlib.Core.List.{List}
+use Prim.Native.Nat.{ℕ, _+_, _-_, _≤_, _<_}
 use native.Mathlib.Omega.{arith}
 use borrow.Author.Needs.{needs}
-use lib.ListN.{length, take}
-use lib.Dec.{T}
+use lib.ListN.{length, take, getD}
 use Rattle.model.specs.Layout.{sequenceAt, sequenceSize, capacity}
-use Rattle.model.specs.Message.{passes}
 use Rattle.message.specs.declared.checks.Check.{Check}
-use Rattle.table.specs.Table.{messageFrom}
-use Rattle.table.specs.TableLaws.{Lies, passes-lies}
+use Rattle.table.specs.TableLaws.{Lies}
+use Rattle.walk.specs.Walk.{countIn}
+use Rattle.walk.specs.WalkLaws.{walked-message, walked-passes, walked-lies}
 use Rattle.table_reading.specs.Reading.{TakesIn}
-use Rattle.table_reading.specs.SizeLaws.{size-passes, no-size, some-size}
-use Rattle.table_reading.specs.ReadingLaws.{countIn, Walked, walk-start, walk-next, walk-end, walk-all, walk-refused, walk-twice, too-many, wrong-reads}
+use Rattle.table_reading.specs.ReadingLaws.{Gathered, gathered-none, gathered-all, gathered-set, gathered-twice, gathered-next, wrong-reads}
 use Rattle.table_reading.proofs.read_table.Statement.{statement}
 use Rattle.table_reading.proofs.read_table.Tie as tie
 
 abbrev Inv-loop : tie.InvT-loop
-Inv-loop b total starts₀ count₀ at₀ starts count at =
-    (count ≤ total) × (total ≡ countIn b) × (total ≤ capacity) × (length starts ≡ capacity) × Walked b count at (take count starts)
+Inv-loop b offsets starts₀ count₀ starts count = (count ≤ length offsets) × (length starts ≡ capacity) × Gathered b count (take count starts)
 
 abbrev μ-loop : tie.MeasureT-loop
-μ-loop b total starts₀ count₀ at₀ starts count at = total - count
+μ-loop b offsets starts₀ count₀ starts count = length offsets - count
 
--- the call as it began, from where its messages start and from the head of the loop
-abbrev begun : tie.After-messages-start Inv-loop μ-loop → tie.Start Inv-loop μ-loop
-begun c = c .before .before .before .before
-
+-- the call as it began, from the head of the loop; its bytes, and the offset at which a turn stands
 abbrev start : tie.At-loop Inv-loop μ-loop → tie.Start Inv-loop μ-loop
-start h = begun (h .before)
+start h = h .before .before .before
 
 abbrev bytes : tie.At-loop Inv-loop μ-loop → List ℕ
 bytes h = start h .args .b .now
 
--- the head of the loop, from where the message's size is read and is not 0; and that from where the message is taken in
-abbrev head : tie.After-read-message Inv-loop μ-loop → tie.At-loop Inv-loop μ-loop
-head m = m .before .before
+abbrev offset : tie.At-loop Inv-loop μ-loop → ℕ
+offset h = getD (start h .args .offsets .now) (h .loop .count) 0
 
-abbrev sized : tie.Else2 Inv-loop μ-loop → tie.At-loop Inv-loop μ-loop
-sized e = head (e .before)
+-- the head of the loop, from where the offset is read, and from where the message is taken in
+abbrev head : tie.After-shared-slice-known3 Inv-loop μ-loop → tie.At-loop Inv-loop μ-loop
+head c = c .before .before
 
-abbrev measured : tie.After-take-in Inv-loop μ-loop → tie.Else2 Inv-loop μ-loop
-measured t = t .before .before .before
+abbrev taking : tie.After-take-in Inv-loop μ-loop → tie.At-loop Inv-loop μ-loop
+taking t = head (t .before .before .before)
 
-count-messages-requires : tie.Need-count-messages-requires Inv-loop μ-loop
-count-messages-requires c κs = omega arith
+-- the message at which a turn stands lies in the image
+more : (i : tie.In-loop Inv-loop μ-loop) → i .before .loop .count < countIn (bytes (i .before))
+more i = omega (arith, i .loop-test .taken, start (i .before) .pre .1 .count)
 
-refuse-requires : tie.Need-refuse-requires Inv-loop μ-loop
-refuse-requires c κs = search needs
-
-returns : tie.Need-returns Inv-loop μ-loop
-returns c =
-    let b = c .before .before .before .before .args .b .now in
-    wrong-reads b (c .refuse .result) (c .refuse .ensures) (too-many b (omega arith))
-
-messages-start-requires : tie.Need-messages-start-requires Inv-loop μ-loop
-messages-start-requires c κs = search needs
+lies : (i : tie.In-loop Inv-loop μ-loop) → Lies (bytes (i .before)) (offset (i .before))
+lies i = let s = start (i .before) in walked-lies (s .args .b .now) (s .args .offsets .now) (s .pre .1) (i .before .loop .count) (more i)
 
 loop-holds : tie.Need-loop-holds Inv-loop μ-loop
-loop-holds c =
-    let b = begun c .args .b .now in (
-      omega arith,
-      c .before .before .count-messages .ensures,
-      omega arith,
-      refl,
-      subst (λ (at : ℕ). Walked b 0 at []) (sym (c .messages-start .ensures .1 b)) (walk-start b (begun c .pre)),
-    )
+loop-holds c = (omega arith, refl, gathered-none (c .before .before .args .b .now))
 
-read-message-requires : tie.Need-read-message-requires Inv-loop μ-loop
-read-message-requires c κs = c .before .loop .inv .4 .walk .inside
+mul-at : tie.Need-mul-at Inv-loop μ-loop
+mul-at c = search needs
 
-refuse-requires-2 : tie.Need-refuse-requires-2 Inv-loop μ-loop
-refuse-requires-2 c κs = search needs
+shared-slice-read-at : tie.Need-shared-slice-read-at Inv-loop μ-loop
+shared-slice-read-at c = search needs
 
-returns-2 : tie.Need-returns-2 Inv-loop μ-loop
-returns-2 c =
-    let m = c .before .before in
-    let h = head m in
-    let l = h .loop in
-    let none : m .read-message .result ≡ 0 = omega arith in
-    wrong-reads (bytes h) (c .refuse2 .result) (c .refuse2 .ensures)
-    (walk-refused (bytes h) (l .count) (l .at) (take (l .count) (l .starts)) (l .inv .4) (omega arith) (no-size (bytes h) (l .at) (sym (m .read-message .ensures) ∙ none)))
-
--- the message whose size was read passes 3 to 6, and lies in the image
-passed : (e : tie.Else2 Inv-loop μ-loop) → T (passes (messageFrom (bytes (sized e)) (sized e .loop .at)))
-passed e = some-size (bytes (sized e)) (sized e .loop .at) (λ z. let q : e .before .read-message .result ≡ 0 = e .before .read-message .ensures ∙ z in omega arith)
-
-lies : (e : tie.Else2 Inv-loop μ-loop) → Lies (bytes (sized e)) (sized e .loop .at)
-lies e = passes-lies (bytes (sized e)) (sized e .loop .at) (passed e)
+cast-read-sequence : tie.Need-cast-read-sequence Inv-loop μ-loop
+cast-read-sequence c = omega (arith, lies (c .before), start (head c) .pre .0)
 
 add-read-sequence : tie.Need-add-read-sequence Inv-loop μ-loop
-add-read-sequence c = omega (arith, lies c, start (sized c) .pre)
+add-read-sequence c = omega (arith, lies (c .before), start (head c) .pre .0)
 
 read-sequence-requires : tie.Need-read-sequence-requires Inv-loop μ-loop
-read-sequence-requires c κs = omega (arith, lies c)
+read-sequence-requires c κs = omega (arith, lies (c .before))
 
 slice-aggregate-take-in : tie.Need-slice-aggregate-take-in Inv-loop μ-loop
 slice-aggregate-take-in c = search needs
 
-cast-take-in : tie.Need-cast-take-in Inv-loop μ-loop
-cast-take-in c = let e = c .before .before in omega (arith, lies e, start (sized e) .pre)
-
 take-in-requires : tie.Need-take-in-requires Inv-loop μ-loop
 take-in-requires c κs =
     let r = c .before in
-    let e = r .before in
-    let l = sized e .loop in
-    (l .inv .3, omega arith, l .inv .4 .holds, record { pass = passed e; sequence = r .read-sequence .ensures ∙ sym (lies e .fields sequenceAt sequenceSize (omega (arith, lies e))) })
+    let i = r .before .before in
+    let l = i .before .loop in
+    let s = start (i .before) in
+    let b = s .args .b .now in (
+      l .inv .1,
+      omega (arith, more i, s .pre .1 .fits),
+      l .inv .2 .holds,
+      record {
+        pass = walked-passes b (s .args .offsets .now) (s .pre .1) (l .count) (more i);
+        sequence = r .read-sequence .ensures ∙ sym (lies i .fields sequenceAt sequenceSize (omega (arith, lies i)));
+      },
+    )
 
 enum-told : tie.Need-enum-told Inv-loop μ-loop
 enum-told c = search needs
@@ -116,29 +89,26 @@ enum-told-2 : tie.Need-enum-told-2 Inv-loop μ-loop
 enum-told-2 c = search needs
 
 -- what taking it in answered
+abbrev turn : tie.After-take-in Inv-loop μ-loop → tie.In-loop Inv-loop μ-loop
+turn t = t .before .before .before .before
+
 taken : (t : tie.After-take-in Inv-loop μ-loop) {r : Check} → t .take-in .result ≡ r
-    → let e = measured t in let l = sized e .loop in
-    TakesIn (bytes (sized e)) (take (l .count) (l .starts)) (l .at) r (take (l .count + 1) (t .take-in .last .1 .0))
+    → let h = taking t in TakesIn (bytes h) (take (h .loop .count) (h .loop .starts)) (offset h) r (take (h .loop .count + 1) (t .take-in .last .1 .0))
 taken t e =
-    let h = sized (measured t) in
-    let l = h .loop in
-    subst (λ (k : Check). TakesIn (bytes h) (take (l .count) (l .starts)) (l .at) k (take (l .count + 1) (t .take-in .last .1 .0))) e (t .take-in .ensures)
+    let h = taking t in
+    subst (λ (k : Check). TakesIn (bytes h) (take (h .loop .count) (h .loop .starts)) (offset h) k (take (h .loop .count + 1) (t .take-in .last .1 .0))) e (t .take-in .ensures)
 
-refuse-requires-3 : tie.Need-refuse-requires-3 Inv-loop μ-loop
-refuse-requires-3 c κs = search needs
+refuse-requires : tie.Need-refuse-requires Inv-loop μ-loop
+refuse-requires c κs = search needs
 
-returns-3 : tie.Need-returns-3 Inv-loop μ-loop
-returns-3 c =
+returns : tie.Need-returns Inv-loop μ-loop
+returns c =
     let t = c .before .before .before .before in
-    let h = sized (measured t) in
+    let h = taking t in
     let l = h .loop in
-    wrong-reads (bytes h) (c .refuse3 .result) (c .refuse3 .ensures)
-    (walk-twice (bytes h) (l .count) (l .at) (take (l .count) (l .starts)) (l .inv .4) (omega arith) (taken t (c .before .enum-told2 .given .1)))
-
-add-at : tie.Need-add-at Inv-loop μ-loop
-add-at c =
-    let e = c .before .before .before .before .before .before in
-    omega (arith, lies e, size-passes (bytes (sized e)) (sized e .loop .at) (passed e), start (sized e) .pre)
+    let w = start h .pre .1 in
+    wrong-reads (bytes h) (c .refuse .result) (c .refuse .ensures)
+    (gathered-twice (bytes h) (l .count) (take (l .count) (l .starts)) (l .inv .2) (more (turn t)) (offset h) (walked-message (bytes h) (start h .args .offsets .now) w (l .count) (more (turn t))) (taken t (c .before .enum-told2 .given .1)))
 
 add-count : tie.Need-add-count Inv-loop μ-loop
 add-count c = omega arith
@@ -149,21 +119,30 @@ loop-less c = omega arith
 loop-again : tie.Need-loop-again Inv-loop μ-loop
 loop-again c =
     let t = c .before .before .before in
-    let e = measured t in
-    let b = bytes (sized e) in
-    let l = sized e .loop in
-    let next = take (l .count + 1) (t .take-in .last .1 .0) in
+    let h = taking t in
+    let l = h .loop in
     let k = taken t (c .enum-told .given .1) in
-    let w = walk-next b (l .count) (l .at) (take (l .count) (l .starts)) (l .inv .4) (omega arith) next (k .new) (k .deltas) (passed e) (k .holds) in
-    let size = e .before .read-message .ensures ∙ size-passes b (l .at) (passed e) in
-    (omega arith, l .inv .1, l .inv .2, t .take-in .kept .1 .0 ∙ l .inv .3, subst (λ (n : ℕ). Walked b (l .count + 1) (l .at + n) next) (sym size) w)
+    let here = walked-message (bytes h) (start h .args .offsets .now) (start h .pre .1) (l .count) (more (turn t)) in (
+      omega arith,
+      t .take-in .kept .1 .0 ∙ l .inv .1,
+      gathered-next (bytes h) (l .count) (take (l .count) (l .starts)) (l .inv .2) (more (turn t)) (offset h) here (take (l .count + 1) (t .take-in .last .1 .0)) (k .new) (k .deltas) (k .holds),
+    )
 
-returns-4 : tie.Need-returns-4 Inv-loop μ-loop
-returns-4 c =
-    let b = bytes (c .before) in
-    let l = c .before .loop in
+returns-2 : tie.Need-returns-2 Inv-loop μ-loop
+returns-2 c =
+    let h = c .before in
+    let b = bytes h in
+    let l = h .loop in
+    let w = start h .pre .1 in
     let starts = take (l .count) (l .starts) in
-    record { holds = l .inv .4 .holds; messages = walk-all b (l .count) (l .at) starts (l .inv .4) (omega arith); set = walk-end b (l .count) (l .at) starts (l .inv .4) (omega arith); count = omega arith; fits = omega arith }
+    let all : l .count ≡ countIn b = omega (arith, l .inv .0, c .loop-test .left, w .count) in
+    record {
+      holds = l .inv .2 .holds;
+      messages = gathered-all b (l .count) starts (l .inv .2) (omega arith);
+      set = gathered-set b (l .count) starts (l .inv .2) (omega arith);
+      count = all;
+      fits = omega (arith, w .fits);
+    }
 
 pub read-table-spec : {M : Type 1} → statement M
 read-table-spec =
@@ -171,25 +150,19 @@ read-table-spec =
     (tie.spec
     Inv-loop
     μ-loop
-    count-messages-requires
-    refuse-requires
-    returns
-    messages-start-requires
     loop-holds
-    read-message-requires
-    refuse-requires-2
-    returns-2
+    mul-at
+    shared-slice-read-at
+    cast-read-sequence
     add-read-sequence
     read-sequence-requires
     slice-aggregate-take-in
-    cast-take-in
     take-in-requires
     enum-told
     enum-told-2
-    refuse-requires-3
-    returns-3
-    add-at
+    refuse-requires
+    returns
     add-count
     loop-less
     loop-again
-    returns-4)
+    returns-2)

@@ -32,7 +32,7 @@ abbrev start : tie.After-list → tie.Start
 start c = c .before .before .before
 
 is-table : (c : tie.After-list) → IsTable (start c .args .b .now) (c .list .result .table)
-is-table c = subst (IsTable (start c .args .b .now)) (sym (c .list .ensures .table)) (start c .pre .1)
+is-table c = subst (IsTable (start c .args .b .now)) (sym (c .list .ensures .table)) (start c .pre .2)
 
 is-read : (c : tie.After-list) → ReadsLog (start c .args .b .now) (startsOf (c .list .result .table)) (c .list .result .logged) (c .list .result .places)
 is-read c =
@@ -44,7 +44,7 @@ list-requires c κs = search needs
 
 check-listed-requires : tie.Need-check-listed-requires
 check-listed-requires c κs =
-    (start c .pre .0, is-table c, record { unjudged = c .list .ensures .unjudged; table = refl; fits = c .list .ensures .fits; log = is-read c })
+    (start c .pre .0, is-table c, record { unjudged = c .list .ensures .unjudged; table = refl; fits = c .list .ensures .fits; log = is-read c; offsets = c .list .ensures .offsets })
 
 enum-told : tie.Need-enum-told
 enum-told c = search needs
@@ -79,7 +79,7 @@ log-is c =
 
 -- the copy has room for an image
 large : (l : tie.After-list) → imageSize ≤ length (start l .args .copy .now)
-large l = let blank = start l .pre .2 in omega (arith, blank .room, ap length (blank .zeros), length-replicate {A = ℕ} (blank .count) 0)
+large l = let blank = start l .pre .3 in omega (arith, blank .room, ap length (blank .zeros), length-replicate {A = ℕ} (blank .count) 0)
 
 rewrite-requires : tie.Need-rewrite-requires
 rewrite-requires c κs =
@@ -97,7 +97,7 @@ still-large w = let l = listed (known w) in omega (arith, w .rewrite .kept .0, l
 image-is : (w : tie.After-rewrite) → let l = listed (known w) in take imageSize (w .rewrite .last .0) ≡ imageOf (setIn (start l .args .b .now) (startsOf (l .list .result .table)))
 image-is w =
     let l = listed (known w) in
-    let blank = start l .pre .2 in
+    let blank = start l .pre .3 in
     let S = setIn (start l .args .b .now) (startsOf (l .list .result .table)) in
     ap (take imageSize) (w .rewrite .ensures .bytes ∙ ap (λ (x : List ℕ). usedOf S ++ drop (length (usedOf S)) x) (blank .zeros))
     ∙ over-zeros S (blank .count) (blank .room) (used-fits S (is-table l .holds))
@@ -137,22 +137,23 @@ returns-2 : tie.Need-returns-2
 returns-2 c = let a = c .before in refused (listed (known (written a))) (compared a _ (not-true (a .equals-copy .result) (c .if1 .taken))) _
 
 same-length-2 : tie.Need-same-length-2
-same-length-2 c = written (c .before .before) .rewrite .kept .0
+same-length-2 c = written (c .before .before .before) .rewrite .kept .0
 
 returns-3 : tie.Need-returns-3
 returns-3 c =
-    let a = c .before .before in
+    let a = c .before .before .before in
     let w = written a in
     let e = known w in
     let l = listed e in
     let b = start l .args .b .now in
-    let equal = not-false (a .equals-copy .result) (c .before .if1 .left) in (
+    let equal = not-false (a .equals-copy .result) (c .before .before .if1 .left) in (
       record {
         image = subst T (sym (compared a _ equal)) tt;
-        table = start l .pre .1;
+        table = start l .pre .2;
         log = subst (λ (t : Table). deltasAt (deltasOf b (startsOf t)) (placesIn (l .list .result)) ≡ logOf (setIn b (startsOf t))) (l .list .ensures .table) (log-is e);
         inside = l .list .ensures .log .inside;
         fits = l .list .ensures .fits;
+        offsets = l .list .ensures .offsets;
       },
       same→eq (take imageSize (w .rewrite .last .0)) b (subst T (sym equal ∙ a .equals-copy .ensures) tt),
     )

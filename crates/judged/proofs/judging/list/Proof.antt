@@ -1,19 +1,27 @@
--- The image's log is read as places of the table that its messages are in.
-use mathlib.Core.Path.{_≡_, refl, sym}
-use lib.ListN.{length}
+-- The image's log is read as places of the table that its messages are in; its offsets are the first of the walk.
+use mathlib.Core.Path.{_≡_, refl, sym, subst}
+use Prim.Native.Nat.{ℕ, _≤_}
+use lib.ListN.{length, take}
 use lib.Seq.{length-take-le}
 use native.Mathlib.Omega.{arith}
 use borrow.Author.Needs.{needs}
 use Rattle.model.specs.Layout.{capacity}
+use Rattle.table.specs.Table.{startsOf}
+use Rattle.walk.specs.Walk.{OfLog}
+use Rattle.walk.specs.WalkLaws.{walk-log}
+use Rattle.image_log.specs.LogRead.{ReadsLog}
 use Rattle.judged.proofs.judging.list.Statement.{statement}
 use Rattle.judged.proofs.judging.list.Tie as tie
 
 starts-size : (s : tie.Start) → length (s .args .table .starts) ≡ capacity
 starts-size s = search needs
 
+offsets-size : (s : tie.Start) → length (s .args .walk .offsets) ≡ capacity
+offsets-size s = search needs
+
 -- where the table is lent
 abbrev lent : tie.After-get-u16 → tie.Start
-lent c = c .before .before .before
+lent c = c .before .before .before .before
 
 get-u16-requires : tie.Need-get-u16-requires
 get-u16-requires c κs = search needs
@@ -22,25 +30,51 @@ cast-logged : tie.Need-cast-logged
 cast-logged c = search needs
 
 array-share-prefix-starts : tie.Need-array-share-prefix-starts
-array-share-prefix-starts c = let s = lent c in omega (arith, starts-size s, s .pre .1 .fits)
+array-share-prefix-starts c = let s = lent c in omega (arith, starts-size s, s .pre .2 .fits)
 
 slice-aggregate-read-places : tie.Need-slice-aggregate-read-places
 slice-aggregate-read-places c =
     let s = lent (c .before) in
     let t = s .args .table in
-    sym (length-take-le (t .count) (t .starts) (omega (arith, starts-size s, s .pre .1 .fits)))
+    sym (length-take-le (t .count) (t .starts) (omega (arith, starts-size s, s .pre .2 .fits)))
+
+-- the log is no longer than the walk
+few : (g : tie.After-get-u16) → g .get-u16 .result ≤ capacity
+few g = omega (arith, g .get-u16 .ensures .0, lent g .pre .1 .fits)
+
+array-share-prefix-offsets : tie.Need-array-share-prefix-offsets
+array-share-prefix-offsets c = let g = c .before in omega (arith, few g, offsets-size (lent g))
+
+counted : (g : tie.After-get-u16) → length (take (g .get-u16 .result) (lent g .args .walk .offsets)) ≡ g .get-u16 .result
+counted g = length-take-le (g .get-u16 .result) (lent g .args .walk .offsets) (omega (arith, few g, offsets-size (lent g)))
+
+slice-aggregate-read-places-2 : tie.Need-slice-aggregate-read-places-2
+slice-aggregate-read-places-2 c = sym (counted (c .before .before))
+
+of-log : (g : tie.After-get-u16) → OfLog (lent g .args .b .now) (take (g .get-u16 .result) (lent g .args .walk .offsets))
+of-log g =
+    let s = lent g in
+    let w = s .args .walk in
+    subst (λ (n : ℕ). OfLog (s .args .b .now) (take n (w .offsets))) (sym (g .get-u16 .ensures .0)) (walk-log (s .args .b .now) (w .offsets) (w .count) (s .pre .1))
 
 read-places-requires : tie.Need-read-places-requires
 read-places-requires c κs =
-    let s = lent (c .before) in
-    let t = s .pre .1 in
-    record { sized = s .pre .0; holds = t .holds; messages = t .messages; counted = c .before .get-u16 .ensures .0; few = omega (arith, t .count, t .fits) }
+    let g = c .before .before in
+    let s = lent g in
+    let t = s .pre .2 in
+    record { sized = s .pre .0; holds = t .holds; messages = t .messages; log = of-log g; few = omega (arith, s .pre .1 .fits) }
 
 returns : tie.Need-returns
 returns c =
-    let g = c .before .before in
-    let t = lent g .pre .1 in
-    record { unjudged = refl; table = refl; fits = omega (arith, g .get-u16 .ensures .0, t .count, t .fits); log = c .read-places .ensures }
+    let g = c .before .before .before in
+    let s = lent g in
+    record {
+      unjudged = refl;
+      table = refl;
+      fits = few g;
+      log = subst (λ (n : ℕ). ReadsLog (s .args .b .now) (startsOf (s .args .table)) n (c .read-places .result)) (counted g) (c .read-places .ensures);
+      offsets = of-log g;
+    }
 
 pub list-spec : {M : Type 1} → statement M
 list-spec =
@@ -50,5 +84,7 @@ list-spec =
     cast-logged
     array-share-prefix-starts
     slice-aggregate-read-places
+    array-share-prefix-offsets
+    slice-aggregate-read-places-2
     read-places-requires
     returns)

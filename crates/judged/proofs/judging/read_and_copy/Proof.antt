@@ -1,18 +1,36 @@
--- A buffer whose messages can't be read is no image; any other is judged.
+-- A buffer whose messages can't be walked, or not be read into a table, is no image; any other is judged.
+use mathlib.Core.Path.{_≡_, sym, subst}
+use mathlib.Core.Bool.{false}
+use mathlib.Core.List.{List}
+use Prim.Native.Nat.{ℕ, _≤_}
+use native.Mathlib.Omega.{arith}
+use lib.ListN.{length}
+use lib.Seq.{length-take-le}
 use borrow.Author.Needs.{needs}
-use Rattle.judged.specs.JudgingLaws.{read-wrong, read-right}
+use Rattle.model.specs.Layout.{capacity}
+use Rattle.model.specs.Image.{isImage}
+use Rattle.message.specs.declared.checks.Check.the-variants.{Wrong}
+use Rattle.walk.specs.Walk.{countIn, IsWalk, offsetsOf}
+use Rattle.walk.specs.WalkLaws.{walks-wrong, walks-right}
+use Rattle.judged.specs.declared.judging.Station.{Station}
+use Rattle.judged.specs.Judging.{Judges, Copies}
+use Rattle.judged.specs.JudgingLaws.{read-wrong, read-right, unjudged}
 use Rattle.judged.proofs.judging.read_and_copy.Statement.{statement}
 use Rattle.judged.proofs.judging.read_and_copy.Tie as tie
 
--- where the messages were read, and where the call began
-abbrev read : tie.After-table → tie.After-read-table
-read c = c .before
+-- where the call began, from where the messages are walked; and where they were, from where they are found right
+abbrev start : tie.After-walk-messages → tie.Start
+start w = w .before .before .before
 
-abbrev start : tie.After-read-table → tie.Start
-start a = a .before .before .before
+abbrev walked : tie.After-enum-told → tie.After-walk-messages
+walked e = e .before .before
 
-read-table-requires : tie.Need-read-table-requires
-read-table-requires c κs = search needs
+-- where they are found right, from where they were read into a table
+abbrev right : tie.After-read-table → tie.After-enum-told
+right r = r .before .before .before
+
+walk-messages-requires : tie.Need-walk-messages-requires
+walk-messages-requires c κs = search needs
 
 enum-told : tie.Need-enum-told
 enum-told c = search needs
@@ -20,24 +38,85 @@ enum-told c = search needs
 enum-told-2 : tie.Need-enum-told-2
 enum-told-2 c = search needs
 
+refuse-requires : tie.Need-refuse-requires
+refuse-requires c κs = search needs
+
+-- what is handed back where the buffer is no image
+refused : (b copy : List ℕ) (r : Station) → r .check ≡ Wrong → isImage b ≡ false → Judges b r × Copies b copy (r .check)
+refused b copy r e h = (unjudged b r e h, subst (Copies b copy) (sym e) tt)
+
 returns : tie.Need-returns
 returns c =
-    let a = read (c .before .before) in
+    let w = c .before .before .before in
+    let b = start w .args .b .now in
+    refused b _ (c .refuse .result) (c .refuse .ensures) (walks-wrong b (w .walk-messages .result) (w .walk-messages .ensures) (c .before .enum-told2 .given .1))
+
+is-walk : (e : tie.After-enum-told) → let w = walked e .walk-messages .result in let b = start (walked e) .args .b .now in (w .count ≡ countIn b) × IsWalk b (offsetsOf w)
+is-walk e = let w = walked e in walks-right (start w .args .b .now) (w .walk-messages .result) (w .walk-messages .ensures) (e .enum-told .given .1)
+
+offsets-size : (w : tie.After-walk-messages) → length (w .walk-messages .result .offsets) ≡ capacity
+offsets-size w = search needs
+
+room : (e : tie.After-enum-told) → let w = walked e .walk-messages .result in w .count ≤ length (w .offsets)
+room e = omega (arith, is-walk e .0, is-walk e .1 .fits, offsets-size (walked e))
+
+array-share-prefix-offsets : tie.Need-array-share-prefix-offsets
+array-share-prefix-offsets c = room (c .before)
+
+slice-aggregate-read-table : tie.Need-slice-aggregate-read-table
+slice-aggregate-read-table c =
+    let e = c .before .before in
+    let w = walked e .walk-messages .result in
+    sym (length-take-le (w .count) (w .offsets) (room e))
+
+read-table-requires : tie.Need-read-table-requires
+read-table-requires c κs = let e = c .before .before in (start (walked e) .pre .0, is-walk e .1)
+
+enum-told-3 : tie.Need-enum-told-3
+enum-told-3 c = search needs
+
+enum-told-4 : tie.Need-enum-told-4
+enum-told-4 c = search needs
+
+refuse-requires-2 : tie.Need-refuse-requires-2
+refuse-requires-2 c κs = search needs
+
+returns-2 : tie.Need-returns-2
+returns-2 c =
+    let a = c .before .before .before .before in
+    let b = start (walked (right a)) .args .b .now in
     let r = a .read-table .result in
-    (read-wrong (start a .args .b .now) (r .check) (r .table) (a .read-table .ensures) (c .enum-told2 .given .1), tt)
+    refused b _ (c .refuse2 .result) (c .refuse2 .ensures) (read-wrong b (r .check) (r .table) (a .read-table .ensures) (c .before .enum-told4 .given .1))
 
 judge-requires : tie.Need-judge-requires
 judge-requires c κs =
-    let a = read (c .before .before .before) in
+    let a = c .before .before .before .before in
+    let s = start (walked (right a)) in
     let r = a .read-table .result in
-    (start a .pre .0, read-right (start a .args .b .now) (r .check) (r .table) (a .read-table .ensures) (c .before .enum-told .given .1), start a .pre .1)
+    (s .pre .0, is-walk (right a) .1, read-right (s .args .b .now) (r .check) (r .table) (a .read-table .ensures) (c .before .enum-told3 .given .1), s .pre .1)
 
 same-length : tie.Need-same-length
 same-length c = search needs
 
-returns-2 : tie.Need-returns-2
-returns-2 c = search needs
+returns-3 : tie.Need-returns-3
+returns-3 c = search needs
 
 pub read-and-copy-spec : {M : Type 1} → statement M
 read-and-copy-spec =
-    tie.close (tie.spec read-table-requires enum-told enum-told-2 returns judge-requires same-length returns-2)
+    tie.close
+    (tie.spec
+    walk-messages-requires
+    enum-told
+    enum-told-2
+    refuse-requires
+    returns
+    array-share-prefix-offsets
+    slice-aggregate-read-table
+    read-table-requires
+    enum-told-3
+    enum-told-4
+    refuse-requires-2
+    returns-2
+    judge-requires
+    same-length
+    returns-3)

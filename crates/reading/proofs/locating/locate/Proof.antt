@@ -1,17 +1,18 @@
--- The checks run in the order of their codes, and each tells what the definition's case asks for; what is left is found by the walk.
+-- The checks run in the order of their codes, and each tells what the definition's case asks for; what is left lies at the offset that the walk wrote down.
 use mathlib.Core.Path.{_≡_, sym, _∙_, ap}
 use mathlib.Core.Bool.{true, not}
-use Prim.Native.Nat.{_+_, _≤_}
+use Prim.Native.Nat.{_+_, _≤_, _<_}
 use native.Mathlib.Omega.{arith}
-use lib.ListN.{length}
+use lib.ListN.{length, getD, length-take}
 use lib.Dec.{eqb, leb}
 use borrow.Author.Needs.{needs}
 use borrow.Author.Tests.{eqb-true}
-use Rattle.model.specs.Layout.{headerSize, imageSize}
-use Rattle.model.specs.Image.{isImage, logCount}
+use Rattle.model.specs.Layout.{headerSize, imageSize, capacity}
+use Rattle.model.specs.Image.{isImage, logCount, offsetIn}
 use Rattle.message.specs.Check.{right}
-use Rattle.reading.specs.Parts.{logOffset}
-use Rattle.reading.specs.PartCases.{part-wrong-size, part-no-image, part-no-place, place-walkable, place-inside, part-at}
+use Rattle.judged.specs.Judging.{IsStation}
+use Rattle.judged.specs.JudgingLaws.{judges-right, judgement, place-offset}
+use Rattle.reading.specs.PartCases.{part-wrong-size, part-no-image, part-no-place, below, place-inside, part-at}
 use Rattle.reading.proofs.locating.locate.Statement.{statement}
 use Rattle.reading.proofs.locating.locate.Tie as tie
 
@@ -19,18 +20,21 @@ use Rattle.reading.proofs.locating.locate.Tie as tie
 abbrev began : tie.After-check-image-size → tie.Start
 began c = c .before .before
 
-abbrev measured : tie.After-check-image → tie.After-check-image-size
+abbrev measured : tie.After-read-station → tie.After-check-image-size
 measured c = c .before .before .before
 
-abbrev judged : tie.After-check-place → tie.After-check-image
+abbrev judged : tie.After-check-place → tie.After-read-station
 judged c = c .before .before .before
 
 -- what the checks told
 sized : (c : tie.After-enum-told) → true ≡ eqb (length (began (c .before .before) .args .image .now)) imageSize
 sized c = sym (ap right (c .enum-told .given .1)) ∙ c .before .before .check-image-size .ensures
 
+judgement-is : (c : tie.After-read-station) → right (c .read-station .result .check) ≡ isImage (began (measured c) .args .image .now)
+judgement-is c = judgement (began (measured c) .args .image .now) (c .read-station .result) (c .read-station .ensures)
+
 image : (c : tie.After-enum-told3) → true ≡ isImage (began (measured (c .before .before)) .args .image .now)
-image c = sym (ap right (c .enum-told3 .given .1)) ∙ c .before .before .check-image .ensures
+image c = sym (ap right (c .enum-told3 .given .1)) ∙ judgement-is (c .before .before)
 
 placed : (c : tie.After-enum-told5) → true ≡ not (let a = began (measured (judged (c .before .before))) .args in leb (logCount (a .image .now)) (a .place))
 placed c = sym (ap right (c .enum-told5 .given .1)) ∙ c .before .before .check-place .ensures
@@ -50,8 +54,8 @@ returns c =
     let a = began m .args in
     part-wrong-size (a .image .now) (a .place) (sym (ap right (c .enum-told2 .given .1)) ∙ m .check-image-size .ensures)
 
-check-image-requires : tie.Need-check-image-requires
-check-image-requires c κs = eqb-true (length (began (c .before .before) .args .image .now)) imageSize (sym (sized c))
+read-station-requires : tie.Need-read-station-requires
+read-station-requires c κs = eqb-true (length (began (c .before .before) .args .image .now)) imageSize (sym (sized c))
 
 enum-told-3 : tie.Need-enum-told-3
 enum-told-3 c = search needs
@@ -63,7 +67,7 @@ returns-2 : tie.Need-returns-2
 returns-2 c =
     let j = c .before .before in
     let a = began (measured j) .args in
-    part-no-image (a .image .now) (a .place) (sized (j .before)) (sym (ap right (c .enum-told4 .given .1)) ∙ j .check-image .ensures)
+    part-no-image (a .image .now) (a .place) (sized (j .before)) (sym (ap right (c .enum-told4 .given .1)) ∙ judgement-is j)
 
 check-place-requires : tie.Need-check-place-requires
 check-place-requires c κs =
@@ -87,34 +91,59 @@ returns-3 c =
 abbrev told : tie.After-enum-told5 → tie.Start
 told c = began (measured (judged (c .before .before)))
 
-log-offset-requires : tie.Need-log-offset-requires
-log-offset-requires c κs =
+-- the place is one of the log, whose offsets the station has
+within : (c : tie.After-enum-told5) → let a = told c .args in a .place < logCount (a .image .now)
+within c =
     let a = told c .args in
     let j = judged (c .before .before) in
-    place-walkable (a .image .now) (a .place) (sized (j .before)) (image (c .before .before .before)) (placed c)
+    below (a .image .now) (a .place) (sized (j .before)) (image (c .before .before .before)) (placed c)
 
-inside : (c : tie.After-enum-told5) → let a = told c .args in logOffset (a .image .now) (a .place) + headerSize ≤ length (a .image .now)
+station : (c : tie.After-enum-told5) → IsStation (told c .args .image .now) (judged (c .before .before) .read-station .result)
+station c =
+    let j = judged (c .before .before) in
+    judges-right (told c .args .image .now) (j .read-station .result) (j .read-station .ensures) (c .before .before .before .enum-told3 .given .1)
+
+offsets-size : (j : tie.After-read-station) → length (j .read-station .result .offsets) ≡ capacity
+offsets-size j = search needs
+
+small : (c : tie.After-enum-told5) → told c .args .place < capacity
+small c =
+    let r = judged (c .before .before) .read-station .result in
+    omega (arith, within c, station c .offsets .count, length-take (r .logged) (r .offsets), station c .fits)
+
+mul-offset : tie.Need-mul-offset
+mul-offset c = omega (arith, small (c .before))
+
+array-read-offset : tie.Need-array-read-offset
+array-read-offset c = let t = c .before in omega (arith, small t, offsets-size (judged (t .before .before)))
+
+cast-offset : tie.Need-cast-offset
+cast-offset c = search needs
+
+offset-is : (c : tie.After-enum-told5) → let a = told c .args in getD (judged (c .before .before) .read-station .result .offsets) (a .place) 0 ≡ offsetIn (a .image .now) (a .place)
+offset-is c = let a = told c .args in place-offset (a .image .now) (judged (c .before .before) .read-station .result) (station c .offsets) (a .place) (within c)
+
+inside : (c : tie.After-enum-told5) → let a = told c .args in offsetIn (a .image .now) (a .place) + headerSize ≤ length (a .image .now)
 inside c =
     let a = told c .args in
     let j = judged (c .before .before) in
     place-inside (a .image .now) (a .place) (sized (j .before)) (image (c .before .before .before)) (placed c)
 
 add-get-u16 : tie.Need-add-get-u16
-add-get-u16 c = omega (arith, inside (c .before), c .log-offset .ensures)
+add-get-u16 c = omega (arith, inside (c .before), offset-is (c .before))
 
 get-u16-requires : tie.Need-get-u16-requires
-get-u16-requires c κs = omega (arith, inside (c .before), c .log-offset .ensures)
+get-u16-requires c κs = omega (arith, inside (c .before), offset-is (c .before))
 
 cast-size : tie.Need-cast-size
 cast-size c = search needs
 
 returns-4 : tie.Need-returns-4
 returns-4 c =
-    let o = c .before in
-    let t = o .before in
+    let t = c .before .before in
     let a = told t .args in
     let j = judged (t .before .before) in
-    part-at (a .image .now) (a .place) (sized (j .before)) (image (t .before .before .before)) (placed t) (o .log-offset .ensures) (c .get-u16 .ensures .0)
+    part-at (a .image .now) (a .place) (sized (j .before)) (image (t .before .before .before)) (placed t) (offset-is t) (c .get-u16 .ensures .0)
 
 pub locate-spec : {M : Type 1} → statement M
 locate-spec =
@@ -124,7 +153,7 @@ locate-spec =
     enum-told
     enum-told-2
     returns
-    check-image-requires
+    read-station-requires
     enum-told-3
     enum-told-4
     returns-2
@@ -132,7 +161,9 @@ locate-spec =
     enum-told-5
     enum-told-6
     returns-3
-    log-offset-requires
+    mul-offset
+    array-read-offset
+    cast-offset
     add-get-u16
     get-u16-requires
     cast-size
