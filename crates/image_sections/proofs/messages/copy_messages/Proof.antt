@@ -1,14 +1,18 @@
--- The invariant: the messages from k on, pasted from `to` on, make what all of them make of the buffer at entry.
-use mathlib.Core.Path.{_≡_, refl, sym, _∙_, ap}
+-- The invariant: `to` is the offset of the place k; the messages from k on, pasted from there on, make what all of them make of the
+-- buffer at entry.
+use mathlib.Core.Path.{_≡_, refl, sym, _∙_, ap, ap₂}
 use mathlib.Core.List.{List, [], _∷_}
 use Prim.Native.Nat.{ℕ, _+_, _-_, _≤_}
 use native.Mathlib.Omega.{arith}
-use lib.ListN.{length, drop, length-append}
+use lib.ListN.{length, drop, getD, length-append}
 use lib.Seq.{paste-zero}
 use denote.Ref.{now}
 use borrow.Author.Needs.{needs}
 use Rattle.model.specs.Bytes.{join}
 use Rattle.model.specs.Message.{Message}
+use Rattle.model.specs.Image.{offsetOf}
+use Rattle.order.specs.ListLaws.{getD-map, drop-map}
+use Rattle.laws.specs.OffsetLaws.{offset-first, offset-next, offset-left}
 use Rattle.table.specs.Table.{deltasOf, deltasAt}
 use Rattle.image_sections.specs.LogPlaceLaws.{place-inside, next-message, no-message}
 use Rattle.image_header.specs.Pieces.{pasted}
@@ -20,7 +24,7 @@ abbrev Inv-loop : tie.InvT-loop
 Inv-loop out₀ pool starts places at to₀ k₀ out to k =
     let all = deltasOf pool starts in
     (k ≤ length places)
-    × ((to + length (join (deltasAt all (drop k places))) ≡ at + length (join (deltasAt all places)))
+    × ((to ≡ offsetOf at (deltasAt all places) k)
     × ((pasted out to (join (deltasAt all (drop k places))) ≡ pasted out₀ at (join (deltasAt all places)))
     × (length out ≡ length out₀)))
 
@@ -44,6 +48,14 @@ left l = deltasAt (deltas (start l)) (drop (l .loop .k) (start l .args .places .
 abbrev rest : tie.At-loop Inv-loop μ-loop → List Message
 rest l = deltasAt (deltas (start l)) (drop (l .loop .k + 1) (start l .args .places .now))
 
+-- what is left ends where all of them do
+left-size : (l : tie.At-loop Inv-loop μ-loop) → let s = start l in l .loop .to + length (join (left l)) ≡ s .args .at + length (join (deltasAt (deltas s) (s .args .places .now)))
+left-size l =
+    let s = start l in
+    let all = deltasAt (deltas s) (s .args .places .now) in
+    ap₂ (λ (n : ℕ) (x : List Message). n + length (join x)) (l .loop .inv .1 .0) (sym (drop-map (l .loop .k) (λ (i : ℕ). getD (deltas s) i []) (s .args .places .now)))
+    ∙ offset-left (s .args .at) all (l .loop .k)
+
 next : (c : tie.After-message-at Inv-loop μ-loop) → left (head c) ≡ now (c .message-at .result) ∷ rest (head c)
 next c =
     let l = head c in
@@ -55,10 +67,21 @@ next-size : (c : tie.After-message-at Inv-loop μ-loop) → length (join (left (
 next-size c = ap (λ (x : List Message). length (join x)) (next c) ∙ length-append (now (c .message-at .result)) (join (rest (head c)))
 
 room : (c : tie.After-message-at Inv-loop μ-loop) → head c .loop .to + length (now (c .message-at .result)) ≤ length (head c .loop .out)
-room c = let s = start (head c) in let inv = head c .loop .inv in omega (arith, next-size c, inv .1 .0, inv .1 .1 .1, s .pre .1)
+room c = let s = start (head c) in omega (arith, next-size c, left-size (head c), head c .loop .inv .1 .1 .1, s .pre .1)
+
+-- past it is the offset of the next place
+next-offset : (c : tie.After-message-at Inv-loop μ-loop) → let l = head c in let s = start l in
+    l .loop .to + length (now (c .message-at .result)) ≡ offsetOf (s .args .at) (deltasAt (deltas s) (s .args .places .now)) (l .loop .k + 1)
+next-offset c =
+    let l = head c in
+    let s = start l in
+    let all = deltasAt (deltas s) (s .args .places .now) in
+    let here : now (c .message-at .result) ≡ getD all (l .loop .k) [] =
+    c .message-at .ensures ∙ sym (getD-map (λ (i : ℕ). getD (deltas s) i []) (s .args .places .now) (l .loop .k) 0 [] (c .before .before .loop-test .taken)) in
+    ap₂ (λ (n : ℕ) (m : Message). n + length m) (l .loop .inv .1 .0) here ∙ sym (offset-next (s .args .at) all (l .loop .k))
 
 loop-holds : tie.Need-loop-holds Inv-loop μ-loop
-loop-holds c = (omega arith, (refl, (refl, refl)))
+loop-holds c = (omega arith, (sym (offset-first _ _), (refl, refl)))
 
 shared-slice-read-place : tie.Need-shared-slice-read-place Inv-loop μ-loop
 shared-slice-read-place c = omega arith
@@ -92,7 +115,7 @@ loop-again c =
     let b = now (m .message-at .result) in (
       omega arith,
       (
-        omega (arith, next-size m, l .loop .inv .1 .0),
+        next-offset m,
         (
           ap (λ (o : List ℕ). pasted o (l .loop .to + length b) (join (rest l))) (call .copy-at .ensures)
               ∙ pasted-pasted (l .loop .out) (l .loop .to) b (join (rest l)) (room m)
@@ -112,7 +135,7 @@ returns c =
     let s = start l in
     let none = no-message (deltas s) (s .args .places .now) (l .loop .k) (c .loop-test .left) in
     let size = ap (λ (x : List Message). length (join x)) none in
-    let so-far = l .loop .inv .1 .0 in
+    let so-far = left-size l in
     record {
       bytes = paste-zero (l .loop .out) (l .loop .to) []
           ∙ ap (λ (x : List Message). pasted (l .loop .out) (l .loop .to) (join x)) (sym none) ∙ l .loop .inv .1 .1 .0;
