@@ -1,11 +1,11 @@
 -- The laws of the definitions, each as one statement. Their proofs stand in the files beside this one.
-use mathlib.Core.Path.{_≡_, refl}
+use mathlib.Core.Path.{_≡_, refl, sym, _∙_, ap}
 use mathlib.Core.Logic.{_↔_}
 use mathlib.Core.Option.{some}
-use mathlib.Core.List.{List, _++_, map}
-use Prim.Native.Nat.{ℕ, _+_, _≤_, max}
+use mathlib.Core.List.{List, [], _++_, map}
+use Prim.Native.Nat.{ℕ, _+_, _≤_, _<_, max}
 use native.Mathlib.Omega.{arith}
-use lib.ListN.{length, take}
+use lib.ListN.{length, take, drop, getD}
 use lib.Dec.{T}
 use lib.IntN.{ℤ}
 use Rattle.model.specs.Lists.{_∈_, greatest}
@@ -13,10 +13,10 @@ use Rattle.model.specs.Layout.{imageSize, sequencesRoom, textRoom}
 use Rattle.model.specs.Message.{Message, blockOf}
 use Rattle.model.specs.Order.{State, find, sequencesOf, needs, effectiveBlock, keyOf, less, Executable, Grounded, IsLog, logOf, heldOf}
 use Rattle.model.specs.Setpoints.{startValues, setpointsOf}
-use Rattle.model.specs.Image.{imageOf, Valid, IsImage, stateIn, valuesIn, logIn, isImage}
+use Rattle.model.specs.Image.{imageOf, Valid, IsImage, stateIn, valuesIn, logCount, messagesStartIn, logIn, messagesIn, walk, offsetIn, usedIn, isImage}
 use Rattle.model.specs.Steps.{Step, common, undosOf, executionsOf, stepsOf, recordsBetween, recordsBytes, readRecords, Plays, Standing, PlaysPairs}
 use Rattle.model.specs.Codes.{lowestCode, deliverConditions, composeConditions, emptyConditions, logMessageConditions, setpointConditions, readSequencesConditions, writeSequencesConditions}
-use Rattle.model.specs.Calls.{deliver, compose, convertedAnswer, front, readSequences, writeSequences}
+use Rattle.model.specs.Calls.{deliver, compose, messageAt, convertedAnswer, front, readSequences, writeSequences}
 use Rattle.model.specs.PlainStation.{receive}
 use Rattle.model.specs.Run.{delivery, Agreement, Begins, Answers}
 use Rattle.order.specs.KeyOrder.{Total}
@@ -27,6 +27,7 @@ use Rattle.laws.specs.LogLaws.{key-order, keys-differ, log-is, log-only, log-of
 use Rattle.laws.specs.EffectiveLaws.{effective-is, effective-only}
 use Rattle.wire_laws.specs.RecordLaws.{records-steps}
 use Rattle.laws.specs.ImageLaws.{image-size, state-back, log-back, image-declared, image-state}
+use Rattle.laws.specs.OffsetLaws.{walk-offset, message-at-offset, log-offset, message-here, log-full, offset-used}
 use Rattle.laws.specs.ValueLaws.{values-back}
 use Rattle.laws.specs.RecordRange.{records-back}
 use Rattle.laws.specs.PairLaws.{standingIn, state-pairs-play, pairs-unique}
@@ -165,6 +166,24 @@ pub record TextLaw : Type 0 where
 
 pub text-law : TextLaw
 text-law = record { written-read = trips.written-read; read-written = trips.read-written }
+
+-- 9. At every place of a walk over a buffer's messages the value that it carries is the offset of the first message plus the lengths of
+-- all messages before the place. In an image the message of the place stands there, of the log it is the one that the reader finds there,
+-- and past the last message are the bytes used.
+pub record OffsetLaw (b : List ℕ) : Type 0 where
+  pub carried : (k : ℕ) → k ≤ length (messagesIn b) → getD (walk (messagesStartIn b) (messagesIn b)) k 0 ≡ offsetIn b k
+  pub here : T (isImage b) → (k : ℕ) → k < length (messagesIn b) → let m = getD (messagesIn b) k [] in take (length m) (drop (offsetIn b k) b) ≡ m
+  pub found : T (isImage b) → (k : ℕ) → k < logCount b → messageAt (messagesStartIn b) (logIn b) (offsetIn b k) ≡ getD (logIn b) k []
+  pub used : T (isImage b) → offsetIn b (length (messagesIn b)) ≡ usedIn b
+
+pub offset-law : (b : List ℕ) → OffsetLaw b
+offset-law b = record {
+  carried = walk-offset (messagesStartIn b) (messagesIn b);
+  here = message-here b;
+  found = λ image k h. ap (messageAt (messagesStartIn b) (logIn b)) (sym (log-offset b k (omega arith)))
+      ∙ message-at-offset (messagesStartIn b) (logIn b) (log-full b image) k;
+  used = offset-used b;
+}
 
 -- Demand 3, of the definitions' own calls.
 pub agreement-law : Agreement Begins Answers
