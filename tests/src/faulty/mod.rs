@@ -3,6 +3,9 @@
 
 mod pairs;
 mod texts;
+mod walks;
+
+pub use walks::{FaultyWalk, WalkFault, WALK_FAULTS};
 
 use crate::boundary::{code, executions, length, packed, undos, value, Calls, Reference};
 use crate::reference::bytes::{i32_at, u16_at, u8_at};
