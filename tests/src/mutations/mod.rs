@@ -23,8 +23,9 @@ pub const QUICK: [&str; 15] = [
 ];
 
 /// The tests that are run after those: of many inputs. The tests of the differential runner
-/// are not among them, as they would compare the second implementation with itself.
-pub const SLOW: [&str; 8] = [
+/// are not among them, as they would compare the second implementation with itself. The
+/// last one sees nearly every change by digests, which name no rule.
+pub const SLOW: [&str; 9] = [
     "accepted",
     "generator",
     "brute_force",
@@ -33,6 +34,7 @@ pub const SLOW: [&str; 8] = [
     "properties",
     "hardware",
     "plant",
+    "offsets",
 ];
 
 /// One change: in a file of `src/reference`, one text for another.
