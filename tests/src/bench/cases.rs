@@ -1,9 +1,9 @@
 //! The cases of the benchmark: an image, a message that arrives, and the answer. Those of
-//! texts are in `texts`.
+//! texts are in `texts`, those of log message in `places`.
 
 use std::fmt;
 
-use crate::bench::texts;
+use crate::bench::{places, texts};
 use crate::boundary::{Calls, Reference};
 use crate::edit::Edit;
 use crate::reference::image::SIZE;
@@ -45,6 +45,8 @@ pub enum Shape {
     Read,
     /// No deltas: sequences are written as text.
     Write,
+    /// The deltas of a chain: log message is asked.
+    Log,
 }
 
 /// What arrives.
@@ -64,6 +66,10 @@ pub enum Arrival {
     Refused(u32),
     /// Sequences in either form, all right.
     Right,
+    /// The first place of the log, its last, and all of them one after another.
+    Begin,
+    End,
+    Whole,
 }
 
 /// A case before its image is built, which takes as many deliveries as it holds.
@@ -80,10 +86,13 @@ pub enum Call {
     Deliver,
     Read,
     Write,
+    /// Log message, once for each place from the first to the last given.
+    Places(u32, u32),
 }
 
 /// A case: what a delivery gets, and what it must answer. A call on texts gets its input as
-/// the message and its buffer as the steps, and leaves the image alone.
+/// the message and its buffer as the steps, and leaves the image alone. The answers of log
+/// message at several places are added up.
 #[derive(Clone, Debug, PartialEq, Eq)]
 pub struct Case {
     pub name: String,
@@ -91,7 +100,7 @@ pub struct Case {
     pub image: Vec<u8>,
     pub message: Vec<u8>,
     pub steps: Vec<u8>,
-    pub answer: u32,
+    pub answer: u64,
 }
 
 /// The pairs of shape and arrival that are measured at each count.
@@ -127,6 +136,8 @@ pub fn specs() -> Vec<Spec> {
         let count = if code == 8 { 64 } else { 63 };
         specs.push(Spec::new(Shape::Longest, Arrival::Refused(code), count));
     }
+    specs.push(Spec::new(Shape::Chain, Arrival::Refused(2), 64));
+    specs.extend(places::specs());
     specs.extend(texts::specs());
     specs
 }
@@ -147,8 +158,10 @@ impl Spec {
 
     /// The case, its image as the second implementation writes it.
     pub fn build(&self) -> Case {
-        if matches!(self.shape, Shape::Read | Shape::Write) {
-            return texts::build(self);
+        match self.shape {
+            Shape::Read | Shape::Write => return texts::build(self),
+            Shape::Log => return places::build(self),
+            _ => {}
         }
         let mut case = Case {
             name: self.to_string(),
@@ -156,10 +169,13 @@ impl Spec {
             image: self.shape.image(self.count),
             message: self.draft().bytes(),
             steps: vec![0xA5; BUFFER],
-            answer: self.answer(),
+            answer: self.answer().into(),
         };
         match self.arrival {
             Arrival::Refused(1) => case.steps.truncate(BUFFER - 1),
+            Arrival::Refused(2) if self.shape == Shape::Chain => {
+                places::USED_ONE_MORE.apply(&mut case.image);
+            }
             Arrival::Refused(2) => Edit::Setpoint(63, 1).apply(&mut case.image),
             Arrival::Refused(3) => case.message.truncate(case.message.len() - 1),
             _ => {}
@@ -172,12 +188,12 @@ impl Spec {
         let next = self.shape.member(self.count);
         match self.arrival {
             Arrival::Latest if self.shape == Shape::Priority => next.priority(9, 0),
-            Arrival::Latest | Arrival::Held | Arrival::Right => next,
             Arrival::Earliest => self.shape.before_all(),
             Arrival::First => Draft::new(line(FIRST_LINE), 1),
             Arrival::Repeat => self.shape.member(self.count - 1),
             Arrival::Refused(7) => spoiled(7, self.shape.member(self.count - 1)),
             Arrival::Refused(code) => spoiled(code, next),
+            _ => next,
         }
     }
 
@@ -188,8 +204,8 @@ impl Spec {
             Arrival::Latest => 65_536,
             Arrival::Earliest => 256 * count + 65_536 * (count + 1),
             Arrival::First => 65_536 * (count + 1),
-            Arrival::Held | Arrival::Repeat | Arrival::Right => 0,
             Arrival::Refused(code) => code,
+            _ => 0,
         }
     }
 }
@@ -248,7 +264,7 @@ impl Shape {
     }
 
     /// The image of the first so many members.
-    fn image(self, count: usize) -> Vec<u8> {
+    pub fn image(self, count: usize) -> Vec<u8> {
         let mut image = vec![0; SIZE];
         let mut steps = vec![0; BUFFER];
         Reference.empty(&mut image);
@@ -297,6 +313,7 @@ impl fmt::Display for Shape {
             Shape::RingLongest => "ring200",
             Shape::Read => "read",
             Shape::Write => "write",
+            Shape::Log => "log",
         })
     }
 }
@@ -311,6 +328,9 @@ impl fmt::Display for Arrival {
             Arrival::Repeat => f.write_str("repeat"),
             Arrival::Refused(code) => write!(f, "code{code}"),
             Arrival::Right => f.write_str("right"),
+            Arrival::Begin => f.write_str("begin"),
+            Arrival::End => f.write_str("end"),
+            Arrival::Whole => f.write_str("whole"),
         }
     }
 }

@@ -3,6 +3,7 @@
 
 pub mod cases;
 pub mod measure;
+pub mod places;
 pub mod report;
 pub mod saved;
 pub mod sides;

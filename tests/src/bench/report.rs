@@ -45,7 +45,9 @@ fn print_head() {
     print_sides();
     println!("Nanoseconds a call: the median over the rounds, and the worst of them. In a round");
     println!("all sides take turns, and who goes first alternates; the cases that differ only in");
-    println!("the number of deltas share their rounds.");
+    println!(
+        "the number of deltas share their rounds. A whole log is as many calls as it has places."
+    );
     println!("Each timed call follows an untimed one of the same side, and gets a fresh copy of");
     println!("image and step buffer, made outside the timed part. Calls that write nothing, and");
     println!(
@@ -142,11 +144,13 @@ fn slope(few: f64, many: f64) -> f64 {
     (many / few).ln() / (MANY as f64 / FEW as f64).ln()
 }
 
-/// The cases that are worst by time and by ratio.
+/// The cases that are worst by time and by ratio. A whole log is many calls, and has no place
+/// among the times of one.
 fn print_extremes(rows: &[Row]) {
     println!();
     let time = |row: &Row| row.1.library().median;
-    if let Some((spec, timing)) = greatest(rows.iter(), time) {
+    let single = rows.iter().filter(|row| row.0.arrival != Arrival::Whole);
+    if let Some((spec, timing)) = greatest(single, time) {
         let median = timing.library().median;
         println!("Slowest: {spec}, {median:.0} ns.");
     }

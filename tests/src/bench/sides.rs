@@ -88,7 +88,7 @@ pub fn black_box<T>(value: T) -> T {
 }
 
 /// The image and the step buffer of a call, or the buffer of a call on texts, at the same
-/// addresses for both sides.
+/// addresses for both sides. Log message has the image alone.
 #[derive(Clone, Debug, PartialEq, Eq)]
 pub struct Buffers {
     pub image: Vec<u8>,
@@ -112,12 +112,18 @@ impl Buffers {
 
     /// One call of the case.
     #[inline(always)]
-    pub fn call(&mut self, calls: &dyn Calls, case: &Case) -> u32 {
+    pub fn call(&mut self, calls: &dyn Calls, case: &Case) -> u64 {
         let steps = &mut self.steps;
         black_box(match case.call {
-            Call::Deliver => calls.deliver(&mut self.image, &case.message, steps),
-            Call::Read => calls.read_sequences(&case.message, steps),
-            Call::Write => calls.write_sequences(&case.message, steps),
+            Call::Deliver => calls.deliver(&mut self.image, &case.message, steps).into(),
+            Call::Read => calls.read_sequences(&case.message, steps).into(),
+            Call::Write => calls.write_sequences(&case.message, steps).into(),
+            Call::Places(first, last) => {
+                let places = first..=last;
+                places
+                    .map(|place| calls.log_message(&self.image, place))
+                    .sum()
+            }
         })
     }
 }

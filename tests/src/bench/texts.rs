@@ -32,7 +32,7 @@ pub fn build(spec: &Spec) -> Case {
         image: vec![0; SIZE],
         message: input(spec, read),
         steps: vec![0xA5; room - missing],
-        answer,
+        answer: answer.into(),
     }
 }
 
