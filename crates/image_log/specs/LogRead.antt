@@ -8,14 +8,14 @@ use Rattle.model.specs.Layout.{imageSize, capacity}
 use Rattle.model.specs.Image.{logCount, logIn, messagesIn}
 use Rattle.order.specs.TestLaws.{Same}
 use Rattle.table.specs.Table.{deltasOf, deltasAt, Holds}
-use Rattle.walk.specs.Walk.{OfLog}
+use Rattle.walk.specs.Walk.{LogOffsets}
 
 -- The messages of an image are in the table, and its log's start at the offsets.
 pub record Readable (b starts offsets : List ℕ) : Type 0 where
   pub sized : length b ≡ imageSize
   pub holds : Holds b starts
   pub messages : Same (messagesIn b) (deltasOf b starts)
-  pub log : OfLog b offsets
+  pub log : LogOffsets b offsets
   pub few : logCount b ≤ capacity
 
 pub record ReadsLog (b starts : List ℕ) (logged : ℕ) (places : List ℕ) : Type 0 where

@@ -6,18 +6,19 @@ use Prim.Native.Nat.{ℕ, _+_, _≤_, _<_}
 use native.Mathlib.Omega.{arith}
 use native.Mathlib.Numerals.{add-one}
 use lib.ListN.{length, getD, take, set, replicate, length-set, length-map, length-replicate}
-use lib.Seq.{take-all, take-suc, take-suc-set}
+use lib.Seq.{take-all, take-suc-set}
 use lib.Dec.{T}
 use Rattle.model.specs.Lists.{_∈_}
 use Rattle.model.specs.Layout.{capacity}
 use Rattle.model.specs.Message.{Message, sequenceOf, passes}
 use Rattle.model.specs.Image.{logCount, logIn, messagesIn}
-use Rattle.order.specs.ListLaws.{getD-∈, ∈-take}
+use Rattle.order.specs.ListLaws.{getD-∈, take-next}
 use Rattle.laws.specs.SetLaws.{ascending-names}
-use Rattle.laws.specs.OffsetLaws.{count-messages, message-in, log-count, log-message}
+use Rattle.laws.specs.OffsetLaws.{count-messages, log-count, log-message}
 use Rattle.table.specs.Table.{messageFrom, deltasOf, deltasAt}
 use Rattle.table.specs.Places.{IsPresent, IsAbsent}
 use Rattle.table.specs.FindLaws.{absent-member}
+use Rattle.walk.specs.WalkLaws.{walked-message}
 use Rattle.image_log.specs.LogRead.{Readable, ReadsLog, LogReading}
 
 module _ (b starts offsets : List ℕ) (r : Readable b starts offsets) where
@@ -49,7 +50,7 @@ module _ (b starts offsets : List ℕ) (r : Readable b starts offsets) where
 
       -- the next message starts at the offset
       message-is : messageFrom b at ≡ getD (messagesIn b) k []
-      message-is = ap (messageFrom b) (r .log .each k logged) ∙ message-in b k (omega (arith, logged)) (λ m j. r .holds .pass m (r .messages m .0 (∈-take k (messagesIn b) j)))
+      message-is = walked-message b (logCount b) offsets (λ m j. r .holds .pass m (r .messages m .0 j)) (r .log) k logged (omega arith)
 
       -- it is of the table
       next-in : messageFrom b at ∈ deltasOf b starts
@@ -80,7 +81,7 @@ module _ (b starts offsets : List ℕ) (r : Readable b starts offsets) where
           size = length-set places k i ∙ g .size;
           so-far = ap (deltasAt (deltasOf b starts)) taken ∙ map-append (λ j. getD (deltasOf b starts) j []) (take k places) (i ∷ [])
               ∙ ap₂ (λ (l : List Message) (m : Message). l ++ m ∷ []) (g .so-far) found
-              ∙ sym (ap (λ (n : ℕ). take n (logIn b)) (add-one k) ∙ take-suc (logIn b) k [] (omega (arith, logged, log-count b)));
+              ∙ sym (take-next (logIn b) k [] (omega (arith, logged, log-count b)));
           inside = λ j m. ⊎-elim (λ q. g .inside j q) (λ q. omega (arith, p .inside, List·Memᴰ·eq-of-singleton q)) (List·Memᴰ·append-cases (take k places) (subst (λ (l : List ℕ). j ∈ l) taken m));
         }
           where

@@ -8,13 +8,13 @@ use lib.Dec.{T}
 use Rattle.model.specs.Lists.{_∈_}
 use Rattle.model.specs.Layout.{imageSize, capacity}
 use Rattle.model.specs.Order.{logOf}
-use Rattle.model.specs.Image.{isImage}
+use Rattle.model.specs.Image.{logCount, isImage}
 use Rattle.message.specs.declared.checks.Check.{Check}
 use Rattle.message.specs.declared.checks.Check.the-variants.{Right, Wrong}
 use Rattle.table.specs.declared.Table.{Table}
 use Rattle.table.specs.Table.{startsOf, deltasOf, deltasAt, setIn, Holds}
 use Rattle.table_reading.specs.Reading.{IsTable}
-use Rattle.walk.specs.Walk.{OfLog}
+use Rattle.walk.specs.Walk.{LogOffsets}
 use Rattle.judged.specs.declared.judging.Station.{Station}
 use Rattle.image_log.specs.LogRead.{ReadsLog}
 
@@ -26,13 +26,18 @@ placesIn r = take (r .logged) (r .places)
 abbrev pub logOffsetsIn : Station → List ℕ
 logOffsetsIn r = take (r .logged) (r .offsets)
 
+-- An array that begins with the offsets of a buffer's log.
+abbrev pub FrontOffsets : List ℕ → List ℕ → Type 0
+FrontOffsets b offsets = LogOffsets b (take (logCount b) offsets)
+
 -- The table, and the log as the buffer lists it; nothing is judged yet.
 pub record ListsLog (b : List ℕ) (t : Table) (r : Station) : Type 0 where
   pub unjudged : r .check ≡ Wrong
   pub table : r .table ≡ t
+  pub count : r .logged ≡ logCount b
   pub fits : r .logged ≤ capacity
   pub log : ReadsLog b (startsOf t) (r .logged) (r .places)
-  pub offsets : OfLog b (logOffsetsIn r)
+  pub offsets : LogOffsets b (logOffsetsIn r)
 
 -- The listed log is that of the set, and there is a buffer for its image.
 pub record Rewritable (out b : List ℕ) (r : Station) : Type 0 where
@@ -53,8 +58,9 @@ pub record IsStation (b : List ℕ) (r : Station) : Type 0 where
   pub table : IsTable b (r .table)
   pub log : deltasAt (deltasOf b (startsOf (r .table))) (placesIn r) ≡ logOf (setIn b (startsOf (r .table)))
   pub inside : (i : ℕ) → i ∈ placesIn r → i < length (startsOf (r .table))
+  pub count : r .logged ≡ logCount b
   pub fits : r .logged ≤ capacity
-  pub offsets : OfLog b (logOffsetsIn r)
+  pub offsets : LogOffsets b (logOffsetsIn r)
 
 abbrev judgedBy : List ℕ → Station → Check → Type 0
 judgedBy b r Right = IsStation b r

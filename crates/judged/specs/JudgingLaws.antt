@@ -1,29 +1,29 @@
--- A buffer whose messages were read into a table is an image exactly if it is the image of the table's set.
+-- A buffer whose messages were read into a table is an image exactly if it is the image of the table's set; and what is known by the
+-- answers of reading and judging.
 use mathlib.Core.Path.{_≡_, refl, sym, _∙_, ap, ap₂, subst}
 use mathlib.Core.Bool.{Bool, false, _&&_}
 use mathlib.Core.List.{List}
 use Prim.Native.Nat.{ℕ, _<_}
 use native.Mathlib.Omega.{arith}
-use lib.ListN.{length, take, getD, length-take}
+use lib.ListN.{length, take, getD}
 use lib.Seq.{getD-take}
 use lib.Dec.{leb, le→leb}
 use Rattle.model.specs.Lists.{every, same}
 use Rattle.model.specs.Layout.{capacity}
 use Rattle.model.specs.Message.{passes}
 use Rattle.model.specs.Order.{State, logOf}
-use Rattle.model.specs.Image.{imageOf, logCount, offsetIn, isImage}
+use Rattle.model.specs.Image.{imageOf, logCount, messageOffset, isImage}
 use Rattle.order.specs.TestLaws.{is-true, false-of, ∈-every}
 use Rattle.laws.specs.ImageLaws.{own-log}
 use Rattle.table.specs.Table.{startsOf, deltasOf, deltasAt, setIn}
 use Rattle.table.specs.declared.Table.{Table}
 use Rattle.table_reading.specs.Reading.{IsTable, ReadsTable}
-use Rattle.walk.specs.Walk.{OfLog}
 use Rattle.message.specs.Check.{right}
 use Rattle.message.specs.declared.checks.Check.{Check}
 use Rattle.message.specs.declared.checks.Check.the-variants.{Right, Wrong}
 use Rattle.judged.specs.declared.judging.Station.{Station}
 use Rattle.image_log.specs.LogRead.{ReadsLog}
-use Rattle.judged.specs.Judging.{logOffsetsIn, IsStation, Judges}
+use Rattle.judged.specs.Judging.{IsStation, Judges, Copies}
 
 pub judged : (b : List ℕ) (t : Table) → IsTable b t → isImage b ≡ same (imageOf (setIn b (startsOf t))) b
 unfolding isImage
@@ -49,7 +49,7 @@ pub other-log : (b : List ℕ) (t : Table) → IsTable b t → (logged : ℕ) (p
 other-log b t h logged places r f = false-of (isImage b) (λ i. f (r .log ∙ own-log b i ∙ ap logOf (sym (h .set))))
 
 -- ---- by the answer of the judgement
-pub unjudged : (b : List ℕ) (r : Station) → r .check ≡ Wrong → isImage b ≡ false → Judges b r
+unjudged : (b : List ℕ) (r : Station) → r .check ≡ Wrong → isImage b ≡ false → Judges b r
 unjudged b r e h = subst (λ (k : Check). Judges b (record { check = k; table = r .table; places = r .places; offsets = r .offsets; logged = r .logged })) (sym e) h
 
 pub judges-wrong : (b : List ℕ) (r : Station) → Judges b r → r .check ≡ Wrong → isImage b ≡ false
@@ -58,7 +58,7 @@ judges-wrong b r h e = subst (λ (k : Check). Judges b (record { check = k; tabl
 pub judges-right : (b : List ℕ) (r : Station) → Judges b r → r .check ≡ Right → IsStation b r
 judges-right b r h e =
     let s = subst (λ (k : Check). Judges b (record { check = k; table = r .table; places = r .places; offsets = r .offsets; logged = r .logged })) e h in
-    record { image = s .image; table = s .table; log = s .log; inside = s .inside; fits = s .fits; offsets = s .offsets }
+    record { image = s .image; table = s .table; log = s .log; inside = s .inside; count = s .count; fits = s .fits; offsets = s .offsets }
 
 -- ---- what was judged is the test of the definition
 pub judgement : (b : List ℕ) (r : Station) → Judges b r → right (r .check) ≡ isImage b
@@ -68,7 +68,10 @@ judgement b r h = go (r .check) refl
     go Right e = ap right e ∙ sym (is-true (isImage b) (judges-right b r h e .image))
     go Wrong e = ap right e ∙ sym (judges-wrong b r h e)
 
+-- ---- what is handed back where the buffer is no image
+pub refused : (b copy : List ℕ) (r : Station) → r .check ≡ Wrong → isImage b ≡ false → Judges b r × Copies b copy (r .check)
+refused b copy r e h = (unjudged b r e h, subst (Copies b copy) (sym e) tt)
+
 -- ---- where the log's message at a place starts
-pub place-offset : (b : List ℕ) (r : Station) → OfLog b (logOffsetsIn r) → (place : ℕ) → place < logCount b → getD (r .offsets) place 0 ≡ offsetIn b place
-place-offset b r o place h =
-    sym (getD-take (r .logged) (r .offsets) place 0 (omega (arith, o .count, length-take (r .logged) (r .offsets)))) ∙ o .each place h
+pub place-offset : (b : List ℕ) (r : Station) → IsStation b r → (place : ℕ) → place < logCount b → getD (r .offsets) place 0 ≡ messageOffset b place
+place-offset b r s place h = sym (getD-take (r .logged) (r .offsets) place 0 (omega (arith, s .count))) ∙ s .offsets .each place h

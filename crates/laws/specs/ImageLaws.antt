@@ -116,11 +116,11 @@ module _ (S : State) (valid : Valid S) where
   start-back = refl
 
   -- from there on stand the messages, and then zeros
-  pub record Body : Type 0 where
-    pub zeros : List ℕ
-    pub body : drop (messagesStartIn (imageOf S)) (imageOf S) ≡ join (logOf S ++ heldOf S) ++ zeros
+  record Body : Type 0 where
+    zeros : List ℕ
+    body : drop (messagesStartIn (imageOf S)) (imageOf S) ≡ join (logOf S ++ heldOf S) ++ zeros
 
-  pub image-body : Body
+  image-body : Body
   unfolding imageOf messagesOf
   image-body =
       let Z : List ℕ = replicate (imageSize - length (usedOf S)) 0 in

@@ -1,4 +1,4 @@
--- Where messages lie that stand one behind the other (document 02, Paper 3): what a walk comes by is the offset of each place; what
+-- Where messages lie that stand one behind the other (document 02, Paper 3): what a walk carries is the offset of each place; what
 -- stands there is the message of the place; past the last message of an image are its used bytes.
 use mathlib.Core.Path.{_≡_, refl, sym, _∙_, ap, ap₂, subst}
 use mathlib.Core.Logic.{_⊎_, inl, inr}
@@ -7,7 +7,7 @@ use mathlib.Core.List.{List, [], _∷_, List·Memᴰ·head, List·Memᴰ·tail}
 use Prim.Native.Nat.{ℕ, zero, suc, _+_, _-_, _≤_, _<_}
 use native.Mathlib.Omega.{arith}
 use native.Mathlib.Numerals.{add-one}
-use lib.ListN.{length, take, drop, getD, length-append, length-take, take-append-drop}
+use lib.ListN.{length, take, drop, getD, length-append, take-append-drop}
 use lib.Seq.{getD-take, take-length, take-take, drop-cons, drop-drop}
 use lib.Dec.{T, eqb}
 use borrow.Author.Tests.{eqb-true, eq-eqb, ne-eqb}
@@ -16,11 +16,11 @@ use Rattle.model.specs.Bytes.{number, field, join}
 use Rattle.model.specs.Layout.{lengthAt}
 use Rattle.model.specs.Message.{Message, passes}
 use Rattle.model.specs.Order.{State, logOf, heldOf}
-use Rattle.model.specs.Image.{messagesStart, messagesOf, headerOf, sectionsOf, usedOf, imageOf, Valid, cut, logCount, heldCount, messagesStartIn, logIn, messagesIn, offsetOf, walk, offsetIn, usedIn, stateIn, isImage}
+use Rattle.model.specs.Image.{messagesStart, messagesOf, headerOf, sectionsOf, usedOf, imageOf, Valid, cut, logCount, heldCount, messagesStartIn, logIn, messagesIn, offsetOf, walk, messageOffset, usedCount, stateIn, isImage}
 use Rattle.model.specs.Calls.{messageAt}
 use Rattle.order.specs.ListLaws.{getD-∈, ∈-take}
-use Rattle.wire_laws.specs.BytesLaws.{number-bytes, field-part, sum-lengths, join-append}
-use Rattle.wire_laws.specs.MessageLaws.{Sized, passes-sized, sized-range}
+use Rattle.wire_laws.specs.BytesLaws.{number-bytes, sum-lengths, join-append}
+use Rattle.wire_laws.specs.MessageLaws.{Sized, passes-sized, sized-range, sized-cut}
 use Rattle.laws.specs.ImageLaws.{messages-back, start-back, messages-room, image-own, own-valid}
 use Rattle.laws.specs.ImageSetLaws.{length-cut, image-messages}
 
@@ -41,27 +41,30 @@ module _ (first : ℕ) (l : List Message) where
   unfolding offsetOf
   offset-next k = ap (λ (n : ℕ). first + sum length (take n l)) (add-one k) ∙ omega (arith, one-more l k)
 
-  pub offset-end : offsetOf first l (length l) ≡ first + length (join l)
+  -- the lengths of some messages are the length of all of them together
+  pub offset-join : (k : ℕ) → offsetOf first l k ≡ first + length (join (take k l))
   unfolding offsetOf
-  offset-end = ap (λ (x : List Message). first + sum length x) (take-length l) ∙ ap (λ (n : ℕ). first + n) (sum-lengths l)
+  offset-join k = ap (λ (n : ℕ). first + n) (sum-lengths (take k l))
+
+  offset-end : offsetOf first l (length l) ≡ first + length (join l)
+  offset-end = offset-join (length l) ∙ ap (λ (x : List Message). first + length (join x)) (take-length l)
 
   -- from a place on stand its message and those behind it
   pub offset-left : (k : ℕ) → offsetOf first l k + length (join (drop k l)) ≡ first + length (join l)
-  unfolding offsetOf
   offset-left k = omega (
     arith,
-    sum-lengths (take k l),
+    offset-join k,
     length-append (join (take k l)) (join (drop k l)),
     ap length (join-append (take k l) (drop k l)),
     ap (λ (x : List Message). length (join x)) (take-append-drop k l),
   )
 
   -- those behind a place make no difference to it
-  pub offset-front : (n k : ℕ) → k ≤ n → offsetOf first (take n l) k ≡ offsetOf first l k
+  offset-front : (n k : ℕ) → k ≤ n → offsetOf first (take n l) k ≡ offsetOf first l k
   unfolding offsetOf
   offset-front n k h = ap (λ (x : List Message). first + sum length x) (take-take k n l h)
 
--- A walk comes by the offset of each place, and by the one past the last message.
+-- A walk carries the offset of each place, and the one past the last message.
 pub walk-offset : (first : ℕ) (l : List Message) (k : ℕ) → k ≤ length l → getD (walk first l) k 0 ≡ offsetOf first l k
 unfolding offsetOf
 walk-offset first [] zero h = omega arith
@@ -101,12 +104,6 @@ message-placed first (m ∷ l) offset = go (eqb first offset) refl (message-plac
     go false e (inr p) = inr (record { place = suc (p .place); inside = omega (arith, p .inside); here = p .here ∙ omega arith; message = by-test e ∙ p .message })
 
 -- ---- messages that are cut by their length fields
--- one that passes 3 to 6 is as long as it says
-stated-length : (b : List ℕ) → Sized (take (field b lengthAt 2) b) → field b lengthAt 2 ≡ length (take (field b lengthAt 2) b)
-stated-length b s =
-    let n : ℕ = field b lengthAt 2 in
-    sym (field-part b 0 n lengthAt 2 (omega (arith, sized-range (take n b) s .0, length-take n b))) ∙ s .stated
-
 -- past the first k of them are cut the others
 cut-rest : (n k : ℕ) (b : List ℕ) → k ≤ n → ((m : Message) → m ∈ take k (cut n b) → Sized m)
     → drop k (cut n b) ≡ cut (n - k) (drop (sum length (take k (cut n b))) b)
@@ -116,7 +113,7 @@ cut-rest (suc n) (suc k) b h sized =
     let f : ℕ = field b lengthAt 2 in
     let s : ℕ = sum length (take k (cut n (drop f b))) in
     cut-rest n k (drop f b) (omega arith) (λ m j. sized m (List·Memᴰ·tail j))
-    ∙ ap₂ cut {x = n - k} {y = suc n - suc k} (omega arith) (drop-drop s f b ∙ ap (λ (x : ℕ). drop (x + s) b) (stated-length b (sized (take f b) (List·Memᴰ·head refl))))
+    ∙ ap₂ cut {x = n - k} {y = suc n - suc k} (omega arith) (drop-drop s f b ∙ ap (λ (x : ℕ). drop (x + s) b) (sym (sized-cut b 0 (sized (take f b) (List·Memᴰ·head refl)))))
 
 -- the first of them are those that are cut of fewer
 cut-first : (n m : ℕ) (b : List ℕ) → cut n b ≡ take n (cut (n + m) b)
@@ -134,32 +131,37 @@ module _ (b : List ℕ) where
 
   -- At the offset of a place stands its message, as long as it says, where those before the place pass 3 to 6.
   pub message-in : (k : ℕ) → k < count → ((m : Message) → m ∈ take k (messagesIn b) → T (passes m))
-      → take (field b (offsetIn b k + lengthAt) 2) (drop (offsetIn b k) b) ≡ getD (messagesIn b) k []
+      → take (field b (messageOffset b k + lengthAt) 2) (drop (messageOffset b k) b) ≡ getD (messagesIn b) k []
   unfolding offsetOf
   message-in k more pass =
-      let d : List ℕ = drop (offsetIn b k) b in
+      let d : List ℕ = drop (messageOffset b k) b in
       let s : ℕ = sum length (take k (messagesIn b)) in
-      let f : field d lengthAt 2 ≡ field b (offsetIn b k + lengthAt) 2 = ap (λ (l : List ℕ). number (take 2 l)) (drop-drop lengthAt (offsetIn b k) b) in
+      let f : field d lengthAt 2 ≡ field b (messageOffset b k + lengthAt) 2 = ap (λ (l : List ℕ). number (take 2 l)) (drop-drop lengthAt (messageOffset b k) b) in
       let rest : drop k (messagesIn b) ≡ cut (suc (count - (k + 1))) d =
       cut-rest count k (drop (messagesStartIn b) b) (omega arith) (λ m j. passes-sized m (pass m j))
       ∙ ap₂ cut {x = count - k} {y = suc (count - (k + 1))} (omega arith) (drop-drop s (messagesStartIn b) b) in
       sym (ap (λ (l : List Message). getD l 0 []) (sym (drop-cons (messagesIn b) k [] (omega (arith, count-messages))) ∙ rest) ∙ ap (λ (n : ℕ). take n d) f)
 
+  -- or where all of them do
+  pub message-of : ((m : Message) → m ∈ messagesIn b → T (passes m)) → (k : ℕ) → k < count
+      → take (field b (messageOffset b k + lengthAt) 2) (drop (messageOffset b k) b) ≡ getD (messagesIn b) k []
+  message-of pass k more = message-in k more (λ m j. pass m (∈-take k (messagesIn b) j))
+
   pub log-count : length (logIn b) ≡ logCount b
   log-count = length-cut (logCount b) (drop (messagesStartIn b) b)
 
   -- the log's are the first of them
-  pub log-first : logIn b ≡ take (logCount b) (messagesIn b)
+  log-first : logIn b ≡ take (logCount b) (messagesIn b)
   log-first = cut-first (logCount b) (heldCount b) (drop (messagesStartIn b) b)
 
   pub log-message : (k : ℕ) → k < logCount b → getD (logIn b) k [] ≡ getD (messagesIn b) k []
   log-message k h = ap (λ (l : List Message). getD l k []) log-first ∙ getD-take (logCount b) (messagesIn b) k [] h
 
-  pub log-offset : (k : ℕ) → k ≤ logCount b → offsetOf (messagesStartIn b) (logIn b) k ≡ offsetIn b k
+  pub log-offset : (k : ℕ) → k ≤ logCount b → offsetOf (messagesStartIn b) (logIn b) k ≡ messageOffset b k
   log-offset k h = ap (λ (l : List Message). offsetOf (messagesStartIn b) l k) log-first ∙ offset-front (messagesStartIn b) (messagesIn b) (logCount b) k h
 
 -- ---- the messages of an image
-pub used-back : (S : State) → Valid S → usedIn (imageOf S) ≡ messagesStart S + length (messagesOf S)
+used-back : (S : State) → Valid S → usedCount (imageOf S) ≡ messagesStart S + length (messagesOf S)
 unfolding imageOf usedOf sectionsOf headerOf
 used-back S valid = number-bytes 2 (messagesStart S + length (messagesOf S)) (omega (arith, messages-room S valid))
 
@@ -170,16 +172,12 @@ module _ (b : List ℕ) (image : T (isImage b)) where
   pub message-passes : (k : ℕ) → k < length (messagesIn b) → T (passes (message k))
   message-passes k more = image-messages b image .pass (message k) (getD-∈ (messagesIn b) k [] more)
 
-  pub message-here : (k : ℕ) → k < length (messagesIn b) → take (length (message k)) (drop (offsetIn b k) b) ≡ message k
+  pub message-here : (k : ℕ) → k < length (messagesIn b) → take (length (message k)) (drop (messageOffset b k) b) ≡ message k
   message-here k more =
-      let f : ℕ = field b (offsetIn b k + lengthAt) 2 in
-      let e : take f (drop (offsetIn b k) b) ≡ message k =
-      message-in b k (omega (arith, count-messages b)) (λ m j. image-messages b image .pass m (∈-take k (messagesIn b) j)) in
-      let s : Sized (message k) = passes-sized (message k) (message-passes k more) in
-      let n : length (message k) ≡ f =
-      sym (s .stated) ∙ ap (λ (m : Message). field m lengthAt 2) (sym e)
-      ∙ field-part b (offsetIn b k) f lengthAt 2 (omega (arith, sized-range (message k) s .0, ap length e, length-take f (drop (offsetIn b k) b))) in
-      ap (λ (x : ℕ). take x (drop (offsetIn b k) b)) n ∙ e
+      let n : ℕ = field b (messageOffset b k + lengthAt) 2 in
+      let e : take n (drop (messageOffset b k) b) ≡ message k = message-of b (image-messages b image .pass) k (omega (arith, count-messages b)) in
+      let s : Sized (take n (drop (messageOffset b k) b)) = subst Sized (sym e) (passes-sized (message k) (message-passes k more)) in
+      ap (λ (x : ℕ). take x (drop (messageOffset b k) b)) (ap length (sym e) ∙ sized-cut b (messageOffset b k) s) ∙ e
 
   -- no message of the log is empty
   pub log-full : (m : Message) → m ∈ logIn b → 0 < length m
@@ -188,7 +186,7 @@ module _ (b : List ℕ) (image : T (isImage b)) where
       omega (arith, sized-range m (passes-sized m (image-messages b image .pass m member)) .0)
 
   -- past the last one: the bytes used
-  pub offset-used : offsetIn b (length (messagesIn b)) ≡ usedIn b
+  pub offset-used : messageOffset b (length (messagesIn b)) ≡ usedCount b
   unfolding messagesOf
   offset-used =
       let S : State = stateIn b in
@@ -198,4 +196,4 @@ module _ (b : List ℕ) (image : T (isImage b)) where
       ∙ ap (λ (x : List ℕ). messagesStartIn x + length (join (messagesIn x))) e
       ∙ ap₂ (λ (n : ℕ) (l : List Message). n + length (join l)) (start-back S valid) (messages-back S valid)
       ∙ ap (λ (x : List ℕ). messagesStart S + length x) (sym (join-append (logOf S) (heldOf S)))
-      ∙ sym (used-back S valid) ∙ ap usedIn (sym e)
+      ∙ sym (used-back S valid) ∙ ap usedCount (sym e)

@@ -1,21 +1,21 @@
 -- The log's message that starts at an offset: what is needed to look for it, what is found, and what holds on the way.
 use mathlib.Core.Path.{_≡_}
 use mathlib.Core.List.{List, []}
-use Prim.Native.Nat.{ℕ, _+_, _≤_}
+use Prim.Native.Nat.{ℕ, _+_, _≤_, _<_}
 use lib.ListN.{length, take, drop}
 use lib.Dec.{T}
 use Rattle.model.specs.Layout.{imageSize}
 use Rattle.model.specs.Message.{Message}
-use Rattle.model.specs.Image.{messagesStartIn, logCount, logIn, offsetIn, isImage}
+use Rattle.model.specs.Image.{messagesStartIn, logCount, logIn, messageOffset, isImage}
 use Rattle.model.specs.Calls.{messageAt}
-use Rattle.walk.specs.Walk.{OfLog}
+use Rattle.walk.specs.Walk.{LogOffsets}
 use Rattle.log_reader.specs.declared.finding.Found.{Found}
 use Rattle.log_reader.specs.declared.finding.Found.the-variants as found
 
 pub record Searchable (b offsets : List ℕ) : Type 0 where
   pub sized : length b ≡ imageSize
   pub image : T (isImage b)
-  pub log : OfLog b offsets
+  pub log : LogOffsets b offsets
 
 -- the message of the log that starts at an offset, by the definition
 abbrev pub startingAt : List ℕ → ℕ → Message
@@ -32,4 +32,4 @@ Finds b offset found.Nothing = startingAt b offset ≡ []
 -- What holds where the loop of `find_message` tests: none of the first k messages starts there.
 pub record Looking (b : List ℕ) (offset k : ℕ) : Type 0 where
   pub upto : k ≤ logCount b
-  pub left : startingAt b offset ≡ messageAt (offsetIn b k) (drop k (logIn b)) offset
+  pub none : (j : ℕ) → j < k → messageOffset b j ≡ offset → ⊥

@@ -12,7 +12,7 @@ use lib.Seq.{take-all}
 use lib.Dec.{T, leb, leb→le, nleb→lt}
 use Rattle.model.specs.Lists.{_∈_, sum}
 use Rattle.model.specs.Message.{Message}
-use Rattle.model.specs.Image.{messagesStartIn, logIn, offsetOf, offsetIn}
+use Rattle.model.specs.Image.{messagesStartIn, logIn, offsetOf, messageOffset}
 use Rattle.model.specs.Codes.{lowestCode, readConditions}
 use Rattle.model.specs.Calls as model
 use Rattle.model.specs.Calls.{nextMessage}
@@ -41,7 +41,7 @@ pub record OfImage (b : List ℕ) (n : ℕ) (parts : List (List ℕ)) (end : mod
   -- the log's messages in order, and then empty parts
   pub given : parts ≡ take n (logIn b) ++ replicate (n - length (logIn b)) []
   -- the reader stands at the next message, and past the last one it stays
-  pub stands : end ≡ record { image = b; offset = offsetIn b (min n (length (logIn b))) }
+  pub stands : end ≡ record { image = b; offset = messageOffset b (min n (length (logIn b))) }
   -- no message is empty, so that the first empty part is the end of the log
   pub full : (m : Message) → m ∈ logIn b → 0 < length m
 
@@ -87,6 +87,7 @@ take-min n l = ⊎-elim within past (decide (leb n (length l)))
     past t = let h : length l < n = nleb→lt n (length l) t in take-all n l (omega arith) ∙ sym (take-all (min n (length l)) l (omega arith))
 
 -- ---- one call of next on a reader at a place of the log
+-- (over the log's messages alone: past the last of them nothing is added, and the reader stays)
 abbrev logOffset : List ℕ → ℕ → ℕ
 logOffset b k = offsetOf (messagesStartIn b) (logIn b) k
 
@@ -142,7 +143,7 @@ module _ (b : List ℕ) (refused : ¬ (lowestCode (readConditions b) ≡ 0)) whe
   stays (suc n) = ap (λ (x : model.Read). after n (x .reader)) next-other ∙ stays n
 
 -- past the last message of the log the reader stays
-stands-at : (b : List ℕ) (n : ℕ) → logOffset b n ≡ offsetIn b (min n (length (logIn b)))
+stands-at : (b : List ℕ) (n : ℕ) → logOffset b n ≡ messageOffset b (min n (length (logIn b)))
 unfolding offsetOf
 stands-at b n =
     ap (λ (l : List Message). messagesStartIn b + sum length l) (take-min n (logIn b)) ∙ log-offset b (min n (length (logIn b))) (omega (arith, log-count b))

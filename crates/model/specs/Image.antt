@@ -63,6 +63,10 @@ logCount b = field b logCountAt 2
 abbrev pub heldCount : List ℕ → ℕ
 heldCount b = field b heldCountAt 2
 
+-- The bytes used, as the header says.
+abbrev pub usedCount : List ℕ → ℕ
+usedCount b = field b usedAt 2
+
 -- The image's values, by their bytes.
 unfoldable pub valuesIn : List ℕ → List ℤ
 valuesIn b = map (λ p. integer (number p)) (parts tagCount valueSize (drop setpointsStart b))
@@ -83,17 +87,14 @@ messagesIn b = cut (logCount b + heldCount b) (drop (messagesStartIn b) b)
 unfoldable pub offsetOf : ℕ → List Message → ℕ → ℕ
 offsetOf first l place = first + sum length (take place l)
 
--- "adds each length once and carries the offset as a running value": what a walk comes by, at each message and past the last one.
+-- "adds each length once and carries the offset as a running value": what a walk carries, at each message and past the last one.
 abbrev pub walk : ℕ → List Message → List ℕ
 walk at [] = at ∷ []
 walk at (m ∷ l) = at ∷ walk (at + length m) l
 
--- The offset of a place of a buffer's messages, and the bytes used by its header.
-abbrev pub offsetIn : List ℕ → ℕ → ℕ
-offsetIn b place = offsetOf (messagesStartIn b) (messagesIn b) place
-
-abbrev pub usedIn : List ℕ → ℕ
-usedIn b = field b usedAt 2
+-- The offset of a place of a buffer's messages.
+abbrev pub messageOffset : List ℕ → ℕ → ℕ
+messageOffset b place = offsetOf (messagesStartIn b) (messagesIn b) place
 
 -- ---- the state
 abbrev pub setOf : List Message → List Message

@@ -1,12 +1,13 @@
 -- Laws of lists that every crate uses: items by their places, the greatest of a list, and the members of its parts.
 use mathlib.Core.Path.{_≡_, refl, sym, _∙_, ap, ap₂, subst}
 use mathlib.Core.Logic.{_⊎_, inl, inr, ⊎-elim}
-use mathlib.Core.List.{List, [], _∷_, map, reverse, reverseAux, List·Memᴰ·head, List·Memᴰ·tail, List·Memᴰ·not-nil, List·Memᴰ·cases-cons, Memᴰ·of-map}
+use mathlib.Core.List.{List, [], _∷_, _++_, map, reverse, reverseAux, List·Memᴰ·head, List·Memᴰ·tail, List·Memᴰ·not-nil, List·Memᴰ·cases-cons, Memᴰ·of-map}
 use Prim.Native.Nat.{ℕ, zero, suc, _+_, _≤_, _<_, zero-le, suc-le-suc}
 use native.Mathlib.Omega.{arith}
 use native.Mathlib.Nat.{le-of-suc-le-suc}
+use native.Mathlib.Numerals.{add-one}
 use lib.ListN.{length, take, drop, getD}
-use lib.Seq.{getD-take, getD-drop}
+use lib.Seq.{getD-take, getD-drop, take-suc}
 use Rattle.model.specs.Lists.{_∈_, greatest}
 
 pub getD-∈ : {A : Type 0} (l : List A) (k : ℕ) (d : A) → k < length l → getD l k d ∈ l
@@ -78,3 +79,7 @@ pub ∈-drop : {A : Type 0} (n : ℕ) (l : List A) {a : A} → a ∈ drop n l �
 
 pub ∈-reverse : {A : Type 0} (l : List A) {a : A} → a ∈ reverse l → a ∈ l
 ∈-reverse l k = ⊎-elim (λ j. j) (λ j. absurd (List·Memᴰ·not-nil j)) (∈-reversed l [] k)
+
+-- one item more from the front
+pub take-next : {A : Type 0} (l : List A) (k : ℕ) (d : A) → k < length l → take (k + 1) l ≡ take k l ++ getD l k d ∷ []
+take-next l k d h = ap (λ (n : ℕ). take n l) (add-one k) ∙ take-suc l k d h

@@ -9,7 +9,7 @@ use lib.Dec.{T, eqb, leb, eqb→eq, nleb→lt}
 use borrow.Author.Tests.{leb-false, ne-eqb, not-true}
 use Rattle.model.specs.Bytes.{field}
 use Rattle.model.specs.Layout.{lengthAt, headerSize, imageSize}
-use Rattle.model.specs.Image.{isImage, logCount, logIn, offsetIn}
+use Rattle.model.specs.Image.{isImage, logCount, logIn, messageOffset}
 use Rattle.model.specs.Calls.{logMessageCode, logMessage}
 use Rattle.order.specs.TestLaws.{true-T}
 use Rattle.table.specs.TableLaws.{Lies}
@@ -40,10 +40,10 @@ module _ (b : List ℕ) (place : ℕ) where
     below = leb-false (logCount b) place (not-true (leb (logCount b) place) (sym t))
 
     -- the message lies inside, and so does its length field
-    pub place-inside : offsetIn b place + headerSize ≤ length b
-    place-inside = let l : Lies b (offsetIn b place) = part-lies b image place below in omega arith
+    pub place-inside : messageOffset b place + headerSize ≤ length b
+    place-inside = let l : Lies b (messageOffset b place) = part-lies b image place below in omega arith
 
-    pub part-at : {offset size : ℕ} → offset ≡ offsetIn b place → size ≡ field b (offset + lengthAt) 2 → record { code = 0; offset = offset; size = size } ≡ logPart b place
+    pub part-at : {offset size : ℕ} → offset ≡ messageOffset b place → size ≡ field b (offset + lengthAt) 2 → record { code = 0; offset = offset; size = size } ≡ logPart b place
     part-at e f =
         ap₂ (λ (o n : ℕ). record { code = 0; offset = o; size = n }) e (f ∙ ap (λ (o : ℕ). field b (o + lengthAt) 2) e ∙ sym (part-size b image place below))
         ∙ part-told 0 (place-told b s i place t)
@@ -67,8 +67,8 @@ is-part b place = go (logMessageCode b place) refl
     go : (n : ℕ) → logMessageCode b place ≡ n → IsPart b place (partAnswer n b place)
     go zero e =
         let a = accepted b place e in
-        let l : Lies b (offsetIn b place) = part-lies b (a .1) place (a .2) in
-        let inside : offsetIn b place + length (getD (logIn b) place []) ≤ length b = omega (arith, part-size b (a .1) place (a .2)) in
+        let l : Lies b (messageOffset b place) = part-lies b (a .1) place (a .2) in
+        let inside : messageOffset b place + length (getD (logIn b) place []) ≤ length b = omega (arith, part-size b (a .1) place (a .2)) in
         record {
           inside = inside;
           small = omega (arith, inside, a .0);

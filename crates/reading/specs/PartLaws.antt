@@ -8,24 +8,24 @@ use lib.Dec.{T}
 use Rattle.model.specs.Bytes.{field}
 use Rattle.model.specs.Layout.{lengthAt}
 use Rattle.model.specs.Message.{Message, passes}
-use Rattle.model.specs.Image.{logCount, logIn, messagesIn, offsetIn, isImage}
-use Rattle.order.specs.ListLaws.{∈-take}
+use Rattle.model.specs.Image.{logCount, logIn, messagesIn, messageOffset, isImage}
 use Rattle.laws.specs.ImageSetLaws.{image-messages}
-use Rattle.laws.specs.OffsetLaws.{count-messages, message-in, log-message, message-passes}
+use Rattle.laws.specs.OffsetLaws.{count-messages, message-of, log-message, message-passes, message-here}
 use Rattle.table.specs.Table.{messageFrom}
 use Rattle.table.specs.TableLaws.{Lies, passes-lies}
 
 module _ (b : List ℕ) (image : T (isImage b)) (place : ℕ) (more : place < logCount b) where
-  part-from : messageFrom b (offsetIn b place) ≡ getD (logIn b) place []
-  part-from =
-      message-in b place (omega (arith, more)) (λ m k. image-messages b image .pass m (∈-take place (messagesIn b) k)) ∙ sym (log-message b place more)
+  here : place < length (messagesIn b)
+  here = omega (arith, more, count-messages b)
 
-  pub part-lies : Lies b (offsetIn b place)
-  part-lies = passes-lies b (offsetIn b place)
-      (subst (λ (m : Message). T (passes m)) (sym (part-from ∙ log-message b place more)) (message-passes b image place (omega (arith, more, count-messages b))))
+  pub part-is : take (length (getD (logIn b) place [])) (drop (messageOffset b place) b) ≡ getD (logIn b) place []
+  part-is = subst (λ (m : Message). take (length m) (drop (messageOffset b place) b) ≡ m) (sym (log-message b place more)) (message-here b image place here)
 
-  pub part-size : length (getD (logIn b) place []) ≡ field b (offsetIn b place + lengthAt) 2
-  part-size = ap length (sym part-from) ∙ part-lies .size
+  part-from : messageFrom b (messageOffset b place) ≡ getD (messagesIn b) place []
+  part-from = message-of b (image-messages b image .pass) place (omega (arith, more))
 
-  pub part-is : take (length (getD (logIn b) place [])) (drop (offsetIn b place) b) ≡ getD (logIn b) place []
-  part-is = ap (λ (n : ℕ). take n (drop (offsetIn b place) b)) part-size ∙ part-from
+  pub part-lies : Lies b (messageOffset b place)
+  part-lies = passes-lies b (messageOffset b place) (subst (λ (m : Message). T (passes m)) (sym part-from) (message-passes b image place here))
+
+  pub part-size : length (getD (logIn b) place []) ≡ field b (messageOffset b place + lengthAt) 2
+  part-size = ap length (log-message b place more ∙ sym part-from) ∙ part-lies .size

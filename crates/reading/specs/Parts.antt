@@ -2,7 +2,7 @@
 use mathlib.Core.List.{List, []}
 use Prim.Native.Nat.{ℕ, zero, suc}
 use lib.ListN.{length, getD}
-use Rattle.model.specs.Image.{logIn, offsetIn}
+use Rattle.model.specs.Image.{logIn, messageOffset}
 use Rattle.model.specs.Calls.{logMessageCode}
 
 pub record Part : Type 0 where
@@ -11,7 +11,7 @@ pub record Part : Type 0 where
   pub size : ℕ
 
 abbrev pub partAnswer : ℕ → List ℕ → ℕ → Part
-partAnswer zero b place = record { code = 0; offset = offsetIn b place; size = length (getD (logIn b) place []) }
+partAnswer zero b place = record { code = 0; offset = messageOffset b place; size = length (getD (logIn b) place []) }
 partAnswer (suc n) b place = record { code = suc n; offset = 0; size = 0 }
 
 unfoldable pub logPart : List ℕ → ℕ → Part

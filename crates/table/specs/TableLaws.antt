@@ -1,5 +1,5 @@
 -- A message that passes 3 to 6 lies inside the pool, and its fields are read there.
-use mathlib.Core.Path.{_≡_, sym, _∙_}
+use mathlib.Core.Path.{_≡_}
 use mathlib.Core.List.{List}
 use Prim.Native.Nat.{ℕ, _+_, _-_, _≤_, min}
 use native.Mathlib.Omega.{arith}
@@ -9,7 +9,7 @@ use Rattle.model.specs.Bytes.{field}
 use Rattle.model.specs.Layout.{lengthAt, headerSize, messageRoom}
 use Rattle.model.specs.Message.{Message, passes}
 use Rattle.wire_laws.specs.BytesLaws.{field-part}
-use Rattle.wire_laws.specs.MessageLaws.{Sized, passes-sized, sized-range}
+use Rattle.wire_laws.specs.MessageLaws.{Sized, passes-sized, sized-range, sized-cut}
 use Rattle.table.specs.Table.{messageFrom}
 
 pub record Lies (pool : List ℕ) (at : ℕ) : Type 0 where
@@ -29,8 +29,7 @@ passes-lies pool at t =
     let most : length m ≤ messageRoom = sized-range m s .1 in
     let cut : length m ≡ min total (length (drop at pool)) = length-take total (drop at pool) in
     let left : length (drop at pool) ≡ length pool - at = length-drop at pool in
-    let e : field m lengthAt 2 ≡ total = field-part pool at total lengthAt 2 (omega arith) in
-    let size : length m ≡ total = sym (s .stated) ∙ e in
+    let size : length m ≡ total = sized-cut pool at s in
     record {
       least = omega arith;
       most = omega arith;

@@ -1,19 +1,19 @@
 -- The messages of an image are taken in one by one: the first i of them make up the table.
 use mathlib.Core.Path.{_≡_, sym, _∙_, ap, subst}
 use mathlib.Core.Logic.{⊎-elim}
-use mathlib.Core.Bool.{Bool, true, false}
+use mathlib.Core.Bool.{true, false}
 use mathlib.Core.List.{List, [], _∷_, _++_, List·Memᴰ·head, List·Memᴰ·not-nil, List·Memᴰ·append-cases, List·Memᴰ·eq-of-singleton, Memᴰ·cast, Memᴰ·map, Memᴰ·of-map, Memᴰ·append-left, Memᴰ·append-right}
 use Prim.Native.Nat.{ℕ, suc, _+_, _≤_, _<_}
 use native.Mathlib.Omega.{arith}
-use native.Mathlib.Numerals.{add-one}
 use lib.ListN.{length, take, drop, getD}
-use lib.Seq.{take-all, take-suc, split-at}
+use lib.Seq.{take-all, split-at}
 use lib.Dec.{T}
 use Rattle.model.specs.Lists.{_∈_, has}
 use Rattle.model.specs.Message.{Message, sequenceOf}
 use Rattle.model.specs.Order.{stateOf, insert, sequencesOf}
 use Rattle.model.specs.Image.{messagesIn, stateIn, isImage}
 use Rattle.order.specs.TestLaws.{Same, false-of, true-T, has→∈, ∈→has}
+use Rattle.order.specs.ListLaws.{take-next}
 use Rattle.laws.specs.SetLaws.{insert-from, insert-keeps, insert-has, setOf-same}
 use Rattle.laws.specs.ImageSetLaws.{image-messages, distinct-places}
 use Rattle.laws.specs.OffsetLaws.{count-messages}
@@ -23,10 +23,6 @@ use Rattle.table_reading.specs.declared.Reading.{Reading}
 use Rattle.table_reading.specs.Reading.{ReadsTable}
 use Rattle.table.specs.Table.{messageFrom, deltasOf, setIn, Holds}
 use Rattle.walk.specs.Walk.{countIn}
-
--- ---- a test that fails is not passed
-pub false-not : {t : Bool} → t ≡ false → T t → ⊥
-false-not e h = subst T e h
 
 -- ---- the first i messages make up the table
 pub record Gathered (b : List ℕ) (i : ℕ) (starts : List ℕ) : Type 0 where
@@ -49,13 +45,13 @@ gathered-set b i starts g h = sym (ap stateOf (setOf-same (deltasOf b starts) (m
 
 -- ---- the message of place i, which starts at `at`
 module _ (b : List ℕ) (i : ℕ) (starts : List ℕ) (g : Gathered b i starts) (more : i < countIn b) (at : ℕ) (here : messageFrom b at ≡ getD (messagesIn b) i []) where
-  m : Message
+  abbrev m : Message
   m = messageFrom b at
 
-  D : List Message
+  abbrev D : List Message
   D = deltasOf b starts
 
-  before : List Message
+  abbrev before : List Message
   before = take i (messagesIn b)
 
   inside : i < length (messagesIn b)
@@ -63,7 +59,6 @@ module _ (b : List ℕ) (i : ℕ) (starts : List ℕ) (g : Gathered b i starts) 
 
   -- it is there already
   pub gathered-twice : has (sequenceOf (messageFrom b at)) (sequencesOf (deltasOf b starts)) ≡ true → isImage b ≡ false
-  unfolding m D before
   gathered-twice e = false-of (isImage b) (λ t.
       let s : ℕ = sequenceOf m in
       let r = Memᴰ·of-map sequenceOf D (has→∈ s (sequencesOf D) (true-T (has s (sequencesOf D)) e)) in
@@ -76,22 +71,18 @@ module _ (b : List ℕ) (i : ℕ) (starts : List ℕ) (g : Gathered b i starts) 
   module _ (others : List ℕ) (new : has (sequenceOf (messageFrom b at)) (sequencesOf (deltasOf b starts)) ≡ false)
       (deltas : deltasOf b others ≡ insert (messageFrom b at) (deltasOf b starts)) where
     next-same : Same (before ++ m ∷ []) (insert m D)
-    unfolding m D before
     next-same = λ a. (
       λ k. ⊎-elim (λ j. insert-keeps m D a (g .taken a .0 j)) (λ j. Memᴰ·cast (List·Memᴰ·eq-of-singleton j) added) (List·Memᴰ·append-cases before k),
       λ k. ⊎-elim (λ e. Memᴰ·append-right before (List·Memᴰ·head e)) (λ j. Memᴰ·append-left (m ∷ []) (g .taken a .1 j)) (insert-from m D a k),
     )
       where
         added : m ∈ insert m D
-        added = insert-has m D (λ x k e. absurd (false-not new (∈→has (Memᴰ·cast e (Memᴰ·map sequenceOf k)))))
+        added = insert-has m D (λ x k e. absurd (subst T new (∈→has (Memᴰ·cast e (Memᴰ·map sequenceOf k)))))
 
     next-take : take (i + 1) (messagesIn b) ≡ before ++ m ∷ []
-    unfolding m before
-    next-take =
-        ap (λ (n : ℕ). take n (messagesIn b)) (add-one i) ∙ take-suc (messagesIn b) i [] inside ∙ ap (λ (x : Message). before ++ x ∷ []) (sym here)
+    next-take = take-next (messagesIn b) i [] inside ∙ ap (λ (x : Message). before ++ x ∷ []) (sym here)
 
     pub gathered-next : Holds b others → Gathered b (i + 1) others
-    unfolding m D
     gathered-next holds = record {
       taken = subst (λ (l : List Message). Same (take (i + 1) (messagesIn b)) l) (sym deltas) (subst (λ (l : List Message). Same l (insert m D)) (sym next-take) next-same);
       holds = holds;

@@ -14,7 +14,7 @@ ghost use lib.ListN.{length, take};
 ghost use Rattle.model.specs.Layout.{capacity, imageSize};
 ghost use Rattle.message.specs.declared.checks.Check.the-variants.{Wrong};
 ghost use Rattle.table.specs.Table.{Holds};
-ghost use Rattle.walk.specs.Walk.{IsWalk};
+ghost use Rattle.walk.specs.Walk.{countIn, Walkable, Offsets};
 ghost use Rattle.table_reading.specs.Reading.{IsMessage, TakesIn, ReadsTable};
 
 // Whether an image's messages were read, and their table.
@@ -36,7 +36,7 @@ fn take_in(b: &[u8], starts: &mut [u16], count: usize, at: u16, s: Sequence) -> 
     Check::Right
 }
 
-// No image can hold the messages: there is no table.
+// A sequence is there twice: there is no table.
 fn refuse() -> Reading
     ensures { λ r. ⌜ r .check ≡ Wrong ⌝ }
 {
@@ -46,9 +46,9 @@ fn refuse() -> Reading
     }
 }
 
-// The table of the messages at the offsets of an image's walk; refused where no image can hold them.
+// The table of the messages at the offsets of a walk; refused where a sequence is there twice, which no image has.
 pub fn read_table(b: &[u8], offsets: &[u16]) -> Reading
-    requires { ⌜ (length (now b) ≡ imageSize) × IsWalk (now b) (now offsets) ⌝ }
+    requires { ⌜ (length (now b) ≡ imageSize) × Walkable (now b) × Offsets (now b) (countIn (now b)) (now offsets) ⌝ }
     ensures { λ r. ⌜ ReadsTable (now (b .entry)) r ⌝ }
 {
     let mut starts = [0u16; CAPACITY];

@@ -1,6 +1,6 @@
 -- What the walk over an image's messages answers, and what holds on its way.
 use mathlib.Core.Path.{_≡_}
-use mathlib.Core.Bool.{false, cond}
+use mathlib.Core.Bool.{cond}
 use mathlib.Core.List.{List}
 use Prim.Native.Nat.{ℕ, _+_, _≤_, _<_}
 use lib.ListN.{length, take, getD}
@@ -9,7 +9,7 @@ use Rattle.model.specs.Lists.{_∈_}
 use Rattle.model.specs.Bytes.{field}
 use Rattle.model.specs.Layout.{lengthAt, capacity}
 use Rattle.model.specs.Message.{Message, passes}
-use Rattle.model.specs.Image.{logCount, heldCount, messagesIn, offsetIn, usedIn, isImage}
+use Rattle.model.specs.Image.{logCount, heldCount, usedCount, messagesIn, messageOffset}
 use Rattle.message.specs.declared.checks.Check.{Check}
 use Rattle.message.specs.declared.checks.Check.the-variants.{Right, Wrong}
 use Rattle.table.specs.Table.{messageFrom}
@@ -23,33 +23,35 @@ countIn b = logCount b + heldCount b
 abbrev pub endAt : List ℕ → ℕ → ℕ
 endAt b at = cond (passes (messageFrom b at)) (at + field b (at + lengthAt) 2) 0
 
--- What holds where the loop of `walk_messages` tests: the running value is the offset of the place.
+-- What holds where the loop of `walk_messages` tests: the value that it carries is the offset of the place.
 pub record Walking (b offsets : List ℕ) (at place : ℕ) : Type 0 where
-  pub here : at ≡ offsetIn b place
+  pub here : at ≡ messageOffset b place
   pub inside : at ≤ length b
   -- of the places before it
   pub pass : (m : Message) → m ∈ take place (messagesIn b) → T (passes m)
-  pub each : (k : ℕ) → k < place → getD offsets k 0 ≡ offsetIn b k
+  pub each : (k : ℕ) → k < place → getD offsets k 0 ≡ messageOffset b k
 
--- The offsets of all messages of a buffer, each of which passes 3 to 6; past the last one are the bytes used.
-pub record IsWalk (b offsets : List ℕ) : Type 0 where
-  pub count : length offsets ≡ countIn b
+-- What the walk asks of a buffer: its messages are not too many, each passes 3 to 6, and past the last one are the bytes used.
+pub record Walkable (b : List ℕ) : Type 0 where
   pub fits : countIn b ≤ capacity
-  pub each : (k : ℕ) → k < countIn b → getD offsets k 0 ≡ offsetIn b k
   pub pass : (m : Message) → m ∈ messagesIn b → T (passes m)
-  pub used : offsetIn b (countIn b) ≡ usedIn b
+  pub used : messageOffset b (countIn b) ≡ usedCount b
 
--- The offsets of the log's messages, which are the first.
-pub record OfLog (b offsets : List ℕ) : Type 0 where
-  pub count : length offsets ≡ logCount b
-  pub each : (k : ℕ) → k < logCount b → getD offsets k 0 ≡ offsetIn b k
+-- The offsets of the first n messages of a buffer.
+pub record Offsets (b : List ℕ) (n : ℕ) (offsets : List ℕ) : Type 0 where
+  pub count : length offsets ≡ n
+  pub each : (k : ℕ) → k < n → getD offsets k 0 ≡ messageOffset b k
+
+-- Those of the log's.
+abbrev pub LogOffsets : List ℕ → List ℕ → Type 0
+LogOffsets b offsets = Offsets b (logCount b) offsets
 
 abbrev pub offsetsOf : Walk → List ℕ
 offsetsOf w = take (w .count) (w .offsets)
 
 abbrev walkedBy : List ℕ → Check → Walk → Type 0
-walkedBy b Right w = (w .count ≡ countIn b) × IsWalk b (offsetsOf w)
-walkedBy b Wrong w = isImage b ≡ false
+walkedBy b Right w = Walkable b × (w .count ≡ countIn b) × Offsets b (countIn b) (offsetsOf w)
+walkedBy b Wrong w = Walkable b → ⊥
 
 abbrev pub Walks : List ℕ → Walk → Type 0
 Walks b w = walkedBy b (w .check) w

@@ -16,7 +16,7 @@ ghost use Prim.Native.Nat.{_+_, _≤_};
 ghost use lib.ListN.{length};
 ghost use Rattle.model.specs.Bytes.{field};
 ghost use Rattle.model.specs.Layout.{lengthAt, headerSize, imageSize, setpointsOffsetAt, zerosAt};
-ghost use Rattle.model.specs.Image.{usedIn};
+ghost use Rattle.model.specs.Image.{usedCount};
 ghost use Rattle.message.specs.declared.checks.Check.the-variants.{Wrong};
 ghost use Rattle.walk.specs.Walk.{countIn, endAt, Walks};
 
@@ -40,13 +40,13 @@ fn count_messages(b: &[u8]) -> usize
 // The bytes that an image says it uses.
 fn read_used(b: &[u8]) -> usize
     requires { ⌜ zerosAt ≤ length (now b) ⌝ }
-    ensures { λ r. ⌜ r ≡ usedIn (now (b .entry)) ⌝ }
+    ensures { λ r. ⌜ r ≡ usedCount (now (b .entry)) ⌝ }
 {
     get_u16(b, USED_AT) as usize
 }
 
-// Where the message at an offset ends, by its length field: the offset of the next one.
-fn end_of(b: &[u8], at: usize) -> usize
+// The length of the message at an offset, added to the offset: where it ends, and the next one starts.
+fn add_length(b: &[u8], at: usize) -> usize
     requires { ⌜ (length (now b) ≡ imageSize) × (at + headerSize ≤ length (now b)) ⌝ }
     ensures { λ r. ⌜ r ≡ at + field (now (b .entry)) (at + lengthAt) 2 ⌝ }
 {
@@ -54,17 +54,17 @@ fn end_of(b: &[u8], at: usize) -> usize
     at + size
 }
 
-// The same of a message that is checked; 0 where nothing there passes 3 to 6.
-fn checked_end(b: &[u8], at: usize) -> usize
+// Where the message at an offset ends, cut by its length field and checked; 0 where nothing there passes 3 to 6.
+fn find_end(b: &[u8], at: usize) -> usize
     requires { ⌜ (length (now b) ≡ imageSize) × (at ≤ length (now b)) ⌝ }
     ensures { λ r. ⌜ r ≡ endAt (now (b .entry)) at ⌝ }
 {
-    let size = b.len();
-    if size - at < HEADER_SIZE {
+    let limit = b.len();
+    if limit - at < HEADER_SIZE {
         return 0;
     }
-    let end = end_of(b, at);
-    if size < end {
+    let end = add_length(b, at);
+    if limit < end {
         return 0;
     }
     let verdict = check_message(&b[at..end]);
@@ -99,7 +99,7 @@ pub fn walk_messages(b: &[u8]) -> Walk
     let first = messages_start();
     let mut at = first;
     while count < total {
-        let end = checked_end(b, at);
+        let end = find_end(b, at);
         if end == 0 {
             return refuse();
         }

@@ -1,15 +1,16 @@
 -- What a message that passes 3 to 6 is known to be.
 use mathlib.Core.Path.{_≡_, sym, _∙_}
 use mathlib.Core.Bool.{_&&_}
-use Prim.Native.Nat.{_+_, _*_, _^_, _≤_, _<_}
+use mathlib.Core.List.{List}
+use Prim.Native.Nat.{ℕ, _+_, _*_, _^_, _≤_, _<_}
 use native.Mathlib.Omega.{arith}
-use lib.ListN.{length}
+use lib.ListN.{length, take, drop, length-take}
 use lib.Dec.{T, eqb, leb, eqb→eq, leb→le}
 use Rattle.model.specs.Bytes.{isBytes, field}
 use Rattle.model.specs.Layout.{lengthAt, sequenceAt, headerSize, sequenceSize, commandSize, messageRoom}
 use Rattle.model.specs.Message.{Message, dependencyCount, commandCount, totalLength, sequenceOf, layoutRight, numbersRight, dependenciesRight, contentRight, passes}
 use Rattle.order.specs.TestLaws.{and-l, and-r, and-i}
-use Rattle.wire_laws.specs.BytesLaws.{field-range}
+use Rattle.wire_laws.specs.BytesLaws.{field-range, field-part}
 
 pub passes-layout : (m : Message) → T (passes m) → T (layoutRight m)
 unfolding passes
@@ -61,6 +62,13 @@ sized-range m s =
     let c : commandCount m ≤ 8 = s .commands in
     let d : length m ≡ 40 + 12 * dependencyCount m + 8 * commandCount m = s .total in
     (omega arith, omega arith)
+
+-- one that is cut from a buffer by its length field is as long as that says
+pub sized-cut : (b : List ℕ) (at : ℕ) → let n = field b (at + lengthAt) 2 in Sized (take n (drop at b)) → length (take n (drop at b)) ≡ n
+sized-cut b at s =
+    let n : ℕ = field b (at + lengthAt) 2 in
+    let m : Message = take n (drop at b) in
+    sym (s .stated) ∙ field-part b at n lengthAt 2 (omega (arith, sized-range m s .0, length-take n (drop at b)))
 
 pub layout-bytes : (m : Message) → T (layoutRight m) → T (isBytes m)
 unfolding layoutRight

@@ -1,12 +1,14 @@
 -- The invariant: the starts are those of the first `count` messages.
 use mathlib.Core.Path.{_≡_, refl, sym, _∙_, subst}
-use mathlib.Core.List.{List}
+use mathlib.Core.List.{List, []}
 use Prim.Native.Nat.{ℕ, _+_, _-_, _≤_, _<_}
 use native.Mathlib.Omega.{arith}
 use borrow.Author.Needs.{needs}
 use lib.ListN.{length, take, getD}
 use Rattle.model.specs.Layout.{sequenceAt, sequenceSize, capacity}
+use Rattle.model.specs.Image.{messagesIn}
 use Rattle.message.specs.declared.checks.Check.{Check}
+use Rattle.table.specs.Table.{messageFrom}
 use Rattle.table.specs.TableLaws.{Lies}
 use Rattle.walk.specs.Walk.{countIn}
 use Rattle.walk.specs.WalkLaws.{walked-message, walked-passes, walked-lies}
@@ -40,10 +42,10 @@ taking t = head (t .before .before .before)
 
 -- the message at which a turn stands lies in the image
 more : (i : tie.In-loop Inv-loop μ-loop) → i .before .loop .count < countIn (bytes (i .before))
-more i = omega (arith, i .loop-test .taken, start (i .before) .pre .1 .count)
+more i = omega (arith, i .loop-test .taken, start (i .before) .pre .2 .count)
 
 lies : (i : tie.In-loop Inv-loop μ-loop) → Lies (bytes (i .before)) (offset (i .before))
-lies i = let s = start (i .before) in walked-lies (s .args .b .now) (s .args .offsets .now) (s .pre .1) (i .before .loop .count) (more i)
+lies i = let s = start (i .before) in walked-lies (s .args .b .now) (countIn (s .args .b .now)) (s .args .offsets .now) (s .pre .1 .pass) (s .pre .2) (i .before .loop .count) (more i) (omega arith)
 
 loop-holds : tie.Need-loop-holds Inv-loop μ-loop
 loop-holds c = (omega arith, refl, gathered-none (c .before .before .args .b .now))
@@ -77,7 +79,7 @@ take-in-requires c κs =
       omega (arith, more i, s .pre .1 .fits),
       l .inv .2 .holds,
       record {
-        pass = walked-passes b (s .args .offsets .now) (s .pre .1) (l .count) (more i);
+        pass = walked-passes b (countIn b) (s .args .offsets .now) (s .pre .1 .pass) (s .pre .2) (l .count) (more i) (omega arith);
         sequence = r .read-sequence .ensures ∙ sym (lies i .fields sequenceAt sequenceSize (omega (arith, lies i)));
       },
     )
@@ -98,6 +100,13 @@ taken t e =
     let h = taking t in
     subst (λ (k : Check). TakesIn (bytes h) (take (h .loop .count) (h .loop .starts)) (offset h) k (take (h .loop .count + 1) (t .take-in .last .1 .0))) e (t .take-in .ensures)
 
+-- and the message of the place
+here : (t : tie.After-take-in Inv-loop μ-loop) → let h = taking t in messageFrom (bytes h) (offset h) ≡ getD (messagesIn (bytes h)) (h .loop .count) []
+here t =
+    let h = taking t in
+    let s = start h in
+    walked-message (bytes h) (countIn (bytes h)) (s .args .offsets .now) (s .pre .1 .pass) (s .pre .2) (h .loop .count) (more (turn t)) (omega arith)
+
 refuse-requires : tie.Need-refuse-requires Inv-loop μ-loop
 refuse-requires c κs = search needs
 
@@ -106,9 +115,8 @@ returns c =
     let t = c .before .before .before .before in
     let h = taking t in
     let l = h .loop in
-    let w = start h .pre .1 in
     wrong-reads (bytes h) (c .refuse .result) (c .refuse .ensures)
-    (gathered-twice (bytes h) (l .count) (take (l .count) (l .starts)) (l .inv .2) (more (turn t)) (offset h) (walked-message (bytes h) (start h .args .offsets .now) w (l .count) (more (turn t))) (taken t (c .before .enum-told2 .given .1)))
+    (gathered-twice (bytes h) (l .count) (take (l .count) (l .starts)) (l .inv .2) (more (turn t)) (offset h) (here t) (taken t (c .before .enum-told2 .given .1)))
 
 add-count : tie.Need-add-count Inv-loop μ-loop
 add-count c = omega arith
@@ -121,11 +129,10 @@ loop-again c =
     let t = c .before .before .before in
     let h = taking t in
     let l = h .loop in
-    let k = taken t (c .enum-told .given .1) in
-    let here = walked-message (bytes h) (start h .args .offsets .now) (start h .pre .1) (l .count) (more (turn t)) in (
+    let k = taken t (c .enum-told .given .1) in (
       omega arith,
       t .take-in .kept .1 .0 ∙ l .inv .1,
-      gathered-next (bytes h) (l .count) (take (l .count) (l .starts)) (l .inv .2) (more (turn t)) (offset h) here (take (l .count + 1) (t .take-in .last .1 .0)) (k .new) (k .deltas) (k .holds),
+      gathered-next (bytes h) (l .count) (take (l .count) (l .starts)) (l .inv .2) (more (turn t)) (offset h) (here t) (take (l .count + 1) (t .take-in .last .1 .0)) (k .new) (k .deltas) (k .holds),
     )
 
 returns-2 : tie.Need-returns-2 Inv-loop μ-loop
@@ -133,15 +140,15 @@ returns-2 c =
     let h = c .before in
     let b = bytes h in
     let l = h .loop in
-    let w = start h .pre .1 in
+    let s = start h in
     let starts = take (l .count) (l .starts) in
-    let all : l .count ≡ countIn b = omega (arith, l .inv .0, c .loop-test .left, w .count) in
+    let all : l .count ≡ countIn b = omega (arith, l .inv .0, c .loop-test .left, s .pre .2 .count) in
     record {
       holds = l .inv .2 .holds;
       messages = gathered-all b (l .count) starts (l .inv .2) (omega arith);
       set = gathered-set b (l .count) starts (l .inv .2) (omega arith);
       count = all;
-      fits = omega (arith, w .fits);
+      fits = omega (arith, s .pre .1 .fits);
     }
 
 pub read-table-spec : {M : Type 1} → statement M

@@ -34,7 +34,7 @@ abbrev bytes : tie.At-loop Inv-loop μ-loop → List ℕ
 bytes h = start h .args .b .now
 
 -- the head of the loop, from where the end of a message is known, and is not 0
-abbrev head : tie.After-checked-end Inv-loop μ-loop → tie.At-loop Inv-loop μ-loop
+abbrev head : tie.After-find-end Inv-loop μ-loop → tie.At-loop Inv-loop μ-loop
 head e = e .before .before
 
 count-messages-requires : tie.Need-count-messages-requires Inv-loop μ-loop
@@ -56,8 +56,8 @@ loop-holds c =
     let b = begun c .args .b .now in
     (omega arith, c .before .before .count-messages .ensures, omega arith, refl, walking-first b _ (begun c .pre) (c .messages-start .ensures .1 b))
 
-checked-end-requires : tie.Need-checked-end-requires Inv-loop μ-loop
-checked-end-requires c κs = (start (c .before) .pre, c .before .loop .inv .4 .inside)
+find-end-requires : tie.Need-find-end-requires Inv-loop μ-loop
+find-end-requires c κs = (start (c .before) .pre, c .before .loop .inv .4 .inside)
 
 refuse-requires-2 : tie.Need-refuse-requires-2 Inv-loop μ-loop
 refuse-requires-2 c κs = search needs
@@ -67,15 +67,15 @@ returns-2 c =
     let e = c .before .before in
     let b = bytes (head e) in
     let l = head e .loop in
-    let none : e .checked-end .result ≡ 0 = omega arith in
+    let none : e .find-end .result ≡ 0 = omega arith in
     wrong-walks b (c .refuse2 .result) (c .refuse2 .ensures)
-    (walking-refused b (l .offsets) (l .at) (l .count) (l .inv .4) (omega arith) (no-end b (l .at) (sym (e .checked-end .ensures) ∙ none)))
+    (walking-refused b (l .offsets) (l .at) (l .count) (l .inv .4) (omega arith) (no-end b (l .at) (sym (e .find-end .ensures) ∙ none)))
 
 -- the message whose end is known passes 3 to 6, and lies in the image
 passed : (e : tie.Else2 Inv-loop μ-loop) → let h = head (e .before) in T (passes (messageFrom (bytes h) (h .loop .at)))
 passed e =
     let h = head (e .before) in
-    some-end (bytes h) (h .loop .at) (λ z. let q : e .before .checked-end .result ≡ 0 = e .before .checked-end .ensures ∙ z in omega arith)
+    some-end (bytes h) (h .loop .at) (λ z. let q : e .before .find-end .result ≡ 0 = e .before .find-end .ensures ∙ z in omega arith)
 
 lies : (e : tie.Else2 Inv-loop μ-loop) → let h = head (e .before) in Lies (bytes h) (h .loop .at)
 lies e = let h = head (e .before) in passes-lies (bytes h) (h .loop .at) (passed e)
@@ -100,7 +100,7 @@ loop-again c =
     let h = head (c .before) in
     let b = bytes h in
     let l = h .loop in
-    let end = c .before .checked-end .ensures ∙ end-passes b (l .at) (passed c) in
+    let end = c .before .find-end .ensures ∙ end-passes b (l .at) (passed c) in
     let w = walking-next b (l .offsets) (l .at) (l .count) (l .inv .4) (omega arith) (passed c) (omega arith) in
     (omega arith, l .inv .1, l .inv .2, length-set (l .offsets) (l .count) (l .at) ∙ l .inv .3, subst (λ (n : ℕ). Walking b (set (l .offsets) (l .count) (l .at)) n (l .count + 1)) (sym end) w)
 
@@ -123,7 +123,8 @@ returns-4 c =
     let h = u .before .before in
     let l = h .loop in
     let all : l .count ≡ countIn (bytes h) = omega arith in
-    (all, walking-end (bytes h) (l .offsets) (l .at) (l .count) (l .inv .4) all (omega (arith, c .if3 .left, u .read-used .ensures)) (omega arith) (omega arith))
+    let r = walking-end (bytes h) (l .offsets) (l .at) (l .count) (l .inv .4) all (omega (arith, c .if3 .left, u .read-used .ensures)) (omega arith) (omega arith) in
+    (r .0, all, r .1)
 
 pub walk-messages-spec : {M : Type 1} → statement M
 walk-messages-spec =
@@ -136,7 +137,7 @@ walk-messages-spec =
     returns
     messages-start-requires
     loop-holds
-    checked-end-requires
+    find-end-requires
     refuse-requires-2
     returns-2
     cast-offsets

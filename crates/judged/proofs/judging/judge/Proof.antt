@@ -1,6 +1,6 @@
 -- A buffer whose log is not that of its set, or which is not the image of its set, is no image; any other is.
 use mathlib.Core.Path.{_≡_, refl, sym, _∙_, ap, subst}
-use mathlib.Core.Bool.{Bool, false}
+use mathlib.Core.Bool.{Bool}
 use mathlib.Core.List.{List, _++_}
 use Prim.Native.Nat.{ℕ, _-_, _≤_}
 use native.Mathlib.Omega.{arith}
@@ -19,11 +19,12 @@ use Rattle.laws.specs.UsedLaws.{over-zeros, past-used}
 use Rattle.message.specs.declared.checks.Check.the-variants.{Right}
 use Rattle.table.specs.declared.Table.{Table}
 use Rattle.table.specs.Table.{startsOf, deltasOf, deltasAt, setIn}
+use Rattle.walk.specs.Walk.{LogOffsets}
 use Rattle.table_reading.specs.Reading.{IsTable}
 use Rattle.log_check.specs.Checking.{ChecksLog}
 use Rattle.image_log.specs.LogRead.{ReadsLog}
-use Rattle.judged.specs.Judging.{placesIn, Judges, Copies}
-use Rattle.judged.specs.JudgingLaws.{judged, other-log, unjudged}
+use Rattle.judged.specs.Judging.{placesIn}
+use Rattle.judged.specs.JudgingLaws.{judged, other-log, refused}
 use Rattle.judged.proofs.judging.judge.Statement.{statement}
 use Rattle.judged.proofs.judging.judge.Tie as tie
 
@@ -44,7 +45,7 @@ list-requires c κs = search needs
 
 check-listed-requires : tie.Need-check-listed-requires
 check-listed-requires c κs =
-    (start c .pre .0, is-table c, record { unjudged = c .list .ensures .unjudged; table = refl; fits = c .list .ensures .fits; log = is-read c; offsets = c .list .ensures .offsets })
+    (start c .pre .0, is-table c, record { unjudged = c .list .ensures .unjudged; table = refl; count = c .list .ensures .count; fits = c .list .ensures .fits; log = is-read c; offsets = c .list .ensures .offsets })
 
 enum-told : tie.Need-enum-told
 enum-told c = search needs
@@ -52,20 +53,13 @@ enum-told c = search needs
 enum-told-2 : tie.Need-enum-told-2
 enum-told-2 c = search needs
 
--- what is handed back where the buffer is no image
-refused : (l : tie.After-list) → isImage (start l .args .b .now) ≡ false → (copy : List ℕ) → Judges (start l .args .b .now) (l .list .result) × Copies (start l .args .b .now) copy (l .list .result .check)
-refused l h copy =
-    let b = start l .args .b .now in
-    let r = l .list .result in
-    (unjudged b r (l .list .ensures .unjudged) h, subst (Copies b copy) (sym (l .list .ensures .unjudged)) tt)
-
 returns : tie.Need-returns
 returns c =
     let k = c .before .before in
     let l = k .before in
     let r = l .list .result in
     let b = start l .args .b .now in
-    refused l (other-log b (r .table) (is-table l) (r .logged) (r .places) (is-read l) (subst (ChecksLog (setIn b (startsOf (r .table))) (placesIn r)) (c .enum-told2 .given .1) (k .check-listed .ensures))) _
+    refused b _ r (l .list .ensures .unjudged) (other-log b (r .table) (is-table l) (r .logged) (r .places) (is-read l) (subst (ChecksLog (setIn b (startsOf (r .table))) (placesIn r)) (c .enum-told2 .given .1) (k .check-listed .ensures)))
 
 -- the listed log is that of the set
 abbrev listed : tie.After-enum-told → tie.After-list
@@ -134,26 +128,30 @@ same-length : tie.Need-same-length
 same-length c = written (c .before) .rewrite .kept .0
 
 returns-2 : tie.Need-returns-2
-returns-2 c = let a = c .before in refused (listed (known (written a))) (compared a _ (not-true (a .equals-copy .result) (c .if1 .taken))) _
+returns-2 c =
+    let a = c .before in
+    let l = listed (known (written a)) in
+    refused (start l .args .b .now) _ (l .list .result) (l .list .ensures .unjudged) (compared a _ (not-true (a .equals-copy .result) (c .if1 .taken)))
 
 same-length-2 : tie.Need-same-length-2
-same-length-2 c = written (c .before .before .before) .rewrite .kept .0
+same-length-2 c = written (c .before .before) .rewrite .kept .0
 
 returns-3 : tie.Need-returns-3
 returns-3 c =
-    let a = c .before .before .before in
+    let a = c .before .before in
     let w = written a in
     let e = known w in
     let l = listed e in
     let b = start l .args .b .now in
-    let equal = not-false (a .equals-copy .result) (c .before .before .if1 .left) in (
+    let equal = not-false (a .equals-copy .result) (c .before .if1 .left) in (
       record {
         image = subst T (sym (compared a _ equal)) tt;
         table = start l .pre .2;
         log = subst (λ (t : Table). deltasAt (deltasOf b (startsOf t)) (placesIn (l .list .result)) ≡ logOf (setIn b (startsOf t))) (l .list .ensures .table) (log-is e);
         inside = l .list .ensures .log .inside;
+        count = l .list .ensures .count;
         fits = l .list .ensures .fits;
-        offsets = l .list .ensures .offsets;
+        offsets = subst (λ (n : ℕ). LogOffsets b (take n (start l .args .offsets))) (sym (l .list .ensures .count)) (start l .pre .1);
       },
       same→eq (take imageSize (w .rewrite .last .0)) b (subst T (sym equal ∙ a .equals-copy .ensures) tt),
     )

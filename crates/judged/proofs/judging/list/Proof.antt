@@ -1,5 +1,6 @@
--- The image's log is read as places of the table that its messages are in; its offsets are the first of the walk.
+-- The image's log is read as places of the table that its messages are in; its offsets are the first of the array.
 use mathlib.Core.Path.{_≡_, refl, sym, subst}
+use mathlib.Core.List.{List}
 use Prim.Native.Nat.{ℕ, _≤_}
 use lib.ListN.{length, take}
 use lib.Seq.{length-take-le}
@@ -7,8 +8,7 @@ use native.Mathlib.Omega.{arith}
 use borrow.Author.Needs.{needs}
 use Rattle.model.specs.Layout.{capacity}
 use Rattle.table.specs.Table.{startsOf}
-use Rattle.walk.specs.Walk.{OfLog}
-use Rattle.walk.specs.WalkLaws.{walk-log}
+use Rattle.walk.specs.Walk.{LogOffsets}
 use Rattle.image_log.specs.LogRead.{ReadsLog}
 use Rattle.judged.proofs.judging.list.Statement.{statement}
 use Rattle.judged.proofs.judging.list.Tie as tie
@@ -16,12 +16,16 @@ use Rattle.judged.proofs.judging.list.Tie as tie
 starts-size : (s : tie.Start) → length (s .args .table .starts) ≡ capacity
 starts-size s = search needs
 
-offsets-size : (s : tie.Start) → length (s .args .walk .offsets) ≡ capacity
+-- the array of offsets
+abbrev offsets : tie.Start → List ℕ
+offsets s = s .args .t2
+
+offsets-size : (s : tie.Start) → length (offsets s) ≡ capacity
 offsets-size s = search needs
 
 -- where the table is lent
 abbrev lent : tie.After-get-u16 → tie.Start
-lent c = c .before .before .before .before
+lent c = c .before .before .before
 
 get-u16-requires : tie.Need-get-u16-requires
 get-u16-requires c κs = search needs
@@ -38,31 +42,30 @@ slice-aggregate-read-places c =
     let t = s .args .table in
     sym (length-take-le (t .count) (t .starts) (omega (arith, starts-size s, s .pre .2 .fits)))
 
--- the log is no longer than the walk
+-- the log is no longer than the table
 few : (g : tie.After-get-u16) → g .get-u16 .result ≤ capacity
-few g = omega (arith, g .get-u16 .ensures .0, lent g .pre .1 .fits)
+few g = let t = lent g .pre .2 in omega (arith, g .get-u16 .ensures .0, t .count, t .fits)
 
 array-share-prefix-offsets : tie.Need-array-share-prefix-offsets
 array-share-prefix-offsets c = let g = c .before in omega (arith, few g, offsets-size (lent g))
 
-counted : (g : tie.After-get-u16) → length (take (g .get-u16 .result) (lent g .args .walk .offsets)) ≡ g .get-u16 .result
-counted g = length-take-le (g .get-u16 .result) (lent g .args .walk .offsets) (omega (arith, few g, offsets-size (lent g)))
+counted : (g : tie.After-get-u16) → length (take (g .get-u16 .result) (offsets (lent g))) ≡ g .get-u16 .result
+counted g = length-take-le (g .get-u16 .result) (offsets (lent g)) (omega (arith, few g, offsets-size (lent g)))
 
 slice-aggregate-read-places-2 : tie.Need-slice-aggregate-read-places-2
 slice-aggregate-read-places-2 c = sym (counted (c .before .before))
 
-of-log : (g : tie.After-get-u16) → OfLog (lent g .args .b .now) (take (g .get-u16 .result) (lent g .args .walk .offsets))
-of-log g =
+log-offsets : (g : tie.After-get-u16) → LogOffsets (lent g .args .b .now) (take (g .get-u16 .result) (offsets (lent g)))
+log-offsets g =
     let s = lent g in
-    let w = s .args .walk in
-    subst (λ (n : ℕ). OfLog (s .args .b .now) (take n (w .offsets))) (sym (g .get-u16 .ensures .0)) (walk-log (s .args .b .now) (w .offsets) (w .count) (s .pre .1))
+    subst (λ (n : ℕ). LogOffsets (s .args .b .now) (take n (offsets s))) (sym (g .get-u16 .ensures .0)) (s .pre .1)
 
 read-places-requires : tie.Need-read-places-requires
 read-places-requires c κs =
     let g = c .before .before in
     let s = lent g in
     let t = s .pre .2 in
-    record { sized = s .pre .0; holds = t .holds; messages = t .messages; log = of-log g; few = omega (arith, s .pre .1 .fits) }
+    record { sized = s .pre .0; holds = t .holds; messages = t .messages; log = log-offsets g; few = omega (arith, t .count, t .fits) }
 
 returns : tie.Need-returns
 returns c =
@@ -71,9 +74,10 @@ returns c =
     record {
       unjudged = refl;
       table = refl;
+      count = g .get-u16 .ensures .0;
       fits = few g;
       log = subst (λ (n : ℕ). ReadsLog (s .args .b .now) (startsOf (s .args .table)) n (c .read-places .result)) (counted g) (c .read-places .ensures);
-      offsets = of-log g;
+      offsets = log-offsets g;
     }
 
 pub list-spec : {M : Type 1} → statement M

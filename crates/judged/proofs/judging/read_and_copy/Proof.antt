@@ -1,20 +1,15 @@
 -- A buffer whose messages can't be walked, or not be read into a table, is no image; any other is judged.
-use mathlib.Core.Path.{_≡_, sym, subst}
-use mathlib.Core.Bool.{false}
-use mathlib.Core.List.{List}
-use Prim.Native.Nat.{ℕ, _≤_}
+use mathlib.Core.Path.{_≡_, sym}
+use Prim.Native.Nat.{_≤_}
 use native.Mathlib.Omega.{arith}
 use lib.ListN.{length}
 use lib.Seq.{length-take-le}
 use borrow.Author.Needs.{needs}
 use Rattle.model.specs.Layout.{capacity}
-use Rattle.model.specs.Image.{isImage}
-use Rattle.message.specs.declared.checks.Check.the-variants.{Wrong}
-use Rattle.walk.specs.Walk.{countIn, IsWalk, offsetsOf}
-use Rattle.walk.specs.WalkLaws.{walks-wrong, walks-right}
-use Rattle.judged.specs.declared.judging.Station.{Station}
-use Rattle.judged.specs.Judging.{Judges, Copies}
-use Rattle.judged.specs.JudgingLaws.{read-wrong, read-right, unjudged}
+use Rattle.model.specs.Image.{logCount}
+use Rattle.walk.specs.Walk.{countIn, Walkable, Offsets, offsetsOf}
+use Rattle.walk.specs.WalkLaws.{walks-wrong, walks-right, offsets-front}
+use Rattle.judged.specs.JudgingLaws.{read-wrong, read-right, refused}
 use Rattle.judged.proofs.judging.read_and_copy.Statement.{statement}
 use Rattle.judged.proofs.judging.read_and_copy.Tie as tie
 
@@ -41,24 +36,20 @@ enum-told-2 c = search needs
 refuse-requires : tie.Need-refuse-requires
 refuse-requires c κs = search needs
 
--- what is handed back where the buffer is no image
-refused : (b copy : List ℕ) (r : Station) → r .check ≡ Wrong → isImage b ≡ false → Judges b r × Copies b copy (r .check)
-refused b copy r e h = (unjudged b r e h, subst (Copies b copy) (sym e) tt)
-
 returns : tie.Need-returns
 returns c =
     let w = c .before .before .before in
     let b = start w .args .b .now in
     refused b _ (c .refuse .result) (c .refuse .ensures) (walks-wrong b (w .walk-messages .result) (w .walk-messages .ensures) (c .before .enum-told2 .given .1))
 
-is-walk : (e : tie.After-enum-told) → let w = walked e .walk-messages .result in let b = start (walked e) .args .b .now in (w .count ≡ countIn b) × IsWalk b (offsetsOf w)
-is-walk e = let w = walked e in walks-right (start w .args .b .now) (w .walk-messages .result) (w .walk-messages .ensures) (e .enum-told .given .1)
+is-walked : (e : tie.After-enum-told) → let w = walked e .walk-messages .result in let b = start (walked e) .args .b .now in Walkable b × (w .count ≡ countIn b) × Offsets b (countIn b) (offsetsOf w)
+is-walked e = let w = walked e in walks-right (start w .args .b .now) (w .walk-messages .result) (w .walk-messages .ensures) (e .enum-told .given .1)
 
 offsets-size : (w : tie.After-walk-messages) → length (w .walk-messages .result .offsets) ≡ capacity
 offsets-size w = search needs
 
 room : (e : tie.After-enum-told) → let w = walked e .walk-messages .result in w .count ≤ length (w .offsets)
-room e = omega (arith, is-walk e .0, is-walk e .1 .fits, offsets-size (walked e))
+room e = omega (arith, is-walked e .1, is-walked e .0 .fits, offsets-size (walked e))
 
 array-share-prefix-offsets : tie.Need-array-share-prefix-offsets
 array-share-prefix-offsets c = room (c .before)
@@ -70,7 +61,7 @@ slice-aggregate-read-table c =
     sym (length-take-le (w .count) (w .offsets) (room e))
 
 read-table-requires : tie.Need-read-table-requires
-read-table-requires c κs = let e = c .before .before in (start (walked e) .pre .0, is-walk e .1)
+read-table-requires c κs = let e = c .before .before in (start (walked e) .pre .0, is-walked e .0, is-walked e .2)
 
 enum-told-3 : tie.Need-enum-told-3
 enum-told-3 c = search needs
@@ -91,9 +82,11 @@ returns-2 c =
 judge-requires : tie.Need-judge-requires
 judge-requires c κs =
     let a = c .before .before .before .before in
-    let s = start (walked (right a)) in
+    let w = walked (right a) in
+    let s = start w in
     let r = a .read-table .result in
-    (s .pre .0, is-walk (right a) .1, read-right (s .args .b .now) (r .check) (r .table) (a .read-table .ensures) (c .before .enum-told3 .given .1), s .pre .1)
+    let offsets = offsets-front (s .args .b .now) (w .walk-messages .result .offsets) (w .walk-messages .result .count) (logCount (s .args .b .now)) (is-walked (right a) .2) (omega arith) in
+    (s .pre .0, offsets, read-right (s .args .b .now) (r .check) (r .table) (a .read-table .ensures) (c .before .enum-told3 .given .1), s .pre .1)
 
 same-length : tie.Need-same-length
 same-length c = search needs

@@ -17,7 +17,6 @@ use Rattle.order.specs.TestLaws.{true-T}
 use Rattle.message.specs.Check.{right}
 use Rattle.judged.specs.Judging.{IsStation}
 use Rattle.judged.specs.JudgingLaws.{judges-right, judgement}
-use Rattle.log_reader.specs.declared.finding.Found.the-variants as found
 use Rattle.log_reader.specs.Finding.{startingAt, IsMessage, Finds}
 use Rattle.log_reader.specs.FindingLaws.{next-told}
 use Rattle.log_reader.proofs.finding.next_part.Statement.{statement}

@@ -3,12 +3,12 @@ use mathlib.Core.Path.{_≡_, sym, _∙_, ap}
 use mathlib.Core.Bool.{true, not}
 use Prim.Native.Nat.{_+_, _≤_, _<_}
 use native.Mathlib.Omega.{arith}
-use lib.ListN.{length, getD, length-take}
+use lib.ListN.{length, getD}
 use lib.Dec.{eqb, leb}
 use borrow.Author.Needs.{needs}
 use borrow.Author.Tests.{eqb-true}
 use Rattle.model.specs.Layout.{headerSize, imageSize, capacity}
-use Rattle.model.specs.Image.{isImage, logCount, offsetIn}
+use Rattle.model.specs.Image.{isImage, logCount, messageOffset}
 use Rattle.message.specs.Check.{right}
 use Rattle.judged.specs.Judging.{IsStation}
 use Rattle.judged.specs.JudgingLaws.{judges-right, judgement, place-offset}
@@ -107,9 +107,7 @@ offsets-size : (j : tie.After-read-station) → length (j .read-station .result 
 offsets-size j = search needs
 
 small : (c : tie.After-enum-told5) → told c .args .place < capacity
-small c =
-    let r = judged (c .before .before) .read-station .result in
-    omega (arith, within c, station c .offsets .count, length-take (r .logged) (r .offsets), station c .fits)
+small c = omega (arith, within c, station c .count, station c .fits)
 
 mul-offset : tie.Need-mul-offset
 mul-offset c = omega (arith, small (c .before))
@@ -120,10 +118,10 @@ array-read-offset c = let t = c .before in omega (arith, small t, offsets-size (
 cast-offset : tie.Need-cast-offset
 cast-offset c = search needs
 
-offset-is : (c : tie.After-enum-told5) → let a = told c .args in getD (judged (c .before .before) .read-station .result .offsets) (a .place) 0 ≡ offsetIn (a .image .now) (a .place)
-offset-is c = let a = told c .args in place-offset (a .image .now) (judged (c .before .before) .read-station .result) (station c .offsets) (a .place) (within c)
+offset-is : (c : tie.After-enum-told5) → let a = told c .args in getD (judged (c .before .before) .read-station .result .offsets) (a .place) 0 ≡ messageOffset (a .image .now) (a .place)
+offset-is c = let a = told c .args in place-offset (a .image .now) (judged (c .before .before) .read-station .result) (station c) (a .place) (within c)
 
-inside : (c : tie.After-enum-told5) → let a = told c .args in offsetIn (a .image .now) (a .place) + headerSize ≤ length (a .image .now)
+inside : (c : tie.After-enum-told5) → let a = told c .args in messageOffset (a .image .now) (a .place) + headerSize ≤ length (a .image .now)
 inside c =
     let a = told c .args in
     let j = judged (c .before .before) in

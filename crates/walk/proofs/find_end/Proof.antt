@@ -12,11 +12,11 @@ use Rattle.parse.proofs.VerdictTags.{not-passed}
 use Rattle.table.specs.Table.{messageFrom}
 use Rattle.walk.specs.EndLaws.{end-fails, end-passes, short-fails, past-end-fails}
 use borrow.Author.Needs.{needs}
-use Rattle.walk.proofs.checked_end.Statement.{statement}
-use Rattle.walk.proofs.checked_end.Tie as tie
+use Rattle.walk.proofs.find_end.Statement.{statement}
+use Rattle.walk.proofs.find_end.Tie as tie
 
 -- the call as it began, from where the end is known
-abbrev begun : tie.After-end-of → tie.Start
+abbrev begun : tie.After-add-length → tie.Start
 begun e = e .before .before .before
 
 sub-if1 : tie.Need-sub-if1
@@ -25,8 +25,8 @@ sub-if1 c = search needs
 returns : tie.Need-returns
 returns c = let a = c .before .before .args in end-fails (a .b .now) (a .at) (short-fails (a .b .now) (a .at) (omega arith))
 
-end-of-requires : tie.Need-end-of-requires
-end-of-requires c κs = search needs
+add-length-requires : tie.Need-add-length-requires
+add-length-requires c κs = search needs
 
 returns-2 : tie.Need-returns-2
 returns-2 c = let a = begun (c .before) .args in end-fails (a .b .now) (a .at) (past-end-fails (a .b .now) (a .at) (omega arith))
@@ -47,7 +47,7 @@ enum-told : tie.Need-enum-told
 enum-told c = search needs
 
 -- where the end is known, from where the message is checked; and the call as it began
-abbrev ended : tie.After-check-message → tie.After-end-of
+abbrev ended : tie.After-check-message → tie.After-add-length
 ended p = p .before .before .before
 
 abbrev start : tie.After-check-message → tie.Start
@@ -57,7 +57,7 @@ start p = begun (ended p)
 code-here : (c : tie.After-check-message) → verdictCode (c .check-message .result) ≡ lowestCode (messageConditions (messageFrom (start c .args .b .now) (start c .args .at)))
 code-here c =
     let a = start c .args in
-    let n = ended c .end-of in
+    let n = ended c .add-length in
     let e : n .result - a .at ≡ field (a .b .now) (a .at + lengthAt) 2 = omega (arith, n .ensures) in
     subst (λ (x : ℕ). verdictCode (c .check-message .result) ≡ lowestCode (messageConditions (take x (drop (a .at) (a .b .now))))) e (c .check-message .ensures)
 
@@ -72,15 +72,15 @@ returns-4 c =
     let checked = c .before .before in
     let a = start checked .args in
     let t = code-passes (messageFrom (a .b .now) (a .at)) (sym (ap verdictCode (c .enum-told .given .1)) ∙ code-here checked) in
-    ended checked .end-of .ensures ∙ sym (end-passes (a .b .now) (a .at) t)
+    ended checked .add-length .ensures ∙ sym (end-passes (a .b .now) (a .at) t)
 
-pub checked-end-spec : {M : Type 1} → statement M
-checked-end-spec =
+pub find-end-spec : {M : Type 1} → statement M
+find-end-spec =
     tie.close
     (tie.spec
     sub-if1
     returns
-    end-of-requires
+    add-length-requires
     returns-2
     sub-check-message
     part-check-message-start
