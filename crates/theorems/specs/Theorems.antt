@@ -1,6 +1,6 @@
 -- The laws of the definitions, each as one statement. Their proofs stand in the files beside this one.
 use mathlib.Core.Path.{_≡_, refl, sym, _∙_, ap}
-use mathlib.Core.Logic.{_↔_}
+use mathlib.Core.Logic.{_↔_, _⊎_, inl, inr, ⊎-elim}
 use mathlib.Core.Option.{some}
 use mathlib.Core.List.{List, [], _++_, map}
 use Prim.Native.Nat.{ℕ, _+_, _≤_, _<_, max}
@@ -9,11 +9,12 @@ use lib.ListN.{length, take, drop, getD}
 use lib.Dec.{T}
 use lib.IntN.{ℤ}
 use Rattle.model.specs.Lists.{_∈_, greatest}
+use Rattle.model.specs.Bytes.{join}
 use Rattle.model.specs.Layout.{imageSize, sequencesRoom, textRoom}
 use Rattle.model.specs.Message.{Message, blockOf}
 use Rattle.model.specs.Order.{State, find, sequencesOf, needs, effectiveBlock, keyOf, less, Executable, Grounded, IsLog, logOf, heldOf}
 use Rattle.model.specs.Setpoints.{startValues, setpointsOf}
-use Rattle.model.specs.Image.{imageOf, Valid, IsImage, stateIn, valuesIn, logCount, messagesStartIn, logIn, messagesIn, walk, offsetIn, usedIn, isImage}
+use Rattle.model.specs.Image.{imageOf, Valid, IsImage, stateIn, valuesIn, logCount, messagesStartIn, logIn, messagesIn, walk, messageOffset, usedCount, isImage}
 use Rattle.model.specs.Steps.{Step, common, undosOf, executionsOf, stepsOf, recordsBetween, recordsBytes, readRecords, Plays, Standing, PlaysPairs}
 use Rattle.model.specs.Codes.{lowestCode, deliverConditions, composeConditions, emptyConditions, logMessageConditions, setpointConditions, readSequencesConditions, writeSequencesConditions}
 use Rattle.model.specs.Calls.{deliver, compose, messageAt, convertedAnswer, front, readSequences, writeSequences}
@@ -27,7 +28,7 @@ use Rattle.laws.specs.LogLaws.{key-order, keys-differ, log-is, log-only, log-of
 use Rattle.laws.specs.EffectiveLaws.{effective-is, effective-only}
 use Rattle.wire_laws.specs.RecordLaws.{records-steps}
 use Rattle.laws.specs.ImageLaws.{image-size, state-back, log-back, image-declared, image-state}
-use Rattle.laws.specs.OffsetLaws.{walk-offset, message-at-offset, log-offset, message-here, log-full, offset-used}
+use Rattle.laws.specs.OffsetLaws.{offset-join, walk-offset, message-at-offset, message-placed, log-count, log-offset, message-here, log-full, offset-used}
 use Rattle.laws.specs.ValueLaws.{values-back}
 use Rattle.laws.specs.RecordRange.{records-back}
 use Rattle.laws.specs.PairLaws.{standingIn, state-pairs-play, pairs-unique}
@@ -168,20 +169,27 @@ pub text-law : TextLaw
 text-law = record { written-read = trips.written-read; read-written = trips.read-written }
 
 -- 9. At every place of a walk over a buffer's messages the value that it carries is the offset of the first message plus the lengths of
--- all messages before the place. In an image the message of the place stands there, of the log it is the one that the reader finds there,
--- and past the last message are the bytes used.
+-- all messages before the place; up to the end of the log these are messages of the log alone. In an image the message of the place
+-- stands there, of the log it is the one that the reader finds there, at other offsets it finds none, and past the last message are the
+-- bytes used.
 pub record OffsetLaw (b : List ℕ) : Type 0 where
-  pub carried : (k : ℕ) → k ≤ length (messagesIn b) → getD (walk (messagesStartIn b) (messagesIn b)) k 0 ≡ offsetIn b k
-  pub here : T (isImage b) → (k : ℕ) → k < length (messagesIn b) → let m = getD (messagesIn b) k [] in take (length m) (drop (offsetIn b k) b) ≡ m
-  pub found : T (isImage b) → (k : ℕ) → k < logCount b → messageAt (messagesStartIn b) (logIn b) (offsetIn b k) ≡ getD (logIn b) k []
-  pub used : T (isImage b) → offsetIn b (length (messagesIn b)) ≡ usedIn b
+  pub carried : (k : ℕ) → k ≤ length (messagesIn b) → getD (walk (messagesStartIn b) (messagesIn b)) k 0 ≡ messageOffset b k
+  pub of-log : (k : ℕ) → k ≤ logCount b → messageOffset b k ≡ messagesStartIn b + length (join (take k (logIn b)))
+  pub here : T (isImage b) → (k : ℕ) → k < length (messagesIn b) → let m = getD (messagesIn b) k [] in take (length m) (drop (messageOffset b k) b) ≡ m
+  pub found : T (isImage b) → (k : ℕ) → k < logCount b → messageAt (messagesStartIn b) (logIn b) (messageOffset b k) ≡ getD (logIn b) k []
+  pub only : (offset : ℕ) → (messageAt (messagesStartIn b) (logIn b) offset ≡ []) ⊎ ((k : ℕ) × (k < logCount b) × (offset ≡ messageOffset b k))
+  pub used : T (isImage b) → messageOffset b (length (messagesIn b)) ≡ usedCount b
 
 pub offset-law : (b : List ℕ) → OffsetLaw b
 offset-law b = record {
   carried = walk-offset (messagesStartIn b) (messagesIn b);
+  of-log = λ k h. sym (log-offset b k h) ∙ offset-join (messagesStartIn b) (logIn b) k;
   here = message-here b;
   found = λ image k h. ap (messageAt (messagesStartIn b) (logIn b)) (sym (log-offset b k (omega arith)))
       ∙ message-at-offset (messagesStartIn b) (logIn b) (log-full b image) k;
+  only = λ offset. ⊎-elim inl (λ p.
+      let inside : p .place < logCount b = omega (arith, p .inside, log-count b) in
+      inr (p .place, inside, p .here ∙ log-offset b (p .place) (omega arith))) (message-placed (messagesStartIn b) (logIn b) offset);
   used = offset-used b;
 }
 
