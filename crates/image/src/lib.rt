@@ -27,7 +27,7 @@ pub fn write_used(out: &mut [u8], pool: &[u8], starts: &[u16], places: &[u8]) ->
     let held = held_places(starts.len(), places);
     let others = held.places;
     let count = held.count;
-    let start = messages_start();
+    let start = messages_start(pool);
     let used = put_messages(out, pool, starts, places, &others[0..count], start);
     put_header(
         out,

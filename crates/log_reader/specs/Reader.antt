@@ -9,6 +9,10 @@ use Rattle.log_reader.specs.declared.reader.LogReader.{LogReader}
 abbrev pub readerOf : LogReader → model.Reader
 readerOf r = record { image = now (r .image); offset = r .offset }
 
+-- where a reader of a buffer starts, by the definition
+abbrev pub firstOffset : List ℕ → ℕ
+firstOffset b = model.start b .offset
+
 abbrev pub Starts : List ℕ → LogReader → Type 0
 Starts b r = readerOf r ≡ model.start b
 

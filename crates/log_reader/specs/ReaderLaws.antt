@@ -18,13 +18,13 @@ use Rattle.laws.specs.OffsetLaws.{Placed, message-placed, log-count, log-offset
 use Rattle.reading.specs.ReadCodes.{all-right}
 use Rattle.reading.specs.PartLaws.{part-lies, part-size}
 use Rattle.log_reader.specs.declared.reader.LogReader.{LogReader}
-use Rattle.log_reader.specs.Reader.{Starts, readOf, Reads}
+use Rattle.log_reader.specs.Reader.{firstOffset, Starts, readOf, Reads}
 
 -- what comes next for a reader, by the definition
 abbrev pub nextOf : List ℕ → ℕ → Message
 nextOf b offset = nextMessage (lowestCode (readConditions b)) b offset
 
-pub starts-at : (r : LogReader) → r .offset ≡ messagesStartIn (now (r .image)) → Starts (now (r .image)) r
+pub starts-at : (r : LogReader) → r .offset ≡ firstOffset (now (r .image)) → Starts (now (r .image)) r
 unfolding model.start
 starts-at r e = ap (λ (n : ℕ). record { image = now (r .image); offset = n }) e
 

@@ -1,11 +1,19 @@
-// The reader: a struct that holds the lent image. Its functions are thin, and the work is `next_part`.
+// The reader: a struct that holds the lent image. Its functions are thin, and the work is `first_offset` and `next_part`.
 use crate::finding::next_part;
 use table::start::messages_start;
-ghost use Rattle.log_reader.specs.Reader.{Starts, Reads};
+ghost use mathlib.Core.Path.{_≡_};
+ghost use Rattle.log_reader.specs.Reader.{firstOffset, Starts, Reads};
 
 pub struct LogReader<'a> {
     pub image: &'a [u8],
     pub offset: usize,
+}
+
+// Where a reader of a buffer starts.
+fn first_offset(image: &[u8]) -> usize
+    ensures { λ r. ⌜ r ≡ firstOffset (now (image .entry)) ⌝ }
+{
+    messages_start(image)
 }
 
 // A reader at the first message of the log.
@@ -14,7 +22,7 @@ pub fn start<'a>(image: &'a [u8]) -> LogReader<'a>
 {
     LogReader {
         image,
-        offset: messages_start(),
+        offset: first_offset(image),
     }
 }
 

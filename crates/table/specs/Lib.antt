@@ -7,3 +7,4 @@ pub mod InsertLaws
 pub mod Shifting
 pub mod ShiftingLaws
 pub mod PoolLaws
+pub mod StartLaws

@@ -2,14 +2,11 @@
 use layout::SETPOINTS_START;
 use layout::VALUES_SIZE;
 ghost use mathlib.Core.Path.{_≡_};
-ghost use mathlib.Core.List.{List};
-ghost use Prim.Native.Nat.{ℕ};
-ghost use Rattle.model.specs.Order.{State};
-ghost use Rattle.model.specs.Image.{messagesStart, messagesStartIn};
+ghost use Rattle.model.specs.Image.{messagesStartIn};
 
-// The same for every state, and for every buffer.
-pub fn messages_start() -> usize
-    ensures { λ r. ⌜ ((S : State) → r ≡ messagesStart S) × ((b : List ℕ) → r ≡ messagesStartIn b) ⌝ }
+// Of the image that a pool begins with.
+pub fn messages_start(pool: &[u8]) -> usize
+    ensures { λ r. ⌜ r ≡ messagesStartIn (now (pool .entry)) ⌝ }
 {
     SETPOINTS_START + VALUES_SIZE
 }

@@ -96,7 +96,7 @@ pub fn walk_messages(b: &[u8]) -> Walk
     }
     let mut offsets = [0u16; CAPACITY];
     let mut count = 0;
-    let first = messages_start();
+    let first = messages_start(b);
     let mut at = first;
     while count < total {
         let end = find_end(b, at);

@@ -10,6 +10,7 @@ use Rattle.model.specs.Order.{State}
 use Rattle.model.specs.Image.{messagesStart, messagesOf}
 use Rattle.laws.specs.ImageLaws.{messages-room}
 use Rattle.table.specs.Table.{setIn}
+use Rattle.table.specs.StartLaws.{start-in}
 use Rattle.image_sections.specs.LogPlaces.{othersBelow, LogPlaces}
 use Rattle.image_sections.specs.LogPlaceLaws.{log-inside, log-count, table-count, log-fits, log-values}
 use Rattle.image_sections.specs.HeldLaws.{others-length, others-count}
@@ -54,7 +55,9 @@ others-are h = ap (λ (n : ℕ). take n (h .held-places .result .places)) (sub-z
 
 -- there is room for the messages from their start on
 start-is : (m : tie.After-messages-start) → m .messages-start .result ≡ messagesStart (set (found m))
-start-is m = m .messages-start .ensures .0 (set (found m))
+start-is m =
+    let a = begun (found m) .args in
+    m .messages-start .ensures ∙ start-in (a .pool .now) (a .starts .now)
 
 room : (m : tie.After-messages-start) → m .messages-start .result + length (messagesOf (set (found m))) ≤ imageSize
 room m = omega (arith, start-is m, messages-room (set (found m)) (logged (found m) .holds))

@@ -54,7 +54,7 @@ messages-start-requires c κs = search needs
 loop-holds : tie.Need-loop-holds Inv-loop μ-loop
 loop-holds c =
     let b = begun c .args .b .now in
-    (omega arith, c .before .before .count-messages .ensures, omega arith, refl, walking-first b _ (begun c .pre) (c .messages-start .ensures .1 b))
+    (omega arith, c .before .before .count-messages .ensures, omega arith, refl, walking-first b _ (begun c .pre) (c .messages-start .ensures))
 
 find-end-requires : tie.Need-find-end-requires Inv-loop μ-loop
 find-end-requires c κs = (start (c .before) .pre, c .before .loop .inv .4 .inside)

@@ -1,7 +1,7 @@
--- The sum is the definitions', of every state and of every buffer.
+-- The sum is the definition's, of every buffer.
 use mathlib.Core.Path.{refl}
 use borrow.Author.Needs.{needs}
-use Rattle.model.specs.Image.{messagesStart, messagesStartIn}
+use Rattle.model.specs.Image.{messagesStartIn}
 use Rattle.table.proofs.start.messages_start.Statement.{statement}
 use Rattle.table.proofs.start.messages_start.Tie as tie
 
@@ -9,8 +9,8 @@ add-result : tie.Need-add-result
 add-result c = search needs
 
 returns : tie.Need-returns
-unfolding messagesStart messagesStartIn
-returns c = (λ S. refl, λ b. refl)
+unfolding messagesStartIn
+returns c = refl
 
 pub messages-start-spec : {M : Type 1} → statement M
 messages-start-spec = tie.close (tie.spec add-result returns)
