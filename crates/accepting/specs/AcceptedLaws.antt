@@ -9,10 +9,11 @@ use Rattle.model.specs.Layout.{imageSize, capacity}
 use Rattle.model.specs.Lists.{_∈_}
 use Rattle.model.specs.Message.{Message, sequenceOf}
 use Rattle.model.specs.Order.{State, add}
-use Rattle.model.specs.Image.{usedOf, stateIn}
+use Rattle.model.specs.Image.{usedOf, originIn, stateIn}
 use Rattle.model.specs.Calls.{Delivered, acceptedAnswer}
 use Rattle.laws.specs.LogLaws.{log-length}
 use Rattle.laws.specs.ImageLaws.{image-own, own-valid}
+use Rattle.laws.specs.OriginLaws.{origin-front}
 use Rattle.laws.specs.UsedLaws.{used-grows}
 use Rattle.wire_laws.specs.MessageLaws.{passes-sized, sized-range}
 use Rattle.table.specs.declared.Table.{Table}
@@ -23,7 +24,7 @@ use Rattle.table.specs.Shifting.{shifted}
 use Rattle.steps.specs.PlacedLogs.{IsLogOf, log-shifted}
 use Rattle.judged.specs.declared.judging.Station.{Station}
 use Rattle.judged.specs.Judging.{placesIn}
-use Rattle.accepting.specs.DeliveryPool.{old-deltas, new-holds, new-set}
+use Rattle.accepting.specs.DeliveryPool.{pool-front, old-deltas, new-holds, new-set}
 use Rattle.accepting.specs.Accepting.{Updatable, Updates, Acceptable}
 
 module _ (b : List ℕ) (m : Message) (room : ℕ) (before : List ℕ) (station : Station) (p : ℕ) (h : Acceptable b m room before station p)
@@ -66,6 +67,9 @@ module _ (b : List ℕ) (m : Message) (room : ℕ) (before : List ℕ) (station 
         ap₂ (λ (n : ℕ) (l : List ℕ). take (n + length m) l) (h .size) filled ∙ take-paste before imageSize m (length m) (omega (arith, message-fits)) (omega arith)
         ∙ ap₂ _++_ (h .pooled) (take-length m)
 
+    origins : originIn pool ≡ originIn b
+    origins = origin-front b pool (h .size) (h .judged .image) (pool-front pool b m both)
+
     starts-few : length starts < capacity
     starts-few = omega (arith, h .few, used)
 
@@ -73,10 +77,10 @@ module _ (b : List ℕ) (m : Message) (room : ℕ) (before : List ℕ) (station 
     next-starts = inserted ∙ ap (λ (n : ℕ). insertAt p n starts) (sym (h .size))
 
     holds-next : Holds pool (startsOf next)
-    holds-next = subst (λ (s : List ℕ). Holds pool s) (sym next-starts) (new-holds pool b m both starts (h .judged .table .holds) (h .right) p (h .absent) starts-few)
+    holds-next = subst (λ (s : List ℕ). Holds pool s) (sym next-starts) (new-holds pool b m both starts (h .judged .table .holds) (h .right) p (h .absent) starts-few origins)
 
     set-next : setIn pool (startsOf next) ≡ add m (setIn b starts)
-    set-next = ap (setIn pool) next-starts ∙ new-set pool b m both starts (h .judged .table .holds) (h .right) p (h .absent) starts-few
+    set-next = ap (setIn pool) next-starts ∙ new-set pool b m both starts (h .judged .table .holds) (h .right) p (h .absent) starts-few origins
 
     deltas-same : deltasOf pool starts ≡ deltasOf b starts
     deltas-same = old-deltas pool b m both starts (h .judged .table .holds) (h .right) p (h .absent) starts-few

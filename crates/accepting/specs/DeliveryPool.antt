@@ -8,14 +8,15 @@ use lib.Seq.{take-take, take-add, take-at}
 use lib.Dec.{T}
 use Rattle.model.specs.Layout.{capacity}
 use Rattle.model.specs.Message.{Message, sequenceOf, passes}
-use Rattle.model.specs.Order.{stateOf, add, insert}
+use Rattle.model.specs.Order.{holding, add, insert}
+use Rattle.model.specs.Image.{originIn}
 use Rattle.table.specs.Table.{messageFrom, deltasOf, setIn, Holds, insertAt}
 use Rattle.table.specs.Places.{IsAbsent}
 use Rattle.table.specs.PoolLaws.{deltas-front, holds-front, message-placed}
 use Rattle.table.specs.InsertLaws.{insert-deltas, insert-holds}
 
 module _ (pool b : List ℕ) (m : Message) (both : take (length b + length m) pool ≡ b ++ m) where
-  pool-front : take (length b) pool ≡ b
+  pub pool-front : take (length b) pool ≡ b
   pool-front = sym (take-take (length b) (length b + length m) pool (omega arith)) ∙ ap (take (length b)) both ∙ take-at b m (length b) refl
 
   pool-message : take (length m) (drop (length b) pool) ≡ m
@@ -38,8 +39,8 @@ module _ (pool b : List ℕ) (m : Message) (both : take (length b + length m) po
       after = λ k h q. subst (λ (l : List Message). sequenceOf m < sequenceOf (getD l k [])) (sym old-deltas) (absent .after k h q);
     })
 
-    pub new-holds : Holds pool (insertAt p (length b) starts)
-    new-holds = insert-holds pool (length b) p starts (holds-front b pool pool-front starts holds) absent-too (subst (λ (x : Message). T (passes x)) (sym new-message) right) few
+    pub new-holds : originIn pool ≡ originIn b → Holds pool (insertAt p (length b) starts)
+    new-holds origins = insert-holds pool (length b) p starts (holds-front b pool pool-front starts holds origins) absent-too (subst (λ (x : Message). T (passes x)) (sym new-message) right) few
 
-    pub new-set : setIn pool (insertAt p (length b) starts) ≡ add m (setIn b starts)
-    new-set = ap stateOf (insert-deltas pool (length b) p starts absent-too ∙ ap₂ insert new-message old-deltas)
+    pub new-set : originIn pool ≡ originIn b → setIn pool (insertAt p (length b) starts) ≡ add m (setIn b starts)
+    new-set origins = ap₂ holding origins (insert-deltas pool (length b) p starts absent-too ∙ ap₂ insert new-message old-deltas)

@@ -29,7 +29,7 @@ use Rattle.ready.specs.ReadyLaws.{ready-is, block-is, idle-stuck}
 use Rattle.closure.specs.Closing.{Closing, Tried, Passing, Passed, Closed}
 
 -- ---- marks and blocks with one more
-module _ (S : State) (right : RightSet (S .deltas)) (i : ℕ) (inside : i < length (S .deltas)) where
+module _ (S : State) (right : RightSet S) (i : ℕ) (inside : i < length (S .deltas)) where
   abbrev names : List ℕ
   names = sequencesOf (S .deltas)
 
@@ -89,7 +89,7 @@ module _ (S : State) (right : RightSet (S .deltas)) (i : ℕ) (inside : i < leng
   }
 
 -- nothing is placed
-pub placing-none : (S : State) → RightSet (S .deltas) → Placing S (replicate marksSize 0) []
+pub placing-none : (S : State) → RightSet S → Placing S (replicate marksSize 0) []
 placing-none S right = record {
   listing = tt;
   received = λ m k. absurd (List·Memᴰ·not-nil k);
@@ -100,7 +100,7 @@ placing-none S right = record {
   };
 }
 
-module _ (S : State) (right : RightSet (S .deltas)) where
+module _ (S : State) (right : RightSet S) where
   pub closing-none : (blocks order : List ℕ) → length blocks ≡ marksSize → length order ≡ capacity → Closing S (replicate marksSize 0) blocks order 0
   closing-none blocks order p q = record {
     size = q;

@@ -24,7 +24,7 @@ greatest-places : (f : ℕ → ℕ) (g : Message → ℕ) (l : List Message) (pl
 greatest-places f g l [] h = refl
 greatest-places f g l (p ∷ places) h = ap₂ max (h p (List·Memᴰ·head refl)) (greatest-places f g l places (λ i k. h i (List·Memᴰ·tail k)))
 
-module _ (S : State) (right : RightSet (S .deltas)) (places : List ℕ) (below : AllBelow (length (S .deltas)) places) (log : deltasAt (S .deltas) places ≡ logOf S) where
+module _ (S : State) (right : RightSet S) (places : List ℕ) (below : AllBelow (length (S .deltas)) places) (log : deltasAt (S .deltas) places ≡ logOf S) where
   -- each place's block is its delta's effective block, since what is logged is executable
   pub highest-effective : (rows counts : List ℕ) → RowsRight S rows counts → (blocks order : List ℕ) (count : ℕ) → Closed S rows counts blocks order count
       → greatest (λ i. getD blocks i 0) places ≡ greatest (effectiveBlock S) (logOf S)
@@ -36,7 +36,7 @@ module _ (S : State) (right : RightSet (S .deltas)) (places : List ℕ) (below :
           closed-block S right rows counts filled blocks order count closed i (below i k) (log-executable S (right .ascends) (getD (S .deltas) i []) (getD-∈ (S .deltas) i [] (below i k)) .0 logged)
 
 -- ---- the limit
-module _ (S : State) (right : RightSet (S .deltas)) where
+module _ (S : State) (right : RightSet S) where
   find-block : (l : List Message) → ((m : Message) → m ∈ l → T (passes m)) → (s : ℕ) → blockOf (find l s) ≤ fieldLimit
   find-block [] h s = omega arith
   find-block (m ∷ l) h s = go (eqb (sequenceOf m) s) (block-small m (h m (List·Memᴰ·head refl))) (find-block l (λ x k. h x (List·Memᴰ·tail k)) s)

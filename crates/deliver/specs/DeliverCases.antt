@@ -6,7 +6,7 @@ use Prim.Native.Nat.{ℕ, zero, suc}
 use lib.ListN.{length}
 use lib.Dec.{T}
 use Rattle.model.specs.Message.{Message, sequenceOf, layoutRight, numbersRight, dependenciesRight, contentRight}
-use Rattle.model.specs.Order.{State, stateOf, add, sequencesOf, logOf}
+use Rattle.model.specs.Order.{State, holding, add, sequencesOf, logOf}
 use Rattle.model.specs.Setpoints.{startValues}
 use Rattle.model.specs.Image.{imageOf, Valid, stateIn, isImage}
 use Rattle.model.specs.Codes.{Conditions, lowestCode, messageConditions, wrongSize, smallSteps, present, conflicts, full}
@@ -113,7 +113,7 @@ repeat-is b m steps image t e = accepted-is b m steps e ∙ ap (λ (R : State). 
     valid = own-valid b image
 
     same-state : add m S ≡ S
-    same-state = ap stateOf (insert-present m (S .deltas) (valid .ascends) (has→∈ (sequenceOf m) (sequencesOf (S .deltas)) t))
+    same-state = ap (holding (S .origin)) (insert-present m (S .deltas) (valid .ascends) (has→∈ (sequenceOf m) (sequencesOf (S .deltas)) t))
 
     unchanged : acceptedAnswer S S steps ≡ record { code = 0; undos = 0; executions = 0; image = b; steps = steps }
     unchanged =

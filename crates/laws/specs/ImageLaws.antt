@@ -14,10 +14,11 @@ use Rattle.model.specs.Lists.{_∈_, every, same}
 use Rattle.model.specs.Bytes.{bytes, field, join, word}
 use Rattle.model.specs.Layout.{lengthAt, valueSize, tagCount, valuesSize, imageSize, setpointsStart, capacity, messageRoom}
 use Rattle.model.specs.Message.{Message, commandsOf, passes}
-use Rattle.model.specs.Order.{State, stateOf, logOf, heldOf}
+use Rattle.model.specs.Order.{State, holding, logOf, heldOf}
 use Rattle.model.specs.Setpoints.{startValues, apply, runCommand, runCommands, runDelta, runLog, setpointsOf}
 use Rattle.model.specs.Image.{messagesStart, messagesOf, valuesOf, headerOf, sectionsOf, usedOf, imageOf, Valid, IsImage, cut, logCount, heldCount, messagesStartIn, logIn, messagesIn, setOf, stateIn, isImage}
 use Rattle.order.specs.TestLaws.{and-l, and-r, and-i, every-∈, ∈-every, same-refl, same→eq}
+use Rattle.laws.specs.OriginLaws.{origin-back}
 use Rattle.laws.specs.SetLaws.{setOf-ascending, setOf-same}
 use Rattle.wire_laws.specs.BytesLaws.{length-bytes, number-bytes, length-join, section-at, field-append, join-append}
 use Rattle.laws.specs.LogLaws.{log-received, log-held, log-length, held-length, places}
@@ -142,7 +143,7 @@ module _ (S : State) (valid : Valid S) where
 
   -- the image reads back to its state
   pub state-back : stateIn (imageOf S) ≡ S
-  state-back = ap stateOf (ap setOf messages-back ∙ setOf-same (S .deltas) (logOf S ++ heldOf S) (valid .ascends) (log-held S (valid .ascends)))
+  state-back = ap₂ holding (origin-back S) (ap setOf messages-back ∙ setOf-same (S .deltas) (logOf S ++ heldOf S) (valid .ascends) (log-held S (valid .ascends)))
 
   -- the messages of a valid state fit behind what stands before them
   pub messages-room : messagesStart S + length (messagesOf S) ≤ imageSize

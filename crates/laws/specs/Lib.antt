@@ -10,3 +10,4 @@ pub mod UsedLaws
 pub mod ValueLaws
 pub mod RecordRange
 pub mod PairLaws
+pub mod OriginLaws

@@ -1,6 +1,6 @@
 -- The log and the held ones: the computed log is the declared one and the only one, a received delta is in it exactly if it is
 -- executable, held are the others. A state's deltas ascend by sequence throughout.
-use mathlib.Core.Path.{_≡_, sym, _∙_, ap, subst}
+use mathlib.Core.Path.{_≡_, sym, _∙_, ap, ap₂, subst}
 use mathlib.Core.Logic.{_⊎_, inl, inr, ⊎-elim, _↔_}
 use mathlib.Core.Bool.{Bool, not}
 use mathlib.Core.List.{List, [], _++_, List·Memᴰ·not-nil, List·Memᴰ·append-cases, Memᴰ·cast, Memᴰ·append-right, Memᴰ·append-left, Memᴰ·map, Memᴰ·of-map}
@@ -11,7 +11,7 @@ use lib.Dec.{T, T-not, not-T}
 use Rattle.model.specs.Lists.{_∈_, has, keep}
 use Rattle.model.specs.Message.{Message, sequenceOf}
 use Rattle.model.specs.Listing as L
-use Rattle.model.specs.Order.{State, stateOf, Ascending, sequencesOf, needs, placedBy, Executable, Grounded, executablesOf, heldOf, keyOf, less, IsLog, logOf}
+use Rattle.model.specs.Order.{Origin, State, holding, Ascending, sequencesOf, needs, placedBy, Executable, Grounded, executablesOf, heldOf, keyOf, less, IsLog, logOf}
 use Rattle.order.specs.TestLaws.{Same, decide, same-test, has→∈, ∈→has, keep-∈, ∈-keep, keep-length, keep-cong}
 use Rattle.order.specs.KeyOrder.{Total, less-total}
 use Rattle.order.specs.ListingLaws.{fresh, any-chooses, grow-complete, complete-items, first-is, first-unique, after-from, after-has, listing-length, listing-room, listing-closed}
@@ -37,9 +37,9 @@ pub log-only : (S : State) → Ascending (S .deltas) → (l : List Message) → 
 log-only S h l g =
     first-unique sequenceOf (needs S) (keyOf S) less less-total (S .deltas) (ascending-names (S .deltas) h) (keys-differ S h) l (logOf S) g (log-is S h)
 
--- the log depends on the set alone: whatever lists of messages make it up
-pub log-of-set : (S R : State) → Ascending (S .deltas) → Ascending (R .deltas) → Same (S .deltas) (R .deltas) → logOf S ≡ logOf R
-log-of-set S R p q f = ap (λ (l : List Message). logOf (stateOf l)) (ascending-unique (S .deltas) (R .deltas) p q f)
+-- the log depends on the origin and on the set alone: whatever lists of messages make it up
+pub log-of-set : (S R : State) → S .origin ≡ R .origin → Ascending (S .deltas) → Ascending (R .deltas) → Same (S .deltas) (R .deltas) → logOf S ≡ logOf R
+log-of-set S R e p q f = ap₂ (λ (O : Origin) (l : List Message). logOf (holding O l)) e (ascending-unique (S .deltas) (R .deltas) p q f)
 
 -- ---- the executable deltas
 pub executables-complete : (S : State) → Ascending (S .deltas) → L.Complete sequenceOf (needs S) (S .deltas) (executablesOf S)

@@ -42,7 +42,7 @@ skips-marked sorted placed first i inside p q h k = ⊎-elim
     (λ t. ap (λ (x : ℕ). not (eqb x 0)) (getD-set-other placed i (getD sorted q 0) 1 0 (not-eqb (getD sorted q 0) i t)) ∙ p q h k)
     (decide (eqb (getD sorted q 0) i))
 
-module _ (S : State) (right : RightSet (S .deltas)) (rows counts keys sorted placed : List ℕ) (rr : RowsRight S rows counts) (kr : KeysRight S keys)
+module _ (S : State) (right : RightSet S) (rows counts keys sorted placed : List ℕ) (rr : RowsRight S rows counts) (kr : KeysRight S keys)
     (all : length sorted ≡ length (S .deltas)) (by-key : Sorted keys sorted (length (S .deltas)))
     (from : ℕ) (passed : Skips sorted placed 0 from) where
   -- what is ready stands at a place that is not passed

@@ -22,7 +22,7 @@ use Rattle.log.specs.declared.next.Next.the-variants.{At, Nothing}
 use Rattle.log.specs.Next.{Picks, NextRight}
 use Rattle.log.specs.Ordered.{Ordered, Grows, Growing}
 
-module _ (S : State) (right : RightSet (S .deltas)) where
+module _ (S : State) (right : RightSet S) where
   -- nothing is placed
   grows-none : (places : List ℕ) → places ≡ [] → Grows S (replicate marksSize 0) 0 places
   unfolding logOf

@@ -39,7 +39,7 @@ use Rattle.log_check.specs.Checking.{Inside, Checking}
 last-or : (q k : ℕ) → q < k + 1 → (q ≡ k) ⊎ (q < k)
 last-or q k h = ⊎-elim (λ t. inl (eqb→eq q k t)) (λ t. inr (let other : q ≡ k → ⊥ = not-eqb q k t in omega arith)) (decide (eqb q k))
 
-module _ (S : State) (right : RightSet (S .deltas)) (places : List ℕ) (within : Inside S places) where
+module _ (S : State) (right : RightSet S) (places : List ℕ) (within : Inside S places) where
   -- the deltas at the places, and how they are taken one after the other
   abbrev log : List Message
   log = deltasAt (S .deltas) places

@@ -10,7 +10,7 @@ use Rattle.model.specs.Lists.{every, sum, same}
 use Rattle.model.specs.Bytes.{number, bytes, field, parts, join, integer, word}
 use Rattle.model.specs.Layout.{lengthAt, valueSize, tagCount, valuesSize, imageSize, logCountAt, heldCountAt, usedAt, zerosAt, setpointsStart, capacity}
 use Rattle.model.specs.Message.{Message, passes}
-use Rattle.model.specs.Order.{State, stateOf, RightSet, insert, logOf, heldOf}
+use Rattle.model.specs.Order.{Origin, firstOrigin, State, holding, RightSet, insert, logOf, heldOf}
 use Rattle.model.specs.Setpoints.{setpointsOf}
 
 -- ---- the sections, one behind the other
@@ -45,7 +45,7 @@ imageOf S = usedOf S ++ replicate (imageSize - length (usedOf S)) 0
 
 -- ---- declared: "image of a set of at most 64 deltas that pass 3 to 6, no sequence twice"
 abbrev pub Valid : State → Type 0
-Valid S = RightSet (S .deltas)
+Valid S = RightSet S
 
 pub record IsImage (b : List ℕ) : Type 0 where
   pub state : State
@@ -101,8 +101,11 @@ abbrev pub setOf : List Message → List Message
 setOf [] = []
 setOf (m ∷ l) = insert m (setOf l)
 
+unfoldable pub originIn : List ℕ → Origin
+originIn b = firstOrigin
+
 abbrev pub stateIn : List ℕ → State
-stateIn b = stateOf (setOf (messagesIn b))
+stateIn b = holding (originIn b) (setOf (messagesIn b))
 
 unfoldable pub isImage : List ℕ → Bool
 isImage b = let S = stateIn b in leb (length (S .deltas)) capacity && every passes (S .deltas) && same (imageOf S) b

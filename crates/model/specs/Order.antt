@@ -9,22 +9,34 @@ use Rattle.model.specs.Layout.{fieldLimit, capacity}
 use Rattle.model.specs.Message.{Message, sequenceOf, hasPriority, groupOf, blockOf, priorityOf, needsOf, passes}
 use Rattle.model.specs.Listing as L
 
--- The state of a station: the deltas that it received, a set. A set is kept as a list that ascends strictly by sequence (see `RightSet`).
+-- What a station begins with, before any delta: nothing, and the same for all.
+pub data Origin : Type 0 where
+  first : Origin
+
+abbrev pub firstOrigin : Origin
+firstOrigin = Origin.first
+
+-- The state of a station: the deltas that it received, a set, and its origin. A set is kept as a list that ascends strictly by sequence
+-- (see `RightSet`).
 pub record State : Type 0 where
   pub deltas : List Message
+  pub origin : Origin
+
+abbrev pub holding : Origin → List Message → State
+holding O l = record { deltas = l; origin = O }
 
 abbrev pub stateOf : List Message → State
-stateOf l = record { deltas = l }
+stateOf l = holding firstOrigin l
 
 abbrev pub Ascending : List Message → Type 0
 Ascending [] = Unit {0}
 Ascending (m ∷ l) = ((x : Message) → x ∈ l → sequenceOf m < sequenceOf x) × Ascending l
 
 -- "a set of at most 64 deltas that pass 3 to 6, no sequence twice"
-pub record RightSet (l : List Message) : Type 0 where
-  pub ascends : Ascending l
-  pub fits : length l ≤ capacity
-  pub pass : (m : Message) → m ∈ l → T (passes m)
+pub record RightSet (S : State) : Type 0 where
+  pub ascends : Ascending (S .deltas)
+  pub fits : length (S .deltas) ≤ capacity
+  pub pass : (m : Message) → m ∈ S .deltas → T (passes m)
 
 -- A message joins the set. One of the same sequence stays as it is.
 abbrev pub insert : Message → List Message → List Message
@@ -33,7 +45,7 @@ insert m (x ∷ l) =
     cond (ltb (sequenceOf m) (sequenceOf x)) (m ∷ x ∷ l) (cond (eqb (sequenceOf m) (sequenceOf x)) (x ∷ l) (x ∷ insert m l))
 
 abbrev pub add : Message → State → State
-add m S = stateOf (insert m (S .deltas))
+add m S = holding (S .origin) (insert m (S .deltas))
 
 abbrev pub sequencesOf : List Message → List ℕ
 sequencesOf l = map sequenceOf l

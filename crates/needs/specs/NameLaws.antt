@@ -10,7 +10,7 @@ use lib.ListN.{length, getD, set, take, length-map, List·getD-map}
 use lib.Seq.{ext-getD, getD-take, length-take-le, getD-set-same, getD-set-other}
 use lib.Dec.{T, eqb, eqb→eq}
 use Rattle.model.specs.Message.{Message, sequenceOf}
-use Rattle.model.specs.Order.{Ascending, RightSet, sequencesOf}
+use Rattle.model.specs.Order.{State, Ascending, RightSet, sequencesOf}
 use Rattle.order.specs.TestLaws.{decide, not-eqb}
 use Rattle.table.specs.PlaceLaws.{ascending-at}
 use Rattle.needs.specs.Names.{nameOf, namesIn, Ascends, Searchable, SequencesRight}
@@ -72,12 +72,12 @@ module _ (l : List Message) (high low : List ℕ) (fits : length l ≤ length hi
       ∙ f k inside ∙ sym (sequence-at l k))
 
 -- such a part of the arrays can be searched
-module _ (l : List Message) (high low : List ℕ) (right : RightSet l) (read : SequencesRight l high low) (n : ℕ) (all : n ≡ length l) where
-  pub names-read : namesIn (take n high) (take n low) ≡ sequencesOf l
+module _ (S : State) (high low : List ℕ) (right : RightSet S) (read : SequencesRight (S .deltas) high low) (n : ℕ) (all : n ≡ length (S .deltas)) where
+  pub names-read : namesIn (take n high) (take n low) ≡ sequencesOf (S .deltas)
   names-read = ap (λ (k : ℕ). namesIn (take k high) (take k low)) all ∙ read .names
 
   pub set-searchable : Searchable (take n high) (take n low)
   set-searchable =
       let highs : length (take n high) ≡ n = length-take-le n high (omega (arith, right .fits, read .high-size)) in
       let lows : length (take n low) ≡ n = length-take-le n low (omega (arith, right .fits, read .low-size)) in
-      record { paired = highs ∙ sym lows; few = omega (arith, right .fits); ascends = subst Ascends (sym names-read) (set-ascends l (right .ascends)) }
+      record { paired = highs ∙ sym lows; few = omega (arith, right .fits); ascends = subst Ascends (sym names-read) (set-ascends (S .deltas) (right .ascends)) }

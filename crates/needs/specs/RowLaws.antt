@@ -62,7 +62,7 @@ indices-small names h [] k = omega arith
 indices-small names h (s ∷ l) zero = index-small names h s
 indices-small names h (s ∷ l) (suc k) = indices-small names h l k
 
-pub rows-fit : {rows counts : List ℕ} (S : State) → RightSet (S .deltas) → RowsRight S rows counts → (i : ℕ) → i < length (S .deltas) → RowFits rows counts i
+pub rows-fit : {rows counts : List ℕ} (S : State) → RightSet S → RowsRight S rows counts → (i : ℕ) → i < length (S .deltas) → RowFits rows counts i
 rows-fit {rows} {counts} S right r i h = record {
   here = omega (arith, right .fits, r .counted);
   inside = omega (arith, right .fits, r .size, r .short i h);

@@ -52,7 +52,7 @@ pub keys-all : (l : List Message) (blocks indices keys : List ℕ) (n : ℕ) →
 keys-all l blocks indices keys n h m = subst (λ (x : List ℕ). KeysMade l blocks x keys) (take-all n indices h) m
 
 -- with the order and the blocks of a closure they say of executable deltas what the definitions' keys say
-pub keys-closed : (S : State) → RightSet (S .deltas) → (rows counts : List ℕ) → RowsRight S rows counts → (blocks order : List ℕ) (count : ℕ) → Closed S rows counts blocks order count
+pub keys-closed : (S : State) → RightSet S → (rows counts : List ℕ) → RowsRight S rows counts → (blocks order : List ℕ) (count : ℕ) → Closed S rows counts blocks order count
     → (keys : List ℕ) → KeysMade (S .deltas) blocks (take count order) keys → KeysRight S keys
 keys-closed S right rows counts rr blocks order count c keys made = record {
   size = made .size;

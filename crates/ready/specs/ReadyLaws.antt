@@ -87,7 +87,7 @@ module _ (S : State) (placed : List ℕ) (l : List Message) (p : Placing S place
         (p .marks .here i (omega (arith, length-map (S .deltas) sequenceOf)) ∙ ap (λ (x : ℕ). has x (placedBy l)) (sequence-at (S .deltas) i))
         (ap (every (isPlaced placed)) (right .row i h) ∙ every-named (isPlaced placed) (indexOf names) (placedBy l) placed-named (needs S (getD (S .deltas) i [])))
 
-    module _ (set : RightSet (S .deltas)) (blocks : List ℕ) (b : Blocks S blocks (placedBy l)) where
+    module _ (set : RightSet S) (blocks : List ℕ) (b : Blocks S blocks (placedBy l)) where
       block-named : (s : ℕ) → s ∈ placedBy l → getD blocks (indexOf names s) 0 ≡ effectiveBlock S (find (S .deltas) s)
       block-named s k = ⊎-elim unnamed named (index-cases names s)
         where

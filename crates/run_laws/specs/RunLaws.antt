@@ -11,7 +11,7 @@ use lib.ListN.{length, length-reverse, length-drop, drop}
 use lib.Dec.{T, eqb, eqb→eq}
 use Rattle.model.specs.Lists.{_∈_}
 use Rattle.model.specs.Message.{Message}
-use Rattle.model.specs.Order.{State, stateOf, add, sequencesOf, logOf}
+use Rattle.model.specs.Order.{Origin, State, holding, add, sequencesOf, logOf}
 use Rattle.model.specs.Setpoints.{startValues}
 use Rattle.model.specs.Image.{imageOf, Valid, valuesIn, logIn}
 use Rattle.model.specs.Steps.{Step, undo, execute, common, stepsOf, undosOf, executionsOf, StepRecord, recordsBetween, recordsBytes, readRecords, stepsIn, readSteps, Plays}
@@ -23,6 +23,7 @@ use Rattle.order.specs.StepLaws.{steps-play, steps-fewest, steps-counted, commo
 use Rattle.order.specs.TestLaws.{Same}
 use Rattle.laws.specs.SetLaws.{insert-from, insert-keeps, insert-has, ascending-unique}
 use Rattle.wire_laws.specs.RecordLaws.{records-steps, records-counted, records-self}
+use Rattle.laws.specs.OriginLaws.{one-origin}
 use Rattle.laws.specs.ImageLaws.{log-back}
 use Rattle.laws.specs.ValueLaws.{values-back}
 use Rattle.laws.specs.RecordRange.{records-back}
@@ -156,7 +157,7 @@ accepted-set given b begun (e ∷ earlier) run = go (eqb (e .answer .code) 0) (e
 same-images : (given other : Given) (b c : List ℕ) → Begins given b → Begins other c → (events others : List Event)
     → Run Answers b events → Run Answers c others → SameAccepted given events other others → imageAfter b events ≡ imageAfter c others
 same-images given other b c p q events others r t f =
-    run-image given b p events r ∙ ap (λ (l : List Message). imageOf (stateOf l)) sets ∙ sym (run-image other c q others t)
+    run-image given b p events r ∙ ap₂ (λ (O : Origin) (l : List Message). imageOf (holding O l)) (one-origin (stateAfter given events .origin) (stateAfter other others .origin)) sets ∙ sym (run-image other c q others t)
   where
     sets : stateAfter given events .deltas ≡ stateAfter other others .deltas
     sets = ascending-unique (stateAfter given events .deltas) (stateAfter other others .deltas) (state-valid given events .ascends) (state-valid other others .ascends) (λ m. (

@@ -10,8 +10,8 @@ use Rattle.model.specs.Lists.{_∈_}
 use Rattle.model.specs.Bytes.{number, field}
 use Rattle.model.specs.Layout.{lengthAt}
 use Rattle.model.specs.Message.{Message, passes}
-use Rattle.model.specs.Order.{stateOf}
-use Rattle.model.specs.Image.{Valid}
+use Rattle.model.specs.Order.{holding}
+use Rattle.model.specs.Image.{Valid, originIn}
 use Rattle.wire_laws.specs.BytesLaws.{take-drop-take, field-part}
 use Rattle.wire_laws.specs.MessageLaws.{Sized, passes-sized, sized-range}
 use Rattle.table.specs.Table.{messageFrom, deltasOf, Holds}
@@ -42,8 +42,8 @@ module _ (a b : List ℕ) (n : ℕ) (agree : take n a ≡ take n b) where
   pub deltas-agree : (starts : List ℕ) → Holds a starts → ((at : ℕ) → at ∈ starts → EndsBy a n at) → deltasOf b starts ≡ deltasOf a starts
   deltas-agree starts holds h = deltas-agree-each starts (holds .pass) h
 
-  pub holds-agree : (starts : List ℕ) → Holds a starts → ((at : ℕ) → at ∈ starts → EndsBy a n at) → Holds b starts
-  holds-agree starts holds h = subst (λ (l : List Message). Valid (stateOf l)) (sym (deltas-agree starts holds h)) holds
+  pub holds-agree : originIn b ≡ originIn a → (starts : List ℕ) → Holds a starts → ((at : ℕ) → at ∈ starts → EndsBy a n at) → Holds b starts
+  holds-agree origins starts holds h = subst Valid (sym (ap₂ holding origins (deltas-agree starts holds h))) holds
 
 -- ---- a whole pool at the front of a longer one
 module _ (a b : List ℕ) (front : take (length a) b ≡ a) (starts : List ℕ) (holds : Holds a starts) where
@@ -53,8 +53,8 @@ module _ (a b : List ℕ) (front : take (length a) b ≡ a) (starts : List ℕ) 
   pub deltas-front : deltasOf b starts ≡ deltasOf a starts
   deltas-front = deltas-agree a b (length a) (take-length a ∙ sym front) starts holds inside
 
-  pub holds-front : Holds b starts
-  holds-front = holds-agree a b (length a) (take-length a ∙ sym front) starts holds inside
+  pub holds-front : originIn b ≡ originIn a → Holds b starts
+  holds-front origins = holds-agree a b (length a) (take-length a ∙ sym front) origins starts holds inside
 
 -- ---- a message that was put at a place is the one that starts there
 pub message-placed : (pool : List ℕ) (at : ℕ) (m : Message) → take (length m) (drop at pool) ≡ m → T (passes m) → messageFrom pool at ≡ m

@@ -6,8 +6,8 @@ use lib.ListN.{take, drop, getD}
 use Rattle.model.specs.Bytes.{field}
 use Rattle.model.specs.Layout.{lengthAt}
 use Rattle.model.specs.Message.{Message}
-use Rattle.model.specs.Order.{State, stateOf}
-use Rattle.model.specs.Image.{Valid}
+use Rattle.model.specs.Order.{State, holding}
+use Rattle.model.specs.Image.{Valid, originIn}
 use Rattle.table.specs.declared.Table.{Table}
 
 abbrev pub startsOf : Table → List ℕ
@@ -25,7 +25,7 @@ abbrev pub deltasAt : List Message → List ℕ → List Message
 deltasAt l places = map (λ i. getD l i []) places
 
 abbrev pub setIn : List ℕ → List ℕ → State
-setIn pool starts = stateOf (deltasOf pool starts)
+setIn pool starts = holding (originIn pool) (deltasOf pool starts)
 
 -- At most 64 messages that pass 3 to 6, by ascending sequence.
 abbrev pub Holds : List ℕ → List ℕ → Type 0

@@ -10,8 +10,8 @@ use lib.Seq.{take-all, split-at}
 use lib.Dec.{T}
 use Rattle.model.specs.Lists.{_∈_, has}
 use Rattle.model.specs.Message.{Message, sequenceOf}
-use Rattle.model.specs.Order.{stateOf, insert, sequencesOf}
-use Rattle.model.specs.Image.{messagesIn, stateIn, isImage}
+use Rattle.model.specs.Order.{holding, insert, sequencesOf}
+use Rattle.model.specs.Image.{messagesIn, originIn, stateIn, isImage}
 use Rattle.order.specs.TestLaws.{Same, false-of, true-T, has→∈, ∈→has}
 use Rattle.order.specs.ListLaws.{take-next}
 use Rattle.laws.specs.SetLaws.{insert-from, insert-keeps, insert-has, setOf-same}
@@ -41,7 +41,7 @@ gathered-all b i starts g h =
     subst (λ (l : List Message). Same l (deltasOf b starts)) (take-all i (messagesIn b) (omega (arith, count-messages b))) (g .taken)
 
 pub gathered-set : (b : List ℕ) (i : ℕ) (starts : List ℕ) → Gathered b i starts → countIn b ≤ i → setIn b starts ≡ stateIn b
-gathered-set b i starts g h = sym (ap stateOf (setOf-same (deltasOf b starts) (messagesIn b) (g .holds .ascends) (gathered-all b i starts g h)))
+gathered-set b i starts g h = sym (ap (holding (originIn b)) (setOf-same (deltasOf b starts) (messagesIn b) (g .holds .ascends) (gathered-all b i starts g h)))
 
 -- ---- the message of place i, which starts at `at`
 module _ (b : List ℕ) (i : ℕ) (starts : List ℕ) (g : Gathered b i starts) (more : i < countIn b) (at : ℕ) (here : messageFrom b at ≡ getD (messagesIn b) i []) where

@@ -24,6 +24,7 @@ use Rattle.order.specs.KeyOrder.{Total}
 use Rattle.order.specs.TestLaws.{Same}
 use Rattle.order.specs.CommonLaws.{common-start, common-longest}
 use Rattle.order.specs.StepLaws.{steps-play, steps-counted, steps-fewest}
+use Rattle.laws.specs.OriginLaws.{one-origin}
 use Rattle.laws.specs.LogLaws.{key-order, keys-differ, log-is, log-only, log-of-set, log-executable, log-grounded, held-is}
 use Rattle.laws.specs.EffectiveLaws.{effective-is, effective-only}
 use Rattle.wire_laws.specs.RecordLaws.{records-steps}
@@ -58,7 +59,7 @@ log-law S v = record {
 
 -- It depends on the set alone.
 pub log-of-same : (S R : State) → Valid S → Valid R → Same (S .deltas) (R .deltas) → logOf S ≡ logOf R
-log-of-same S R p q f = log-of-set S R (p .ascends) (q .ascends) f
+log-of-same S R p q f = log-of-set S R (one-origin (S .origin) (R .origin)) (p .ascends) (q .ascends) f
 
 -- 2. The key is a strict total order on every set, and the effective block is the one solution of the paper's equation.
 pub record KeyLaw (S : State) : Type 0 where

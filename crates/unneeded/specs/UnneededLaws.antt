@@ -38,7 +38,7 @@ module _ (names : List ℕ) (ascends : Ascends names) (few : length names ≤ ca
   has-named [] = refl
   has-named (s ∷ ss) = ap₂ _||_ (same-name s) (has-named ss)
 
-module _ (S : State) (right : RightSet (S .deltas)) (i : ℕ) (inside : i < length (S .deltas)) where
+module _ (S : State) (right : RightSet S) (i : ℕ) (inside : i < length (S .deltas)) where
   abbrev names : List ℕ
   names = sequencesOf (S .deltas)
 

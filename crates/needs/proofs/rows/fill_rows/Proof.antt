@@ -60,7 +60,7 @@ searchable : (a : tie.At-loop Inv-loop μ-loop)
     → Searchable (take (length (start a .args .starts .now)) (sequences a .read-sequences .last .0)) (take (length (start a .args .starts .now)) (sequences a .read-sequences .last .1 .0))
 searchable a =
     let s = start a in
-    set-searchable (deltas s) (sequences a .read-sequences .last .0) (sequences a .read-sequences .last .1 .0) (s .pre .2) (sequences a .read-sequences .ensures) (length (s .args .starts .now)) (size s)
+    set-searchable (setIn (s .args .pool .now) (s .args .starts .now)) (sequences a .read-sequences .last .0) (sequences a .read-sequences .last .1 .0) (s .pre .2) (sequences a .read-sequences .ensures) (length (s .args .starts .now)) (size s)
 
 -- the message of a turn is its delta, which passes
 here : (c : tie.After-fill-row-arg Inv-loop μ-loop) → now (c .before .message-at .result) ≡ getD (deltas (start (turn c))) (turn c .loop .i) []
@@ -78,7 +78,7 @@ written : (c : tie.After-slice-known3 Inv-loop μ-loop)
 written c =
     let a = turn (lent c) in
     let s = start a in
-    let names = names-read (deltas s) (sequences a .read-sequences .last .0) (sequences a .read-sequences .last .1 .0) (s .pre .2) (sequences a .read-sequences .ensures) (length (s .args .starts .now)) (size s) in
+    let names = names-read (setIn (s .args .pool .now) (s .args .starts .now)) (sequences a .read-sequences .last .0) (sequences a .read-sequences .last .1 .0) (s .pre .2) (sequences a .read-sequences .ensures) (length (s .args .starts .now)) (size s) in
     called c .fill-row .ensures .row
     ∙ ap₂ (λ (n : List ℕ) (m : Message). paste (a .loop .rows) (rowSize * a .loop .i) (map (indexOf n) (needsOf m)) (called c .fill-row .result)) names (here (lent c))
 
