@@ -110,5 +110,5 @@ module _ (b : List ℕ) (m : Message) (room : ℕ) (before : List ℕ) (station 
 
     pub accepted-answer : (steps : List ℕ) (d : Delivered) → Updates steps pool next old (station .logged) d → d ≡ acceptedAnswer (stateIn b) (add m (stateIn b)) steps
     accepted-answer steps d u =
-        u .answer (setIn b starts) log-moved
+        u .answer (setIn b starts) (sym origins) log-moved
         ∙ ap₂ (λ (S R : State). acceptedAnswer S R steps) (h .judged .table .set) (set-next ∙ ap (add m) (h .judged .table .set))

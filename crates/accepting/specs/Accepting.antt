@@ -7,7 +7,7 @@ use lib.Dec.{T}
 use Rattle.model.specs.Layout.{imageSize, messageRoom, stepRoom, capacity}
 use Rattle.model.specs.Message.{Message, sequenceOf, passes}
 use Rattle.model.specs.Order.{State}
-use Rattle.model.specs.Image.{usedOf, imageOf}
+use Rattle.model.specs.Image.{usedOf, imageOf, originIn}
 use Rattle.model.specs.Calls.{Delivered, acceptedAnswer}
 use Rattle.table.specs.declared.Table.{Table}
 use Rattle.table.specs.Table.{startsOf, setIn, Holds}
@@ -37,7 +37,7 @@ pub record Updatable (image : List ℕ) (room : ℕ) (pool : List ℕ) (t : Tabl
 
 -- The answer is that of the delivery that leads from the old log's state to the table's set.
 pub record Updates (steps pool : List ℕ) (t : Table) (old : List ℕ) (logged : ℕ) (d : Delivered) : Type 0 where
-  pub answer : (S : State) → IsLogOf pool (startsOf t) (take logged old) S → d ≡ acceptedAnswer S (setIn pool (startsOf t)) steps
+  pub answer : (S : State) → S .origin ≡ originIn pool → IsLogOf pool (startsOf t) (take logged old) S → d ≡ acceptedAnswer S (setIn pool (startsOf t)) steps
 
 -- A message that passes 3 to 6 and whose sequence is new, a station with room for it, and a pool that begins with its image.
 pub record Acceptable (b : List ℕ) (m : Message) (room : ℕ) (pool : List ℕ) (station : Station) (p : ℕ) : Type 0 where

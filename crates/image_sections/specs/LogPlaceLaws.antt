@@ -11,7 +11,7 @@ use lib.Seq.{drop-cons}
 use Rattle.model.specs.Lists.{_∈_}
 use Rattle.model.specs.Layout.{headerSize, capacity}
 use Rattle.model.specs.Message.{Message, passes}
-use Rattle.model.specs.Order.{State, logOf}
+use Rattle.model.specs.Order.{logOf}
 use Rattle.model.specs.Setpoints.{startValues, runLog, setpointsOf}
 use Rattle.order.specs.ListLaws.{getD-∈}
 use Rattle.laws.specs.LogLaws.{log-received, log-length}
@@ -67,9 +67,9 @@ no-message l places k h = ap (deltasAt l) (drop-of-length-le places h)
 
 -- ---- what the deltas at the log's places leave is what the log leaves
 pub log-values : (pool starts places : List ℕ) (values : List ℤ) → LogPlaces pool starts places
-    → ((S : State) → values ≡ runLog (deltasAt (deltasOf pool starts) places) (startValues S)) → values ≡ setpointsOf (setIn pool starts)
+    → values ≡ runLog (deltasAt (deltasOf pool starts) places) (startValues (setIn pool starts)) → values ≡ setpointsOf (setIn pool starts)
 unfolding setpointsOf
-log-values pool starts places values l e = let S = setIn pool starts in e S ∙ ap (λ (x : List Message). runLog x (startValues S)) (l .log)
+log-values pool starts places values l e = e ∙ ap (λ (x : List Message). runLog x (startValues (setIn pool starts))) (l .log)
 
 -- ---- the empty set has an empty log
 pub empty-log : LogPlaces [] [] []

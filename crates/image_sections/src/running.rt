@@ -8,9 +8,8 @@ use table::entry::message_at;
 ghost use mathlib.Core.Path.{_≡_};
 ghost use lib.Dec.{T};
 ghost use Rattle.model.specs.Message.{passes};
-ghost use Rattle.model.specs.Order.{State};
 ghost use Rattle.model.specs.Setpoints.{startValues, runDelta, runLog};
-ghost use Rattle.table.specs.Table.{deltasOf, deltasAt};
+ghost use Rattle.table.specs.Table.{deltasOf, deltasAt, setIn};
 ghost use Rattle.image_sections.specs.LogPlaces.{TablePlaces};
 
 // Runs the commands of a message.
@@ -25,9 +24,9 @@ fn run_message(values: [i32; TAG_COUNT], m: &[u8]) -> [i32; TAG_COUNT]
 // Runs the deltas at the given places of a table, from first to last, on the values before any command.
 pub fn run_log(pool: &[u8], starts: &[u16], places: &[u8]) -> [i32; TAG_COUNT]
     requires { ⌜ TablePlaces (now pool) (now starts) (now places) ⌝ }
-    ensures { λ r. ⌜ ((S : State) → r ≡ runLog (deltasAt (deltasOf (now (pool .entry)) (now (starts .entry))) (now (places .entry))) (startValues S)) ⌝ }
+    ensures { λ r. ⌜ r ≡ runLog (deltasAt (deltasOf (now (pool .entry)) (now (starts .entry))) (now (places .entry))) (startValues (setIn (now (pool .entry)) (now (starts .entry)))) ⌝ }
 {
-    let mut values = start_values();
+    let mut values = start_values(pool);
     let mut k = 0;
     while k < places.len() {
         let place = places[k] as usize;

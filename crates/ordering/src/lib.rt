@@ -11,7 +11,6 @@ use table::Table;
 ghost use mathlib.Core.Path.{_≡_};
 ghost use lib.ListN.{length};
 ghost use Rattle.model.specs.Image.{usedOf};
-ghost use Rattle.model.specs.Order.{State};
 ghost use Rattle.model.specs.Setpoints.{startValues};
 ghost use Rattle.model.specs.Steps.{recordsOf, recordsBytes};
 ghost use Rattle.model.specs.Calls.{written};
@@ -47,7 +46,7 @@ pub fn write_table(out: &mut [u8], pool: &[u8], table: Table, places: [u8; CAPAC
 // Writes the steps from the old log of an order to its new one.
 pub fn write_change(steps: &mut [u8], pool: &[u8], table: Table, order: LogOrder)
     requires { ⌜ Changeable (length (now steps)) (now pool) table order ⌝ }
-    ensures { λ _. ⌜ ((S : State) → now (steps .exit) ≡ written (recordsBytes (recordsOf (startValues S) (deltasAt (deltasOf (now (pool .entry)) (startsOf table)) (oldOf order)) (deltasAt (deltasOf (now (pool .entry)) (startsOf table)) (placesOf order)))) (now (steps .entry))) ⌝ }
+    ensures { λ _. ⌜ now (steps .exit) ≡ written (recordsBytes (recordsOf (startValues (setIn (now (pool .entry)) (startsOf table))) (deltasAt (deltasOf (now (pool .entry)) (startsOf table)) (oldOf order)) (deltasAt (deltasOf (now (pool .entry)) (startsOf table)) (placesOf order)))) (now (steps .entry)) ⌝ }
 {
     let starts = table.starts;
     let count = table.count;

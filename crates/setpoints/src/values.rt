@@ -4,17 +4,20 @@ use buffer_writes::put_u32;
 use layout::TAG_COUNT;
 use layout::VALUE_SIZE;
 ghost use mathlib.Core.Path.{_≡_};
+ghost use mathlib.Core.List.{List};
 ghost use Prim.Native.Nat.{_+_, _*_, _≤_};
 ghost use lib.ListN.{length};
 ghost use lib.Seq.{paste};
 ghost use Rattle.model.specs.Layout.{valueSize, tagCount};
-ghost use Rattle.model.specs.Order.{State};
+ghost use Rattle.model.specs.Message.{Message};
+ghost use Rattle.model.specs.Order.{holding};
 ghost use Rattle.model.specs.Setpoints.{startValues};
+ghost use Rattle.model.specs.Image.{originIn};
 ghost use Rattle.setpoints.specs.Words.{wordsOf};
 
-// The values before any command: the same for every state.
-pub fn start_values() -> [i32; TAG_COUNT]
-    ensures { λ r. ⌜ ((S : State) → r ≡ startValues S) ⌝ }
+// The values before any command, of the image that a pool begins with: the same whatever deltas it holds.
+pub fn start_values(pool: &[u8]) -> [i32; TAG_COUNT]
+    ensures { λ r. ⌜ ((l : List Message) → r ≡ startValues (holding (originIn (now (pool .entry))) l)) ⌝ }
 {
     [0; TAG_COUNT]
 }

@@ -9,11 +9,10 @@ use table::entry::message_at;
 ghost use mathlib.Core.Path.{_≡_};
 ghost use mathlib.Core.List.{reverse};
 ghost use lib.ListN.{length, drop};
-ghost use Rattle.model.specs.Order.{State};
 ghost use Rattle.model.specs.Setpoints.{startValues};
 ghost use Rattle.model.specs.Steps.{executionOf, undoOf, along, recordsOf, recordsBytes};
 ghost use Rattle.model.specs.Calls.{written};
-ghost use Rattle.table.specs.Table.{deltasOf, deltasAt};
+ghost use Rattle.table.specs.Table.{deltasOf, deltasAt, setIn};
 ghost use Rattle.steps.specs.Room.{recordsAt, RestFits, StepsFit};
 
 // Writes the undos of the old log from its end down to what is kept, which leaves the given values.
@@ -76,7 +75,7 @@ pub fn write_steps(
     kept: usize,
 )
     requires { ⌜ StepsFit (now pool) (now starts) (now old) (now new) kept (length (now steps)) ⌝ }
-    ensures { λ _. ⌜ ((S : State) → now (steps .exit) ≡ written (recordsBytes (recordsOf (startValues S) (deltasAt (deltasOf (now (pool .entry)) (now (starts .entry))) (now (old .entry))) (deltasAt (deltasOf (now (pool .entry)) (now (starts .entry))) (now (new .entry))))) (now (steps .entry))) ⌝ }
+    ensures { λ _. ⌜ now (steps .exit) ≡ written (recordsBytes (recordsOf (startValues (setIn (now (pool .entry)) (now (starts .entry)))) (deltasAt (deltasOf (now (pool .entry)) (now (starts .entry))) (now (old .entry))) (deltasAt (deltasOf (now (pool .entry)) (now (starts .entry))) (now (new .entry))))) (now (steps .entry)) ⌝ }
 {
     let values = run_log(pool, starts, &old[..kept]);
     put_undos(steps, 0, pool, starts, old, kept, values);

@@ -77,7 +77,7 @@ returns c =
     let starts = startsOf (s .args .table) in
     let o = at .order-table .result in
     record {
-      answer = λ S h. accepted-by pool starts (oldOf o) (placesOf o) S (setIn pool starts) (s .pre .holds) (old-log at S h) (at .order-table .ensures .log)
+      answer = λ S e h. accepted-by pool starts (oldOf o) (placesOf o) S (setIn pool starts) (s .pre .holds) (old-log at S h) (at .order-table .ensures .log) e
           (counted .undos .result) (c .executions .result) _ _ _ (counted .undos .ensures) (c .executions .ensures)
           (drawn .write-table .ensures ∙ ap (λ (x : List ℕ). usedOf (setIn pool starts) ++ drop (length (usedOf (setIn pool starts))) x) (s .pre .image-is) ∙ over-smaller (s .pre .smaller) (setIn pool starts) (s .pre .grows)) (written .write-change .ensures);
     }

@@ -6,6 +6,7 @@ use lib.ListN.{length}
 use lib.Seq.{length-take-le}
 use Rattle.model.specs.Layout.{stepSize}
 use Rattle.model.specs.Setpoints.{startValues}
+use Rattle.table.specs.Table.{setIn}
 use Rattle.steps.specs.Room.{RestFits}
 use Rattle.steps.specs.RoomLaws.{kept-old, kept-inside, undos-fit, executions-fit}
 use Rattle.steps.specs.StepsWritten.{steps-written}
@@ -49,12 +50,12 @@ same-length : tie.Need-same-length
 same-length c = search needs
 
 returns : tie.Need-returns
-returns c = λ S.
+returns c =
     let executed = c .before .before in
     let undone = executed .before .before .before .before in
     let s = start undone in
     let a = s .args in
-    steps-written (a .pool .now) (a .starts .now) (a .old .now) (a .new .now) (a .kept) (a .steps .now) (s .pre) (startValues S) (run undone .run-log .result) (run undone .run-log .ensures S)
+    steps-written (a .pool .now) (a .starts .now) (a .old .now) (a .new .now) (a .kept) (a .steps .now) (s .pre) (startValues (setIn (a .pool .now) (a .starts .now))) (run undone .run-log .result) (run undone .run-log .ensures)
     (undone .put-undos .ensures) (executed .put-executions .ensures)
 
 pub write-steps-spec : {M : Type 1} → statement M

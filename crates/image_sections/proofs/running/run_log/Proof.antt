@@ -78,11 +78,11 @@ loop-again c =
     )
 
 returns : tie.Need-returns Inv-loop μ-loop
-returns c = λ S.
+returns c =
     let l = c .before in
     let s = start l in
     sym (l .loop .inv .1 ∙ ap (λ (x : List Message). runLog x (l .loop .values)) (no-message (deltas s) (s .args .places .now) (l .loop .k) (c .loop-test .left)))
-    ∙ ap (runLog (deltasAt (deltas s) (s .args .places .now))) (l .before .start-values .ensures S)
+    ∙ ap (runLog (deltasAt (deltas s) (s .args .places .now))) (l .before .start-values .ensures (deltas s))
 
 pub run-log-spec : {M : Type 1} → statement M
 run-log-spec =

@@ -6,7 +6,7 @@ use Rattle.setpoints.proofs.values.start_values.Tie as tie
 
 returns : tie.Need-returns
 unfolding startValues
-returns c = λ S. refl
+returns c = λ l. refl
 
 pub start-values-spec : {M : Type 1} → statement M
 start-values-spec = tie.close (tie.spec returns)
