@@ -11,6 +11,7 @@ pub mod differential;
 pub mod edit;
 pub mod faulty;
 pub mod generate;
+pub mod input;
 pub mod mutations;
 pub mod picture;
 pub mod plant;

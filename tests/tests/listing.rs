@@ -10,12 +10,13 @@ mod program;
 use std::collections::BTreeMap;
 use std::fs;
 use std::path::{Path, PathBuf};
+use std::process::{Output, Stdio};
 
 use bivamolune_tests::generate::stream;
 use bivamolune_tests::reference;
 use bivamolune_tests::wire::{line, sequence, set, Draft};
 use common::{a1, b1, delta, A, B};
-use program::{crashed, programs, Program};
+use program::{broken_off, crashed, directory, programs, write_only, Program};
 
 /// What each program prints for an input, which is what the function of the package gives.
 fn listing(input: &[u8]) -> String {
@@ -207,6 +208,74 @@ fn a_closed_output() {
         let status = program.end_unread_without_signal(&bytes);
         assert!(status.code().is_some(), "{program:?}: {status}");
     }
+}
+
+/// Whether a failure of reading is told: these lines, and something on standard error. How
+/// the program then ends is left open, but it is no crash.
+fn tells_failure(output: &Output, lines: &str) -> bool {
+    let listed = output.stdout == lines.as_bytes();
+    listed && !output.stderr.is_empty() && output.status.code().is_some()
+}
+
+/// Where no byte can be read, the last line is printed, and standard error says why.
+#[test]
+fn a_read_that_fails() {
+    let inputs: [fn() -> Stdio; 3] = [directory, write_only, || broken_off(&[])];
+    for (program, input) in programs()
+        .iter()
+        .flat_map(|p| inputs.map(|input| (p, input)))
+    {
+        let output = program.output_from(input());
+        assert!(
+            tells_failure(&output, "log 0 held 0\n"),
+            "{program:?}: {output:?}"
+        );
+    }
+}
+
+/// What was read before a failure is listed; a message that the failure cuts is a cut past
+/// the end.
+#[test]
+fn a_read_that_fails_behind_some_messages() {
+    let bytes = input(&[b1(), a1()]);
+    for program in programs() {
+        let output = program.output_from(broken_off(&bytes));
+        let lines = "1 0 0 1\n2 0 1 2\nlog 2 held 0\n";
+        assert!(tells_failure(&output, lines), "{program:?}: {output:?}");
+        let output = program.output_from(broken_off(&bytes[..95]));
+        let lines = "1 0 0 1\n2 3 0 0\nlog 1 held 0\n";
+        assert!(tells_failure(&output, lines), "{program:?}: {output:?}");
+    }
+}
+
+/// What lies beyond 60,000 bytes is dropped: where it cannot be read, all is listed. Whether
+/// that failure is told is left open.
+#[test]
+fn a_read_that_fails_past_the_sixty_thousandth_byte() {
+    let bytes = a1().bytes().repeat(1_251);
+    for program in programs() {
+        let output = program.output_from(broken_off(&bytes));
+        assert_eq!(output.stdout, listing(&bytes).as_bytes(), "{program:?}");
+        assert!(output.status.code().is_some(), "{program:?}: {output:?}");
+    }
+}
+
+/// With standard input closed the last line is printed as well. That it is closed, a program
+/// in Rust is not told: the runtime puts an empty file in its place.
+#[test]
+fn a_closed_input() {
+    for program in programs() {
+        let output = program.output_from_closed();
+        assert_eq!(output.stdout, b"log 0 held 0\n", "{program:?}");
+        assert!(output.status.code().is_some(), "{program:?}: {output:?}");
+    }
+}
+
+#[cfg(feature = "library-listing")]
+#[test]
+fn a_closed_input_is_told() {
+    let output = program::proved("listing").output_from_closed();
+    assert!(tells_failure(&output, "log 0 held 0\n"), "{output:?}");
 }
 
 /// Programs that print nothing, their input, or do not end well are told apart.

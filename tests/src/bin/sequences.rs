@@ -3,17 +3,15 @@
 
 #![deny(warnings)]
 
-use std::io::{self, Read, Write};
+use std::io::{self, Write};
 use std::process::ExitCode;
 
+use bivamolune_tests::input::read_input;
 use bivamolune_tests::reference::sequences::{other_form, INPUT};
 
 fn main() -> io::Result<ExitCode> {
     let mut input = Vec::new();
-    let mut stdin = io::stdin().lock();
-    stdin.by_ref().take(INPUT as u64).read_to_end(&mut input)?;
-    // What lies beyond is dropped, and read so that its writer can end.
-    io::copy(&mut stdin, &mut io::sink())?;
+    read_input(INPUT, &mut input)?;
     match other_form(&input) {
         Ok(printed) => {
             let mut stdout = io::stdout().lock();

@@ -2,7 +2,10 @@
 
 #![allow(dead_code)]
 
+use std::fs::{File, OpenOptions};
 use std::io::Write;
+use std::os::unix::io::OwnedFd;
+use std::os::unix::net::UnixStream;
 use std::os::unix::process::ExitStatusExt;
 use std::path::PathBuf;
 use std::process::{Child, ChildStdin, Command, ExitStatus, Output, Stdio};
@@ -72,6 +75,19 @@ impl Program {
         output
     }
 
+    /// What the program prints and how it ends, reading from this.
+    pub fn output_from(&self, stdin: Stdio) -> Output {
+        let mut command = Command::new(&self.0);
+        command.stdin(stdin).output().expect("the program ends")
+    }
+
+    /// The same, with standard input closed.
+    pub fn output_from_closed(&self) -> Output {
+        let mut shell = Command::new("sh");
+        let shell = shell.args(["-c", "exec \"$0\" <&-"]).arg(&self.0);
+        shell.output().expect("the program ends")
+    }
+
     /// What the program prints for an input.
     pub fn list(&self, input: &[u8]) -> Result<String, String> {
         self.list_pieces(input, input.len().max(1))
@@ -134,13 +150,33 @@ fn unread(mut child: Child, input: &[u8]) -> ExitStatus {
     panic!("the program does not end when nobody reads what it prints");
 }
 
+/// A directory, of which no byte can be read.
+pub fn directory() -> Stdio {
+    File::open("/").expect("it can be opened").into()
+}
+
+/// A file that was opened to be written alone.
+pub fn write_only() -> Stdio {
+    let file = OpenOptions::new().write(true).open("/dev/null");
+    file.expect("it can be opened").into()
+}
+
+/// These bytes, and then a read that fails: the other end was closed with bytes unread.
+pub fn broken_off(bytes: &[u8]) -> Stdio {
+    let (mut near, mut far) = UnixStream::pair().expect("two ends");
+    near.write_all(b"unread").expect("there is room");
+    far.write_all(bytes).expect("there is room");
+    drop(far);
+    OwnedFd::from(near).into()
+}
+
 /// Whether a signal ended it that is not the one of a closed pipe.
 pub fn crashed(status: ExitStatus) -> bool {
     status.signal().map_or(false, |signal| signal != SIGPIPE)
 }
 
-/// The first line in which two listings differ.
-fn difference(printed: &str, wanted: &str) -> String {
+/// The first line in which two texts differ.
+pub fn difference(printed: &str, wanted: &str) -> String {
     let (mut one, mut two) = (printed.lines(), wanted.lines());
     for number in 1.. {
         match (one.next(), two.next()) {
