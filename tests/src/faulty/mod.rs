@@ -2,9 +2,11 @@
 //! differential runner finds its fault.
 
 mod pairs;
+mod printing;
 mod texts;
 mod walks;
 
+pub use printing::{PrintFault, Printer, PRINT_FAULTS};
 pub use walks::{FaultyWalk, WalkFault, WALK_FAULTS};
 
 use crate::boundary::{code, executions, length, packed, undos, value, Calls, Reference};

@@ -1,12 +1,14 @@
 //! Hard inputs from a seed: sets of deltas, wrong messages, edits, texts, lists of calls,
-//! streams.
+//! streams, images.
 
+mod images;
 mod right;
 mod sets;
 mod streams;
 mod texts;
 mod wrong;
 
+pub use images::{damaged_image, image_input};
 pub use right::any_draft;
 pub use sets::{drafts, LIMIT, LINES};
 pub use streams::stream;

@@ -4,7 +4,7 @@
 pub mod trial;
 
 /// The tests that are run on each change first: those of few inputs.
-pub const QUICK: [&str; 15] = [
+pub const QUICK: [&str; 16] = [
     "examples",
     "codes",
     "edges_message",
@@ -19,6 +19,7 @@ pub const QUICK: [&str; 15] = [
     "story",
     "listing",
     "sequences",
+    "print_log",
     "lowest_code",
 ];
 

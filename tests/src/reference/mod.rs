@@ -8,6 +8,7 @@ pub mod listing;
 pub mod message;
 pub mod order;
 pub mod plain;
+pub mod print_log;
 pub mod reader;
 pub mod sequences;
 pub mod setpoints;

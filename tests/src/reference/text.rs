@@ -83,7 +83,7 @@ fn digit(character: u8) -> Option<u8> {
 }
 
 /// The digits of one sequence.
-fn field(sequence: &[u8]) -> String {
+pub fn field(sequence: &[u8]) -> String {
     let digits = sequence.iter().map(|byte| format!("{byte:02X}"));
     digits.collect()
 }
