@@ -1,0 +1,51 @@
+//! What `include/bivamolune.h` gives beside the calls is run by a host in C, all of it.
+
+#![deny(warnings)]
+
+use std::collections::BTreeSet;
+use std::fs;
+use std::path::Path;
+
+/// A file of the repository.
+fn file(path: &str) -> String {
+    let root = Path::new(env!("CARGO_MANIFEST_DIR")).join("..");
+    fs::read_to_string(root.join(path)).expect("the file is there")
+}
+
+/// The words of a text in C.
+fn words(text: &str) -> BTreeSet<&str> {
+    let is_part = |character: char| character.is_ascii_alphanumeric() || character == '_';
+    text.split(|character| !is_part(character)).collect()
+}
+
+/// The names of the inline functions that a text in C defines.
+fn inline_functions(text: &str) -> Vec<&str> {
+    let definitions = text.split("static inline ").skip(1);
+    let heads = definitions.filter_map(|definition| definition.split('(').next());
+    let names = heads.filter_map(|head| head.split(&[' ', '*'][..]).last());
+    names.collect()
+}
+
+#[test]
+fn names_are_found() {
+    let text =
+        "static inline int f(int a) { return a; }\nint g(void);\nstatic inline const char *h(";
+    assert_eq!(inline_functions(text), ["f", "h"]);
+    assert!(words("f(h_i, 3)").contains("h_i") && !words("f(h_i)").contains("h"));
+}
+
+#[test]
+fn every_inline_function_is_run() {
+    let (header, host) = (
+        file("include/bivamolune.h"),
+        file("tests/c/inline_functions.c"),
+    );
+    let functions = inline_functions(&header);
+    assert!(functions.len() >= 20, "{functions:?}");
+    let run = words(&host);
+    let missing: Vec<_> = functions
+        .iter()
+        .filter(|name| !run.contains(*name))
+        .collect();
+    assert!(missing.is_empty(), "{missing:?}");
+}
