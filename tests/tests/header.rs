@@ -22,7 +22,7 @@ fn words(text: &str) -> BTreeSet<&str> {
 fn inline_functions(text: &str) -> Vec<&str> {
     let definitions = text.split("static inline ").skip(1);
     let heads = definitions.filter_map(|definition| definition.split('(').next());
-    let names = heads.filter_map(|head| head.split(&[' ', '*'][..]).last());
+    let names = heads.filter_map(|head| head.rsplit(&[' ', '*'][..]).next());
     names.collect()
 }
 

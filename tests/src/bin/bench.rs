@@ -113,7 +113,7 @@ fn times(specs: &[Spec], options: &Options) -> Result<(), String> {
         time: Duration::from_secs(options.seconds),
     };
     let baseline = options.baseline.as_deref();
-    let then = baseline.map(|file| saved::read(file)).transpose()?;
+    let then = baseline.map(saved::read).transpose()?;
     let rows = report::run(specs, effort)?;
     if let (Some(file), Some(then)) = (baseline, then) {
         saved::print(&rows, &then, file);

@@ -1,6 +1,7 @@
 //! Deliberately wrong variants of the second implementation. Each shows that the
 //! differential runner finds its fault.
 
+mod close;
 mod pairs;
 mod printing;
 mod texts;
@@ -10,12 +11,13 @@ pub use printing::{PrintFault, Printer, PRINT_FAULTS};
 pub use walks::{FaultyWalk, WalkFault, WALK_FAULTS};
 
 use crate::boundary::{code, executions, length, packed, undos, value, Calls, Reference};
-use crate::reference::bytes::{i32_at, u16_at, u8_at};
+use crate::reference::bytes::{i32_at, put, u16_at};
+use crate::reference::code::Code;
 use crate::reference::compose::Request;
-use crate::reference::image::{self, read_sized};
+use crate::reference::image::{self, read_sized, SETPOINTS};
 use crate::reference::message::Delta;
-use crate::reference::order::{key, order, Order, Set};
-use crate::reference::setpoints::run;
+use crate::reference::order::{order, Set};
+use crate::reference::setpoints::{run, Setpoints};
 use crate::reference::steps::{self, run_log, Steps, STEP};
 use crate::view::messages;
 
@@ -30,11 +32,11 @@ pub enum Fault {
     TailNotCleared,
     /// A repeat writes a step that it does not count.
     RepeatWrites,
-    /// Counts one execution too many where there was an undo.
+    /// Writes the right steps, and counts one execution too many where there was an undo.
     CountsOff,
     /// Undoes and executes the whole log each time.
     UndoesEverything,
-    /// A new delta waits behind any held one.
+    /// Lets a new delta wait as long as one is held that does not need it.
     WaitsBehindHeld,
     /// Undoes an addition by subtracting.
     Subtracts,
@@ -56,7 +58,7 @@ pub enum Fault {
     ComposeNextGroup,
     /// Compose answers 11 at eight dependencies.
     ComposeAtEight,
-    /// Takes a first delta in and only echoes later ones.
+    /// Rebuilds on the first delivery, and only echoes later: no step, and the image as it was.
     EchoesLater,
     /// Holds every delta.
     HoldsAll,
@@ -220,6 +222,10 @@ impl Calls for Faulty {
         if self.0 == Fault::ShortRoom && buffer.len() + 1 == steps::BUFFER {
             return pairs::with_short_room(image, message, buffer);
         }
+        if close::has_own_rule(self.0) {
+            let answer = close::deliver(self.0, image, message, buffer);
+            return answer.unwrap_or_else(Code::number);
+        }
         let (before, untouched) = (image.to_vec(), buffer.to_vec());
         let answer = Reference.deliver(image, message, buffer);
         if code(answer) == 0 {
@@ -229,12 +235,9 @@ impl Calls for Faulty {
             }
         }
         match (self.0, code(answer)) {
-            (Fault::KeyAlone, 0) => key_alone(image, answer),
             (Fault::RepeatWrites, 0) => repeat_writes(&before, image, message, buffer, answer),
             (Fault::CountsOff, 0) if undos(answer) > 0 => answer + 65_536,
             (Fault::UndoesEverything, 0) => undoes_everything(&before, image, buffer, answer),
-            (Fault::WaitsBehindHeld, 0) => waits_behind_held(&before, image, message, answer),
-            (Fault::Subtracts, 0) => subtracts(&before, image, answer),
             (Fault::RefusalWrites, 7) => {
                 buffer[..STEP].fill(0);
                 answer
@@ -314,22 +317,11 @@ impl Faulty {
     fn without_steps(&self, before: &[u8], image: &mut [u8]) -> Option<u32> {
         match self.0 {
             Fault::EchoesLater if count(before) > 0 => image.copy_from_slice(before),
-            Fault::HoldsAll => hold_all(image),
             Fault::SameLog => image.copy_from_slice(&image::write(&order(&Set::new()))),
             Fault::RefusesAll => image.copy_from_slice(before),
             _ => return None,
         }
         Some(if self.0 == Fault::RefusesAll { 3 } else { 0 })
-    }
-}
-
-/// Makes all deltas of an image held ones.
-fn hold_all(image: &mut [u8]) {
-    let copy = image.to_vec();
-    if let Ok((set, _)) = read_sized(&copy) {
-        let held = set.values().copied().collect();
-        let log = Vec::new();
-        image.copy_from_slice(&image::write(&Order { log, held }));
     }
 }
 
@@ -350,15 +342,6 @@ fn makes_64(image: &[u8], message: &[u8]) -> bool {
     let mut copy = image.to_vec();
     let answer = Reference.deliver(&mut copy, message, &mut [0; steps::BUFFER]);
     code(answer) == 0 && count(image) == 63 && count(&copy) == 64
-}
-
-fn key_alone(image: &mut [u8], answer: u32) -> u32 {
-    let copy = image.to_vec();
-    if let Ok((_, mut order)) = read_sized(&copy) {
-        order.log.sort_by_key(key);
-        image.copy_from_slice(&image::write(&order));
-    }
-    answer
 }
 
 fn repeat_writes(
@@ -383,52 +366,9 @@ fn undoes_everything(before: &[u8], image: &[u8], buffer: &mut [u8], answer: u32
     };
     let (mut undos, executions) = (run_log(&old), run_log(&new));
     undos.reverse();
-    let all = 256 * undos.len() as u32 + 65_536 * executions.len() as u32;
-    steps::write(&Steps { undos, executions }, buffer);
-    all
-}
-
-fn waits_behind_held(before: &[u8], image: &mut [u8], message: &[u8], answer: u32) -> u32 {
-    let (mut set, old, delta) = match (read_sized(before), Delta::check(message)) {
-        (Ok((set, old)), Ok(delta)) => (set, old, delta),
-        _ => return answer,
-    };
-    if old.held.is_empty() || set.insert(delta.sequence(), delta).is_some() {
-        return answer;
-    }
-    let mut held = old.held.clone();
-    held.push(delta);
-    held.sort_by_key(Delta::sequence);
-    let log = old.log.clone();
-    image.copy_from_slice(&image::write(&Order { log, held }));
-    0
-}
-
-/// Setpoints got from the old ones by taking additions back and executing the rest.
-fn subtracts(before: &[u8], image: &mut [u8], answer: u32) -> u32 {
-    let (old, new) = match (read_sized(before), read_sized(image)) {
-        (Ok((_, old)), Ok((_, new))) => (old, new),
-        _ => return answer,
-    };
-    let kept = old.log.len() - undos(answer);
-    let undone: Vec<Delta> = old.log[kept..].iter().rev().map(|p| p.delta).collect();
-    let mut setpoints = [0; 64];
-    for (tag, setpoint) in setpoints.iter_mut().enumerate() {
-        *setpoint = i32_at(before, 16 + 4 * tag);
-    }
-    for command in undone.iter().flat_map(|delta| delta.commands().chunks(8)) {
-        if u8_at(command, 0) != 2 {
-            return answer;
-        }
-        setpoints[usize::from(command[1])] -= i32_at(command, 4);
-    }
-    for placed in &new.log[kept..] {
-        (setpoints, _) = run(placed.delta.commands(), setpoints);
-    }
-    for (tag, setpoint) in setpoints.iter().enumerate() {
-        image[16 + 4 * tag..20 + 4 * tag].copy_from_slice(&setpoint.to_be_bytes());
-    }
-    answer
+    let all = Steps { undos, executions };
+    steps::write(&all, buffer);
+    close::counts(&all)
 }
 
 /// Whether the message without its dependencies answers 6.
@@ -473,10 +413,15 @@ fn rebuilt(image: &[u8]) -> Option<Vec<u8>> {
         at += length;
     }
     let mut image = image.to_vec();
-    for (tag, setpoint) in setpoints.iter().enumerate() {
-        image[16 + 4 * tag..20 + 4 * tag].copy_from_slice(&setpoint.to_be_bytes());
-    }
+    write_setpoints(&mut image, &setpoints);
     read_sized(&image).is_ok().then_some(image)
+}
+
+/// Writes the setpoints of an image.
+fn write_setpoints(image: &mut [u8], setpoints: &Setpoints) {
+    for (tag, setpoint) in setpoints.iter().enumerate() {
+        put(image, SETPOINTS + 4 * tag, &setpoint.to_be_bytes());
+    }
 }
 
 /// The highest group of the log plus one.

@@ -174,7 +174,7 @@ impl Scene {
 
 /// What the queue executed, by time, and what was waited for before the rest.
 fn order_of(queued: &[Queued]) -> Vec<Queued> {
-    let mut order: Vec<Queued> = queued.iter().copied().collect();
+    let mut order: Vec<Queued> = queued.to_vec();
     order.retain(|own| own.executed.is_some());
     order.sort_by_key(|own| {
         (

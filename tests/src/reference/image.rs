@@ -56,7 +56,7 @@ pub fn read_sized(buffer: &[u8]) -> Result<(Set<'_>, Order<'_>), Code> {
 }
 
 /// The deltas a buffer lists: at most 64 that pass 3 to 6, no sequence twice.
-fn listed(buffer: &[u8]) -> Option<Set<'_>> {
+pub fn listed(buffer: &[u8]) -> Option<Set<'_>> {
     let count = usize::from(u16_at(buffer, 0)) + usize::from(u16_at(buffer, 2));
     if count > CAPACITY {
         return None;
