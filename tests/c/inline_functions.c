@@ -117,21 +117,25 @@ static void run_parts(void) {
     check(part_comes_out(255, 0, 0) && part_comes_out(255, 16777215, LAST_OF_FOUR_BYTES), "the last code beside a part");
 }
 
-/* ---- numbers in buffers, between other bytes */
+/* ---- numbers in buffers */
+
+/* Whether a reader gives every number of two bytes that begin there, between other bytes. */
+static int counts_up(uint32_t (*reader)(const uint8_t *, size_t), size_t begin) {
+    uint8_t bytes[BIVAMOLUNE_IMAGE_SIZE];
+    uint32_t expected = 0;
+    int right = 1;
+    memset(bytes, 0xEE, sizeof bytes);
+    for (unsigned high = 0; high < 256; high++)
+        for (unsigned low = 0; low < 256; low++) {
+            bytes[begin] = (uint8_t)high;
+            bytes[begin + 1] = (uint8_t)low;
+            right = right && reader(bytes, begin) == expected++;
+        }
+    return right && expected == 65536;
+}
+
 static void run_two_bytes(void) {
-    for (size_t at = 0; at < 4; at++) {
-        uint8_t bytes[6];
-        uint32_t expected = 0;
-        int right = 1;
-        memset(bytes, 0xEE, sizeof bytes);
-        for (unsigned high = 0; high < 256; high++)
-            for (unsigned low = 0; low < 256; low++) {
-                bytes[at] = (uint8_t)high;
-                bytes[at + 1] = (uint8_t)low;
-                right = right && bivamolune_two_bytes_at(bytes, at) == expected++;
-            }
-        check(right && expected == 65536, "every number of two bytes");
-    }
+    for (size_t at = 0; at < 4; at++) check(counts_up(bivamolune_two_bytes_at, at), "every number of two bytes");
 }
 
 /* One byte of four counts up, and the others are zero. */
@@ -256,30 +260,20 @@ static void run_pairs(void) {
 
 /* ---- images */
 
-/* Whether a reader gives every number of two bytes that begin there, beside other bytes. */
-static int counts_up(uint32_t (*reader)(const uint8_t *), size_t begin) {
-    uint8_t bytes[16384];
-    uint32_t expected = 0;
-    int right = 1;
-    memset(bytes, 0xEE, sizeof bytes);
-    for (unsigned high = 0; high < 256; high++)
-        for (unsigned low = 0; low < 256; low++) {
-            bytes[begin] = (uint8_t)high;
-            bytes[begin + 1] = (uint8_t)low;
-            right = right && reader(bytes) == expected++;
-        }
-    return right && expected == 65536;
-}
+/* The counts as readers that know their place. */
+static uint32_t log_count(const uint8_t *bytes, size_t begin) { return begin == 0 ? bivamolune_log_count(bytes) : 0; }
+static uint32_t held_count(const uint8_t *bytes, size_t begin) { return begin == 2 ? bivamolune_held_count(bytes) : 0; }
+static uint32_t bytes_used(const uint8_t *bytes, size_t begin) { return begin == 8 ? bivamolune_bytes_used(bytes) : 0; }
 
 static void run_image_counts(void) {
-    check(counts_up(bivamolune_log_count, 0), "every count of the log");
-    check(counts_up(bivamolune_held_count, 2), "every count of the held ones");
-    check(counts_up(bivamolune_bytes_used, 8), "every number of bytes used");
+    check(counts_up(log_count, 0), "every count of the log");
+    check(counts_up(held_count, 2), "every count of the held ones");
+    check(counts_up(bytes_used, 8), "every number of bytes used");
 }
 
 static void run_image_values(void) {
     static const uint32_t beyond[] = {64, 65, 127, 255, 256, 4092, 65536, 1073741820, 1073741824, 2147483648u, 4294967295u};
-    uint8_t bytes[16384];
+    uint8_t bytes[BIVAMOLUNE_IMAGE_SIZE];
     uint8_t *begin = bytes + 16;
     for (uint32_t tag = 0; tag < 64; tag++, begin += 4) {
         int right = 1;

@@ -16,7 +16,7 @@ use bivamolune_tests::generate::{damaged_image, image_input};
 use bivamolune_tests::random::Random;
 use bivamolune_tests::reference;
 use bivamolune_tests::view::{messages, u16_at};
-use bivamolune_tests::wire::{add, line, raise, sequence, set, Draft};
+use bivamolune_tests::wire::{add, line, raise, sequence, set, Draft, Sequence};
 use common::{a1, b1, delta, Station, A, C, IMAGE};
 use program::{broken_off, crashed, difference, directory, write_only, Program};
 
@@ -170,13 +170,18 @@ fn sequences_as_text() {
     }
 }
 
+/// A delta of each of eight lines, and their sequences.
+fn eight_lines() -> (Vec<Draft>, Vec<Sequence>) {
+    let drafts: Vec<Draft> = (0x10..0x18).map(|last| delta(last, 1)).collect();
+    let sequences = drafts.iter().map(Draft::sequence).collect();
+    (drafts, sequences)
+}
+
 /// The commands start past the dependencies, which are not printed, nor are block, priority
 /// and group.
 #[test]
 fn eight_dependencies() {
-    let lines = 0x10..0x18;
-    let needs: Vec<_> = lines.clone().map(|last| sequence(line(last), 1)).collect();
-    let mut drafts: Vec<Draft> = lines.map(|last| delta(last, 1)).collect();
+    let (mut drafts, needs) = eight_lines();
     let last = delta(A, 1).naming(&needs).commands(&[set(1, -2); 8]);
     drafts.push(
         last.group(2_147_483_647)
@@ -203,9 +208,7 @@ fn a_full_log() {
 /// The longest log: eight deltas of 104 bytes, then 56 of 200 that name them.
 #[test]
 fn the_longest_log() {
-    let lines = 0x10..0x18;
-    let needs: Vec<_> = lines.clone().map(|last| sequence(line(last), 1)).collect();
-    let mut drafts: Vec<Draft> = lines.map(|last| delta(last, 1)).collect();
+    let (mut drafts, needs) = eight_lines();
     drafts.extend((0x18..0x50).map(|last| delta(last, 1).naming(&needs)));
     let long = drafts
         .into_iter()
