@@ -306,6 +306,27 @@ fn a_read_that_fails() {
     }
 }
 
+/// That standard input is closed, a program in Rust is not told; the proved one is.
+#[cfg(feature = "library-print-log")]
+#[test]
+fn a_closed_input_is_told() {
+    let output = program::proved("print_log").output_from_closed();
+    assert!(tells_failure(&output), "{output:?}");
+}
+
+/// A write that fails is told on standard error, that of a log and that of a refusal.
+#[test]
+fn a_write_that_fails() {
+    let image = Station::with(&[a1()]).image;
+    for program in programs() {
+        for input in [&image[..], &image[1..]] {
+            let output = program.output_without_room(input);
+            assert!(!output.stderr.is_empty(), "{program:?}: {output:?}");
+            assert!(output.status.code().is_some(), "{program:?}: {output:?}");
+        }
+    }
+}
+
 /// Nobody reads what it prints: it ends, not as if all were well, and by no crash.
 #[test]
 fn a_closed_output() {

@@ -66,13 +66,17 @@ impl Program {
 
     /// What the program prints and how it ends, with the input in pieces of a size.
     pub fn output(&self, input: &[u8], size: usize) -> Output {
-        let mut child = self.start();
-        let stdin = child.stdin.take().expect("its input is piped");
-        let bytes = input.to_vec();
-        let writer = thread::spawn(move || feed(stdin, &bytes, size));
-        let output = child.wait_with_output().expect("the program ends");
-        writer.join().expect("no panic");
-        output
+        fed(self.start(), input, size)
+    }
+
+    /// The same, where there is no room for what it prints.
+    pub fn output_without_room(&self, input: &[u8]) -> Output {
+        let full = OpenOptions::new().write(true).open("/dev/full");
+        let mut command = Command::new(&self.0);
+        let command = command.stdin(Stdio::piped()).stderr(Stdio::piped());
+        let command = command.stdout(full.expect("it can be opened"));
+        let child = command.spawn().expect("the program starts");
+        fed(child, input, input.len().max(1))
     }
 
     /// What the program prints and how it ends, reading from this.
@@ -123,6 +127,16 @@ impl Program {
         let shell = shell.args(["-c", "trap '' PIPE; exec \"$0\""]).arg(&self.0);
         unread(Program::started(shell), input)
     }
+}
+
+/// What a program prints and how it ends, with the input in pieces of a size.
+fn fed(mut child: Child, input: &[u8], size: usize) -> Output {
+    let stdin = child.stdin.take().expect("its input is piped");
+    let bytes = input.to_vec();
+    let writer = thread::spawn(move || feed(stdin, &bytes, size));
+    let output = child.wait_with_output().expect("the program ends");
+    writer.join().expect("no panic");
+    output
 }
 
 /// Writes the input in pieces. A program may end before it has read all of it.
