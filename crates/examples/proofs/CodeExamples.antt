@@ -173,7 +173,7 @@ examples =
     -- 12: place 0 of an empty log; tag 64
     ∷ (logMessageOf none 0, part [] 12)
     ∷ (setpointOf none 64, value 12 (pos 0))
-    -- ---- deliver: undos and executions apart, and every byte past the steps as it was, the 2,033rd too
+    -- ---- deliver: undos and executions apart, and every byte past the steps as it was, the 10,161st too
     ∷ (deliverTo (holding (b1 ∷ [])) a1 10161, delivered 0 1 2 (some (undo (B 1) ∷ execute (A 1) ∷ execute (B 1) ∷ [])) false true)
     -- ---- compose with the flag: block 1 on an empty log, 2 after block 1
     ∷ (composeUrgent none lineA 0, composes 0 48 (messageOf true (A 1) 1 1 0 [] right) true)

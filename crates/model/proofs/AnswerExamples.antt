@@ -9,9 +9,10 @@ use Rattle.model.specs.Message.{Message}
 use Rattle.model.specs.Order.{needs, executablesOf, logOf, heldOf}
 use Rattle.model.specs.Setpoints.{startValues, stop, raise, operate, changeOf, apply, runCommand, runDelta, changesOf, setpointsOf}
 use Rattle.model.specs.Image.{messagesStart, messagesOf, valuesOf, headerOf, sectionsOf, usedOf, messagesStartIn}
-use Rattle.model.specs.Steps.{Step, undo, execute, pairOf, executionOf, undoOf, recordsOf, recordBytes}
+use Rattle.model.specs.Steps.{Step, undo, execute, executionOf, undoOf, recordsOf, recordBytes}
 use Rattle.model.specs.Calls.{written, emptyAnswer, Delivered, deliverAnswer, composeAnswer, setpointAnswer, start, nextMessage}
 use Rattle.model.proofs.ExampleMessages.{A, B, a1, a2, b1, c2, holding}
+use Rattle.model.proofs.ExampleEvents.{setting}
 
 -- the bytes used of the image of A1 and B1 in the log and C2 held: all that these answers read of it
 abbrev used : List ℕ
@@ -35,7 +36,7 @@ lent = replicate 242 0xEE
 
 -- a step that sets tag 3 alone
 abbrev stepTo : Step → ℤ → List ℕ
-stepTo step value = recordBytes (record { step = step; pairs = pairOf 3 value ∷ [] })
+stepTo step value = recordBytes (setting step value)
 
 abbrev counts : Delivered → ℕ × ℕ × ℕ × List ℕ
 counts d = (d .code, d .undos, d .executions, d .steps)

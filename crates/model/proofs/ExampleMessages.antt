@@ -55,6 +55,9 @@ a2 = plain (A 2) [] (command 1 3 (pos 7))
 abbrev pub b1 : Message
 b1 = plain (B 1) [] (command 2 3 (negsuc 19))
 
+abbrev pub c1 : Message
+c1 = plain (C 1) [] (command 2 4 (pos 20))
+
 abbrev pub c2 : Message
 c2 = plain (C 2) [] (command 2 4 (pos 1))
 

@@ -1,6 +1,8 @@
 pub mod ExampleMessages
+pub mod ExampleEvents
 pub mod MessageExamples
 pub mod GroundExamples
+pub mod ListingExamples
 pub mod StationExamples
 pub mod SetpointExamples
 pub mod ImageExamples
@@ -8,9 +10,14 @@ pub mod OffsetExamples
 pub mod WholeImageExamples
 pub mod StepExamples
 pub mod RecordExamples
+pub mod PlayExamples
 pub mod ComposeExamples
 pub mod TextExamples
 pub mod CodeLists
 pub mod ConditionExamples
 pub mod AnswerExamples
+pub mod RunExamples
+pub mod AcceptedExamples
+pub mod PairExamples
+pub mod NearMisses
 pub mod ProgramExamples

@@ -8,11 +8,9 @@ use lib.ListN.{take, drop, replicate}
 use lib.IntN.{ℤ, pos, negsuc}
 use Rattle.model.specs.Message.{Message}
 use Rattle.model.specs.Setpoints.{stop, raise, operate, changeOf, apply, runCommand, runDelta, changesOf}
-use Rattle.model.specs.Steps.{Step, undo, execute, Pair, pairOf, StepRecord, executionOf, undoOf, recordsOf, recordBytes, recordsBytes, readRecord, readRecords, readSteps, setPairs, foundBy, Standing, PlaysPairs}
+use Rattle.model.specs.Steps.{undo, execute, Pair, pairOf, StepRecord, executionOf, undoOf, recordsOf, recordBytes, recordsBytes, readRecord, readRecords, readSteps, setPairs, foundBy}
 use Rattle.model.proofs.ExampleMessages.{A, B, command, plain, a1, b1, stopped, raised}
-
-abbrev carrying : Step → List Pair → StepRecord
-carrying step pairs = record { step = step; pairs = pairs }
+use Rattle.model.proofs.ExampleEvents.{carrying}
 
 -- ---- a delta that finds these setpoints: its execution's pairs, and its undo's
 abbrev found : List ℤ
@@ -157,12 +155,3 @@ played =
 played-hold : map (λ e. (foundBy (e .0) found, setPairs (e .0) found)) played ≡ map (λ e. e .1) played
 unfolding played
 played-hold = refl
-
--- ---- records played: B1 stands, is undone, and is executed after A1
-abbrev standing : ℕ → ℤ → Standing
-standing s value = record { sequence = s; found = pairOf 3 value ∷ [] }
-
-played-records : PlaysPairs (standing (B 1) (pos 0) ∷ []) (pos 0 ∷ pos 0 ∷ pos 0 ∷ negsuc 19 ∷ []) (recordsOf zeros (b1 ∷ []) (a1 ∷ b1 ∷ []))
-    (standing (B 1) (pos 1500) ∷ standing (A 1) (pos 0) ∷ []) (pos 0 ∷ pos 0 ∷ pos 0 ∷ pos 1480 ∷ [])
-unfolding recordsOf executionOf undoOf changesOf runDelta runCommand apply changeOf operate raise stop
-played-records = (_, refl, (_, refl, (_, refl, (refl, refl))))

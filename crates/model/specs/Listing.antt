@@ -11,12 +11,12 @@ use lib.Dec.{T}
 use Rattle.model.specs.Lists.{_∈_, has, hasAll, keep}
 
 module _ {A : Type 0} (name : A → ℕ) where
-  -- The names of the items placed one after the other, after the names `done`: the last one first.
+  -- The names of the items placed one after the other, after the names `done`: the last one first. Of A1, A2 after none: A2, A1.
   abbrev pub after : List ℕ → List A → List ℕ
   after done [] = done
   after done (a ∷ l) = after (name a ∷ done) l
 
-  -- An item, and what follows once it is placed; nothing where there is none.
+  -- An item, and what follows once it is placed, by the names that are placed then; nothing where there is none.
   abbrev pub place : (List ℕ → List A) → List ℕ → Option A → List A
   place rest done none = []
   place rest done (some a) = a ∷ rest (name a ∷ done)
@@ -79,6 +79,10 @@ module _ {A : Type 0} (name : A → ℕ) (needs : A → List ℕ) where
     pub no-ring-behind : (b : A) → b ∈ S → Reaches S a (name b) → Reaches S b (name b) → ⊥
 
   -- ---- computed: of all that are ready a chosen one is placed, again and again, until none is ready
+  -- A2 and A1 received (`ListingExamples`):  done          ready   placed
+  --                                          none          A1      A1
+  --                                          A1            A2      A2
+  --                                          A2, A1        none    none: the listing is A1, A2
   abbrev pub grow : (List A → Option A) → List A → ℕ → List ℕ → List A
   grow choose S zero done = []
   grow choose S (suc n) done = place name (grow choose S n) done (choose (keep (ready done) S))

@@ -1,6 +1,8 @@
 -- Demand 3 over a whole run, and what Paper 1 of document 02 adds to it, as one record. `Agreement` says what has to hold of an empty and a deliver call that are known by
 -- what they promise: `begins given b`, that empty was given this, answered 0 and wrote b, and `answers b c a`, that the call c on
 -- the image b answered a. `Begins` and `Answers` are those of the definitions; of the code they are the postconditions of its functions.
+-- A list of calls is a list of events, the latest first. `RunExamples`, in this crate's proofs, works one through, call by call; `NearMisses` has
+-- lists that no station in agreement can have.
 use mathlib.Core.Path.{_≡_}
 use mathlib.Core.Logic.{_↔_}
 use mathlib.Core.Bool.{Bool, cond}

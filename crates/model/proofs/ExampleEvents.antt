@@ -1,0 +1,38 @@
+-- Calls with answers written by hand, and the records that their step buffers begin with.
+use mathlib.Core.List.{List, [], _∷_}
+use Prim.Native.Nat.{ℕ}
+use lib.ListN.{replicate}
+use lib.IntN.{ℤ}
+use Rattle.model.specs.Layout.{imageSize, stepRoom}
+use Rattle.model.specs.Message.{Message}
+use Rattle.model.specs.Image.{imageOf}
+use Rattle.model.specs.Steps.{Step, Pair, pairOf, StepRecord, recordsBytes}
+use Rattle.model.specs.Calls.{written}
+use Rattle.model.specs.Run.{Given, delivery, Event}
+use Rattle.model.proofs.ExampleMessages.{holding}
+
+-- what empty was given
+abbrev pub given : Given
+given = record { buffer = replicate imageSize 0xEE }
+
+-- a step buffer as lent
+abbrev pub lent : List ℕ
+lent = replicate stepRoom 0xEE
+
+abbrev pub carrying : Step → List Pair → StepRecord
+carrying step pairs = record { step = step; pairs = pairs }
+
+-- a step that sets tag 3 alone
+abbrev pub setting : Step → ℤ → StepRecord
+setting step value = carrying step (pairOf 3 value ∷ [])
+
+-- the image of these deltas, in whichever order
+abbrev pub image : List Message → List ℕ
+image l = imageOf (holding l)
+
+-- A message; code, undos and executions; the records that stand at the front of the step buffer, and the image, both as the call left them.
+abbrev pub event : Message → ℕ → ℕ → ℕ → List StepRecord → List ℕ → Event
+event m code undos executions records left = record {
+  call = delivery m lent;
+  answer = record { code = code; undos = undos; executions = executions; image = left; steps = written (recordsBytes records) lent };
+}
