@@ -7,7 +7,7 @@ use Prim.Native.Nat.{ℕ}
 use native.Mathlib.Omega.{arith}
 use lib.ListN.{length, replicate}
 use lib.IntN.{pos, negsuc}
-use Rattle.model.specs.Message.{layoutRight, numbersRight, dependenciesRight, contentRight, commandRight, passes}
+use Rattle.model.specs.Message.{Message, layoutRight, numbersRight, dependenciesRight, contentRight, commandRight, passes}
 use Rattle.model.specs.Order.{State, sequencesOf, needs, logOf}
 use Rattle.model.specs.Image.{imageOf}
 use Rattle.model.specs.Steps.{undo, execute, pairOf, recordBytes, readRecord}
@@ -17,18 +17,26 @@ use Rattle.model.specs.Run.{Call, delivery, Event, Run, accepts?, stateN
 use Rattle.model.proofs.ExampleMessages.{A, B, C, command, plain, a1, b1, c1, c2, holding}
 use Rattle.model.proofs.ExampleEvents.{given, carrying, setting, image, event}
 
--- ---- the calls. The host lends one step buffer again and again: where a call takes no step, the records of earlier calls still stand there.
+-- ---- the calls
 abbrev pub first-b1 : Event
 first-b1 = event b1 0 0 1 (setting (execute (B 1)) (negsuc 19) ∷ []) (image (b1 ∷ []))
 
 abbrev pub then-a1 : Event
-then-a1 = event a1 0 1 2 (setting (undo (B 1)) (pos 0) ∷ setting (execute (A 1)) (pos 1500) ∷ setting (execute (B 1)) (pos 1480) ∷ []) (image (a1 ∷ b1 ∷ []))
+then-a1 =
+    event a1 0 1 2 (setting (undo (B 1)) (pos 0) ∷ setting (execute (A 1)) (pos 1500) ∷ setting (execute (B 1)) (pos 1480) ∷ []) (image (a1 ∷ b1 ∷ []))
+
+-- A call without a step. The host lends the buffer that A1's delivery left: its records stand there still, and are none of this call's.
+abbrev quiet : Message → ℕ → List ℕ → Event
+quiet m code left = record {
+  call = delivery m (then-a1 .answer .steps);
+  answer = record { code = code; undos = 0; executions = 0; image = left; steps = then-a1 .answer .steps };
+}
 
 abbrev pub a1-again : Event
-a1-again = event a1 0 0 0 (setting (undo (B 1)) (pos 0) ∷ []) (image (a1 ∷ b1 ∷ []))
+a1-again = quiet a1 0 (image (a1 ∷ b1 ∷ []))
 
 abbrev pub wrong-c1 : Event
-wrong-c1 = event (plain (C 1) [] (command 1 64 (pos 5))) 6 0 0 (setting (undo (B 1)) (pos 0) ∷ []) (image (a1 ∷ b1 ∷ []))
+wrong-c1 = quiet (plain (C 1) [] (command 1 64 (pos 5))) 6 (image (a1 ∷ b1 ∷ []))
 
 abbrev pub cramped-c1 : Event
 cramped-c1 = record {
@@ -37,7 +45,7 @@ cramped-c1 = record {
 }
 
 abbrev pub held-c2 : Event
-held-c2 = event c2 0 0 0 (setting (undo (B 1)) (pos 0) ∷ []) (image (a1 ∷ b1 ∷ c2 ∷ []))
+held-c2 = quiet c2 0 (image (a1 ∷ b1 ∷ c2 ∷ []))
 
 abbrev pub freeing-c1 : Event
 freeing-c1 =
@@ -56,7 +64,7 @@ abbrev Moves : List ℕ → Call → Delivered → Type 0
 Moves b c a = (S : State) × (b ≡ imageOf S) × (a .image ≡ imageOf (stateNext S c))
 
 run : Run Moves (imageOf emptyState) whole
-unfolding accepts receive passes layoutRight numbersRight dependenciesRight contentRight commandRight
+unfolding accepts receive passes layoutRight numbersRight dependenciesRight contentRight commandRight recordBytes
 run =
     let both = holding (a1 ∷ b1 ∷ []) in (
       (holding (a1 ∷ b1 ∷ c2 ∷ []), refl, refl),
@@ -93,7 +101,7 @@ inTurn earlier (e ∷ l) =
     ∷ inTurn (e ∷ earlier) l
 
 calls-hold : inTurn [] (map (λ c. c .0) calls) ≡ map (λ c. c .1) calls
-unfolding calls accepts receive passes layoutRight numbersRight dependenciesRight contentRight commandRight logOf needs
+unfolding calls accepts receive passes layoutRight numbersRight dependenciesRight contentRight commandRight logOf needs recordBytes
 calls-hold = refl
 
 -- ---- the played log after each call: the log before it, the deltas that it undid and executed, and what its steps lead to

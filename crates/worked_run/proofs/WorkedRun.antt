@@ -1,0 +1,20 @@
+-- The worked run of `model` is one of the definitions' own calls: each of its answers, written there by hand, is what `deliver` gives to
+-- the image as the last call left it, byte for byte.
+use mathlib.Core.Path.{refl}
+use Rattle.model.specs.Message.{layoutRight, numbersRight, dependenciesRight, contentRight, commandRight, passes}
+use Rattle.model.specs.Order.{needs, executablesOf, logOf, heldOf}
+use Rattle.model.specs.Setpoints.{startValues, stop, raise, operate, changeOf, apply, runCommand, runDelta, changesOf, setpointsOf}
+use Rattle.model.specs.Image.{messagesStart, messagesOf, valuesOf, headerOf, sectionsOf, usedOf, imageOf, messagesStartIn, originIn, isImage}
+use Rattle.model.specs.Steps.{executionOf, undoOf, recordsOf, recordBytes}
+use Rattle.model.specs.Calls.{empty, emptyState, deliver, deliverCode}
+use Rattle.model.specs.Run.{Run, Begins, Answers}
+use Rattle.model.proofs.ExampleEvents.{given}
+use Rattle.model.proofs.RunExamples.{whole}
+
+begins : Begins given (imageOf emptyState)
+unfolding empty
+begins = (refl, refl)
+
+answers : Run Answers (imageOf emptyState) whole
+unfolding deliver deliverCode isImage imageOf usedOf sectionsOf headerOf valuesOf messagesOf messagesStart messagesStartIn originIn setpointsOf startValues logOf heldOf executablesOf needs recordBytes recordsOf executionOf undoOf changesOf runDelta runCommand apply changeOf operate raise stop passes layoutRight numbersRight dependenciesRight contentRight commandRight
+answers = (refl, (refl, (refl, (refl, (refl, (refl, (refl, tt)))))))
