@@ -2,30 +2,23 @@
 use mathlib.Core.Path.{_≡_, refl, ap}
 use mathlib.Core.Logic.{_↔_}
 use mathlib.Core.List.{List, [], _∷_, List·Memᴰ·head, List·Memᴰ·tail}
-use Prim.Native.Nat.{ℕ}
 use native.Mathlib.Omega.{arith}
 use lib.IntN.{pos}
 use Rattle.model.specs.Lists.{_∈_}
 use Rattle.model.specs.Message.{Message, sequenceOf}
-use Rattle.model.specs.Order.{needs, logOf}
-use Rattle.model.specs.Image.{headerOf, sectionsOf, usedOf, imageOf, logCount}
 use Rattle.model.specs.Steps.{execute}
-use Rattle.model.specs.Calls.{Delivered, emptyState}
-use Rattle.model.specs.Run.{Given, Call, Event, Run, acceptedIn, SameAccepted, Agreement}
-use Rattle.model.proofs.ExampleMessages.{A, B, a1, b1, c1, c2}
-use Rattle.model.proofs.ExampleEvents.{given, setting, image, event}
+use Rattle.model.specs.Run.{Event, acceptedIn, SameAccepted}
+use Rattle.model.proofs.ExampleMessages.{B, a1, b1, c1, c2}
+use Rattle.model.proofs.ExampleEvents.{given, setting, image, event, first-a1}
 use Rattle.model.proofs.RunExamples.{a1-again, wrong-c1, two, whole}
 
 -- ---- the messages that were answered with 0: none that was refused, and A1 twice
 accepted : acceptedIn whole ≡ c1 ∷ c2 ∷ a1 ∷ a1 ∷ b1 ∷ []
 accepted = refl
 
--- ---- "equal accepted sets": a station that heard A1 first, and a third one that never heard B1
+-- ---- "equal accepted sets": a station that heard A1 first, and one that never heard B1
 abbrev a1-first : List Event
-a1-first = event b1 0 0 1 (setting (execute (B 1)) (pos 1480) ∷ []) (image (a1 ∷ b1 ∷ [])) ∷ event a1 0 0 1 (setting (execute (A 1)) (pos 1500) ∷ []) (image (a1 ∷ [])) ∷ []
-
-abbrev a1-alone : List Event
-a1-alone = event a1 0 0 1 (setting (execute (A 1)) (pos 1500) ∷ []) (image (a1 ∷ [])) ∷ []
+a1-first = event b1 0 0 1 (setting (execute (B 1)) (pos 1480) ∷ []) (image (a1 ∷ b1 ∷ [])) ∷ first-a1 ∷ []
 
 -- two messages, one of them twice, and the other way round
 once : (a b m : Message) → m ∈ a ∷ a ∷ b ∷ [] → m ∈ b ∷ a ∷ []
@@ -38,7 +31,7 @@ twice a b m (List·Memᴰ·head e) = List·Memᴰ·tail (List·Memᴰ·tail (Lis
 twice a b m (List·Memᴰ·tail (List·Memᴰ·head e)) = List·Memᴰ·head e
 
 -- the same set, though neither the same list nor as many calls
-in-either : (m : Message) → m ∈ a1 ∷ a1 ∷ b1 ∷ [] ↔ m ∈ b1 ∷ a1 ∷ []
+pub in-either : (m : Message) → m ∈ a1 ∷ a1 ∷ b1 ∷ [] ↔ m ∈ b1 ∷ a1 ∷ []
 in-either m = (once a1 b1 m, twice a1 b1 m)
 
 same-set : SameAccepted given (wrong-c1 ∷ a1-again ∷ two) given a1-first
@@ -47,18 +40,5 @@ same-set = in-either
 not-a1 : b1 ∈ a1 ∷ [] → ⊥
 not-a1 (List·Memᴰ·head e) = let third : sequenceOf b1 ≡ sequenceOf a1 = ap sequenceOf e in omega arith
 
-other-set : SameAccepted given a1-first given a1-alone → ⊥
+other-set : SameAccepted given a1-first given (first-a1 ∷ []) → ⊥
 other-set same = not-a1 (same b1 .0 (List·Memᴰ·head refl))
-
--- ---- "equal accepted sets give byte-equal images": B1 is answered with 0, but is not in the second station's image
-abbrev lagging : List Event
-lagging = event b1 0 0 1 (setting (execute (B 1)) (pos 1480) ∷ []) (image (a1 ∷ [])) ∷ a1-alone
-
-module _ (begins : Given → List ℕ → Type 0) (answers : List ℕ → Call → Delivered → Type 0) (agreement : Agreement begins answers)
-    (begun : begins given (imageOf emptyState)) where
-  images-differ : Run answers (imageOf emptyState) (a1-again ∷ two) → Run answers (imageOf emptyState) lagging → ⊥
-  unfolding logOf needs imageOf usedOf sectionsOf headerOf
-  images-differ run other =
-      let logs : 2 ≡ logCount (image (a1 ∷ [])) =
-      ap logCount (agreement .equal given given (imageOf emptyState) (imageOf emptyState) begun begun (a1-again ∷ two) lagging run other in-either) in
-      omega arith

@@ -2,14 +2,14 @@
 use mathlib.Core.List.{List, [], _∷_}
 use Prim.Native.Nat.{ℕ}
 use lib.ListN.{replicate}
-use lib.IntN.{ℤ}
+use lib.IntN.{ℤ, pos, negsuc}
 use Rattle.model.specs.Layout.{imageSize, stepRoom}
 use Rattle.model.specs.Message.{Message}
 use Rattle.model.specs.Image.{imageOf}
-use Rattle.model.specs.Steps.{Step, Pair, pairOf, StepRecord, recordsBytes}
+use Rattle.model.specs.Steps.{Step, execute, Pair, pairOf, StepRecord, recordsBytes}
 use Rattle.model.specs.Calls.{written}
 use Rattle.model.specs.Run.{Given, delivery, Event}
-use Rattle.model.proofs.ExampleMessages.{holding}
+use Rattle.model.proofs.ExampleMessages.{A, B, a1, b1, holding}
 
 -- what empty was given
 abbrev pub given : Given
@@ -36,3 +36,14 @@ event m code undos executions records left = record {
   call = delivery m lent;
   answer = record { code = code; undos = undos; executions = executions; image = left; steps = written (recordsBytes records) lent };
 }
+
+-- the image that empty wrote
+abbrev pub start : List ℕ
+start = image []
+
+-- A1 on it, and B1, taken in rightly
+abbrev pub first-a1 : Event
+first-a1 = event a1 0 0 1 (setting (execute (A 1)) (pos 1500) ∷ []) (image (a1 ∷ []))
+
+abbrev pub first-b1 : Event
+first-b1 = event b1 0 0 1 (setting (execute (B 1)) (negsuc 19) ∷ []) (image (b1 ∷ []))

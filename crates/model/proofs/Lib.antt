@@ -20,4 +20,5 @@ pub mod RunExamples
 pub mod AcceptedExamples
 pub mod PairExamples
 pub mod NearMisses
+pub mod AgreementExamples
 pub mod ProgramExamples

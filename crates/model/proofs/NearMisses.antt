@@ -6,33 +6,18 @@ use mathlib.Core.List.{List, [], _∷_}
 use Prim.Native.Nat.{ℕ, _≤_}
 use native.Mathlib.Omega.{arith}
 use lib.ListN.{length, getD}
-use lib.IntN.{pos, negsuc}
+use lib.IntN.{pos}
 use Rattle.model.specs.Bytes.{word}
 use Rattle.model.specs.Message.{Message, layoutRight, numbersRight, dependenciesRight, contentRight, commandRight, passes}
 use Rattle.model.specs.Order.{needs, logOf}
 use Rattle.model.specs.Setpoints.{startValues, stop, raise, operate, changeOf, apply, runCommand, runDelta, changesOf}
 use Rattle.model.specs.Image.{logCount, imageOf, usedOf, sectionsOf, headerOf}
 use Rattle.model.specs.Steps.{undo, execute, Pair, StepRecord, executionOf, undoOf, recordsOf, recordBytes, readRecord, Plays}
-use Rattle.model.specs.Calls.{Delivered, emptyState}
+use Rattle.model.specs.Calls.{Delivered}
 use Rattle.model.specs.PlainStation.{accepts, receive}
 use Rattle.model.specs.Run.{Given, Call, Event, Run, Played, Agreement}
 use Rattle.model.proofs.ExampleMessages.{A, B, command, plain, a1, a2, b1, a1-naming-b1}
-use Rattle.model.proofs.ExampleEvents.{given, setting, image, event}
-
--- the image that empty wrote
-abbrev start : List ℕ
-start = imageOf emptyState
-
--- A1, taken in rightly
-abbrev first-a1 : Event
-first-a1 = event a1 0 0 1 (setting (execute (A 1)) (pos 1500) ∷ []) (image (a1 ∷ []))
-
--- B1 too, and A2, which is held
-abbrev first-b1 : Event
-first-b1 = event b1 0 0 1 (setting (execute (B 1)) (negsuc 19) ∷ []) (image (b1 ∷ []))
-
-abbrev first-a2 : Event
-first-a2 = event a2 0 0 0 [] (image (a2 ∷ []))
+use Rattle.model.proofs.ExampleEvents.{given, setting, image, event, start, first-a1, first-b1}
 
 module _ (begins : Given → List ℕ → Type 0) (answers : List ℕ → Call → Delivered → Type 0) (agreement : Agreement begins answers) (begun : begins given start) where
   -- ---- "One that plays honest undos and executions but counts them freely": an execution more
@@ -124,6 +109,9 @@ module _ (begins : Given → List ℕ → Type 0) (answers : List ℕ → Call �
       omega arith
 
   -- ---- "Letting unrelated deltas wait behind a held one": B1 behind A2
+  abbrev first-a2 : Event
+  first-a2 = event a2 0 0 0 [] (image (a2 ∷ []))
+
   abbrev waiting : Event
   waiting = event b1 0 0 0 [] (image (a2 ∷ b1 ∷ []))
 

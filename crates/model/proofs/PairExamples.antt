@@ -15,11 +15,11 @@ use Rattle.model.proofs.ExampleEvents.{setting}
 use Rattle.model.proofs.RunExamples.{two}
 
 -- all setpoints zero but tag 3
-abbrev tag3 : ℤ → List ℤ
+abbrev pub tag3 : ℤ → List ℤ
 tag3 value = set (replicate tagCount (pos 0)) 3 value
 
 -- an execution of a pair of tag 3, which found this value
-abbrev standing : ℕ → ℤ → Standing
+abbrev pub standing : ℕ → ℤ → Standing
 standing s value = record { sequence = s; found = pairOf 3 value ∷ [] }
 
 -- B1 stands, is undone, and is executed after A1.

@@ -6,7 +6,7 @@ use mathlib.Core.List.{List, [], _∷_, map}
 use Prim.Native.Nat.{ℕ}
 use native.Mathlib.Omega.{arith}
 use lib.ListN.{length, replicate}
-use lib.IntN.{pos, negsuc}
+use lib.IntN.{pos}
 use Rattle.model.specs.Message.{Message, layoutRight, numbersRight, dependenciesRight, contentRight, commandRight, passes}
 use Rattle.model.specs.Order.{State, sequencesOf, needs, logOf}
 use Rattle.model.specs.Image.{imageOf}
@@ -15,12 +15,9 @@ use Rattle.model.specs.Calls.{Delivered, emptyState}
 use Rattle.model.specs.PlainStation.{accepts, receive}
 use Rattle.model.specs.Run.{Call, delivery, Event, Run, accepts?, stateNext, stateAfter, logAfter, Played}
 use Rattle.model.proofs.ExampleMessages.{A, B, C, command, plain, a1, b1, c1, c2, holding}
-use Rattle.model.proofs.ExampleEvents.{given, carrying, setting, image, event}
+use Rattle.model.proofs.ExampleEvents.{given, carrying, setting, image, event, start, first-b1}
 
--- ---- the calls
-abbrev pub first-b1 : Event
-first-b1 = event b1 0 0 1 (setting (execute (B 1)) (negsuc 19) ∷ []) (image (b1 ∷ []))
-
+-- ---- the calls, after `first-b1`
 abbrev pub then-a1 : Event
 then-a1 =
     event a1 0 1 2 (setting (undo (B 1)) (pos 0) ∷ setting (execute (A 1)) (pos 1500) ∷ setting (execute (B 1)) (pos 1480) ∷ []) (image (a1 ∷ b1 ∷ []))
@@ -63,7 +60,7 @@ whole = freeing-c1 ∷ held-c2 ∷ cramped-c1 ∷ wrong-c1 ∷ a1-again ∷ two
 abbrev Moves : List ℕ → Call → Delivered → Type 0
 Moves b c a = (S : State) × (b ≡ imageOf S) × (a .image ≡ imageOf (stateNext S c))
 
-run : Run Moves (imageOf emptyState) whole
+run : Run Moves start whole
 unfolding accepts receive passes layoutRight numbersRight dependenciesRight contentRight commandRight recordBytes
 run =
     let both = holding (a1 ∷ b1 ∷ []) in (

@@ -1,0 +1,75 @@
+-- Further runs that no station in agreement has, for what `NearMisses` does not ask of `Agreement`: code, undos, setpoints and equal images.
+use mathlib.Core.Path.{_≡_, refl, ap}
+use mathlib.Core.List.{List, [], _∷_}
+use Prim.Native.Nat.{ℕ}
+use native.Mathlib.Omega.{arith}
+use lib.ListN.{getD}
+use lib.IntN.{ℤ, pos}
+use Rattle.model.specs.Bytes.{word}
+use Rattle.model.specs.Message.{layoutRight, numbersRight, dependenciesRight, contentRight, commandRight, passes}
+use Rattle.model.specs.Order.{needs, logOf, heldOf}
+use Rattle.model.specs.Setpoints.{startValues, operate, changeOf, apply, runCommand, runDelta, setpointsOf}
+use Rattle.model.specs.Image.{messagesOf, valuesOf, headerOf, sectionsOf, usedOf, imageOf, logCount, valuesIn}
+use Rattle.model.specs.Steps.{undo, execute, recordBytes, readRecord}
+use Rattle.model.specs.Calls.{Delivered, deliverCode}
+use Rattle.model.specs.PlainStation.{accepts, receive}
+use Rattle.model.specs.Run.{Given, Call, delivery, Event, Run, PairsPlayed, Agreement}
+use Rattle.model.proofs.ExampleMessages.{A, B, C, command, plain, a1, b1}
+use Rattle.model.proofs.ExampleEvents.{given, setting, image, event, start, first-a1, first-b1}
+use Rattle.model.proofs.RunExamples.{a1-again, two}
+use Rattle.model.proofs.AcceptedExamples.{in-either}
+use Rattle.model.proofs.PairExamples.{tag3, standing}
+
+module _ (begins : Given → List ℕ → Type 0) (answers : List ℕ → Call → Delivered → Type 0) (agreement : Agreement begins answers) (begun : begins given start) where
+  -- ---- a message that must be refused is answered with 0: tag 64
+  abbrev accepting : Event
+  accepting = event (plain (C 1) [] (command 1 64 (pos 5))) 0 0 0 [] start
+
+  accepts-wrong : Run answers start (accepting ∷ []) → ⊥
+  unfolding accepts passes layoutRight numbersRight dependenciesRight contentRight commandRight
+  accepts-wrong run = agreement .accepted given start begun accepting [] run .0 refl
+
+  -- ---- two numbers apply, and the higher one is answered: tag 64, and no step buffer
+  abbrev higher : Event
+  higher = record {
+    call = delivery (plain (C 1) [] (command 1 64 (pos 5))) [];
+    answer = record { code = 6; undos = 0; executions = 0; image = start; steps = [] };
+  }
+
+  answers-higher : Run answers start (higher ∷ []) → ⊥
+  unfolding deliverCode imageOf usedOf sectionsOf headerOf valuesOf setpointsOf startValues messagesOf logOf heldOf
+  answers-higher run = let lowest : higher .answer .code ≡ 1 = agreement .code given start begun higher [] run in omega arith
+
+  -- ---- an execution is counted as an undo
+  abbrev counting : Event
+  counting =
+      event a1 0 2 1 (setting (undo (B 1)) (pos 0) ∷ setting (execute (A 1)) (pos 1500) ∷ setting (execute (B 1)) (pos 1480) ∷ []) (image (a1 ∷ b1 ∷ []))
+
+  counts-undos : Run answers start (counting ∷ first-b1 ∷ []) → ⊥
+  unfolding accepts receive passes layoutRight numbersRight dependenciesRight contentRight commandRight logOf needs
+  counts-undos run = let one : counting .answer .undos ≡ 1 = agreement .undos given start begun counting (first-b1 ∷ []) run in omega arith
+
+  -- ---- "Played on the setpoints, the pairs must lead to the image's values": A1 sets tag 3 to 1500, and its pair says 1501
+  abbrev straying : Event
+  straying = event a1 0 0 1 (setting (execute (A 1)) (pos 1501) ∷ []) (image (a1 ∷ []))
+
+  strayed : PairsPlayed start (straying ∷ []) (standing (A 1) (pos 0) ∷ []) (tag3 (pos 1501))
+  unfolding valuesIn imageOf usedOf sectionsOf headerOf valuesOf setpointsOf startValues logOf readRecord recordBytes
+  strayed = ([], tag3 (pos 0), setting (execute (A 1)) (pos 1501) ∷ [], (refl, refl), refl, (standing (A 1) (pos 0) ∷ [], refl, (refl, refl)))
+
+  pairs-lead-elsewhere : Run answers start (straying ∷ []) → ⊥
+  unfolding valuesIn imageOf usedOf sectionsOf headerOf valuesOf setpointsOf startValues runDelta runCommand apply changeOf operate logOf needs
+  pairs-lead-elsewhere run =
+      let values = agreement .setpoints given start begun (straying ∷ []) run (tag3 (pos 1501)) .0 (standing (A 1) (pos 0) ∷ [], strayed) in
+      let tag-3 : 1501 ≡ word (pos 1500) = ap (λ (v : List ℤ). word (getD v 3 (pos 0))) values in
+      omega arith
+
+  -- ---- "equal accepted sets give byte-equal images": B1 is answered with 0, but is not in the image
+  abbrev lagging : Event
+  lagging = event b1 0 0 1 (setting (execute (B 1)) (pos 1480) ∷ []) (image (a1 ∷ []))
+
+  images-differ : Run answers start (a1-again ∷ two) → Run answers start (lagging ∷ first-a1 ∷ []) → ⊥
+  unfolding logOf needs imageOf usedOf sectionsOf headerOf
+  images-differ run other =
+      let logs : 2 ≡ logCount (image (a1 ∷ [])) = ap logCount (agreement .equal given given start start begun begun (a1-again ∷ two) (lagging ∷ first-a1 ∷ []) run other in-either) in
+      omega arith
