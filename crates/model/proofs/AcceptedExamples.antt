@@ -38,7 +38,7 @@ same-set : SameAccepted given (wrong-c1 ∷ a1-again ∷ two) given a1-first
 same-set = in-either
 
 not-a1 : b1 ∈ a1 ∷ [] → ⊥
-not-a1 (List·Memᴰ·head e) = let third : sequenceOf b1 ≡ sequenceOf a1 = ap sequenceOf e in omega arith
+not-a1 (List·Memᴰ·head e) = let sequences : sequenceOf b1 ≡ sequenceOf a1 = ap sequenceOf e in omega arith
 
 other-set : SameAccepted given a1-first given (first-a1 ∷ []) → ⊥
 other-set same = not-a1 (same b1 .0 (List·Memᴰ·head refl))

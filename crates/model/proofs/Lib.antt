@@ -16,6 +16,7 @@ pub mod TextExamples
 pub mod CodeLists
 pub mod ConditionExamples
 pub mod AnswerExamples
+pub mod PlainStationExamples
 pub mod RunExamples
 pub mod AcceptedExamples
 pub mod PairExamples

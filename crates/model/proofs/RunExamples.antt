@@ -35,6 +35,7 @@ a1-again = quiet a1 0 (image (a1 ∷ b1 ∷ []))
 abbrev pub wrong-c1 : Event
 wrong-c1 = quiet (plain (C 1) [] (command 1 64 (pos 5))) 6 (image (a1 ∷ b1 ∷ []))
 
+-- a step buffer that lacks a byte
 abbrev pub cramped-c1 : Event
 cramped-c1 = record {
   call = delivery c1 (replicate 10159 0xEE);
@@ -48,7 +49,7 @@ abbrev pub freeing-c1 : Event
 freeing-c1 =
     event c1 0 0 2 (carrying (execute (C 1)) (pairOf 4 (pos 20) ∷ []) ∷ carrying (execute (C 2)) (pairOf 4 (pos 21) ∷ []) ∷ []) (image (a1 ∷ b1 ∷ c1 ∷ c2 ∷ []))
 
--- the latest first
+-- the first two, and all; the latest first
 abbrev pub two : List Event
 two = then-a1 ∷ first-b1 ∷ []
 
