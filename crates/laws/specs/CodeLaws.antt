@@ -13,7 +13,7 @@ use Rattle.model.specs.Bytes.{number}
 use Rattle.model.specs.Message.{Message}
 use Rattle.model.specs.Image.{stateIn}
 use Rattle.model.specs.Compose.{composed}
-use Rattle.model.specs.Codes.{Conditions, lowestCode, emptyConditions, setpointConditions}
+use Rattle.model.specs.Codes.{Conditions, lowestCode, emptyConditions, deliverConditions, composeConditions, setpointConditions}
 use Rattle.model.specs.Calls.{empty, emptyAnswer, deliver, deliverCode, deliverAnswer, compose, composeCode, composeAnswer, setpoint, setpointAnswer}
 
 -- ---- the lowest number
@@ -59,6 +59,41 @@ lowest-is low (c ∷ l) h = go (c .1) refl (lowest-is (c .0) l (h .1))
       least = λ n k. ⊎-elim (λ q. absurd (other n e q)) (λ j. r .least n j) (List·Memᴰ·cases-cons k);
     }
 
+-- ---- the code of an answer is the one that was found
+pub empty-code : (b : List ℕ) → empty b .code ≡ lowestCode (emptyConditions b)
+unfolding empty
+empty-code b = go (lowestCode (emptyConditions b))
+  where
+    go : (n : ℕ) → emptyAnswer n b .code ≡ n
+    go zero = refl
+    go (suc n) = refl
+
+pub deliver-code : (b : List ℕ) (m : Message) (steps : List ℕ) → deliver b m steps .code ≡ lowestCode (deliverConditions b m (length steps))
+unfolding deliver deliverCode
+deliver-code b m steps = go (lowestCode (deliverConditions b m (length steps)))
+  where
+    go : (n : ℕ) → deliverAnswer n (stateIn b) b m steps .code ≡ n
+    go zero = refl
+    go (suc n) = refl
+
+pub compose-code : (b line commands : List ℕ) (flag priority : ℕ) (buffer : List ℕ)
+    → compose b line commands flag priority buffer .code ≡ lowestCode (composeConditions b line commands flag priority (length buffer))
+unfolding compose composeCode
+compose-code b line commands flag priority buffer =
+    go (lowestCode (composeConditions b line commands flag priority (length buffer))) (composed (stateIn b) (number line) commands (eqb flag 1) priority)
+  where
+    go : (n : ℕ) (m : Message) → composeAnswer n m buffer .code ≡ n
+    go zero m = refl
+    go (suc n) m = refl
+
+pub setpoint-code : (b : List ℕ) (tag : ℕ) → setpoint b tag .code ≡ lowestCode (setpointConditions b tag)
+unfolding setpoint
+setpoint-code b tag = go (lowestCode (setpointConditions b tag))
+  where
+    go : (n : ℕ) → setpointAnswer n b tag .code ≡ n
+    go zero = refl
+    go (suc n) = refl
+
 -- ---- a refusal
 pub deliver-refused : (b : List ℕ) (m : Message) (steps : List ℕ) → ¬ (deliver b m steps .code ≡ 0)
     → deliver b m steps ≡ record { code = deliverCode b m (length steps); undos = 0; executions = 0; image = b; steps = steps }
@@ -69,14 +104,6 @@ deliver-refused b m steps h = go (deliverCode b m (length steps)) h
         → deliverAnswer n (stateIn b) b m steps ≡ record { code = n; undos = 0; executions = 0; image = b; steps = steps }
     go zero h = absurd (h refl)
     go (suc n) h = refl
-
-pub deliver-code : (b : List ℕ) (m : Message) (steps : List ℕ) → deliver b m steps .code ≡ deliverCode b m (length steps)
-unfolding deliver
-deliver-code b m steps = go (deliverCode b m (length steps))
-  where
-    go : (n : ℕ) → deliverAnswer n (stateIn b) b m steps .code ≡ n
-    go zero = refl
-    go (suc n) = refl
 
 pub empty-refused : (b : List ℕ) → ¬ (empty b .code ≡ 0) → empty b .image ≡ b
 unfolding empty

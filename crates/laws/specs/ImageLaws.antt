@@ -16,7 +16,7 @@ use Rattle.model.specs.Layout.{lengthAt, valueSize, tagCount, valuesSize, image
 use Rattle.model.specs.Message.{Message, commandsOf, passes}
 use Rattle.model.specs.Order.{State, holding, logOf, heldOf}
 use Rattle.model.specs.Setpoints.{startValues, apply, runCommand, runCommands, runDelta, runLog, setpointsOf}
-use Rattle.model.specs.Image.{messagesStart, messagesOf, valuesOf, headerOf, sectionsOf, usedOf, imageOf, Valid, IsImage, cut, logCount, heldCount, messagesStartIn, logIn, messagesIn, setOf, stateIn, isImage}
+use Rattle.model.specs.Image.{messagesStart, messagesOf, valuesOf, headerOf, sectionsOf, usedOf, imageOf, Valid, IsImage, cut, logCount, heldCount, messagesStartIn, logIn, messagesIn, heldIn, setOf, stateIn, isImage}
 use Rattle.order.specs.TestLaws.{and-l, and-r, and-i, every-∈, ∈-every, same-refl, same→eq}
 use Rattle.laws.specs.OriginLaws.{origin-back}
 use Rattle.laws.specs.SetLaws.{setOf-ascending, setOf-same}
@@ -140,6 +140,10 @@ module _ (S : State) (valid : Valid S) where
   log-back =
       ap₂ cut count-log (image-body .body ∙ ap (λ (x : List ℕ). x ++ image-body .zeros) (sym (join-append (logOf S) (heldOf S))) ∙ append-assoc (join (logOf S)) (join (heldOf S)) (image-body .zeros))
       ∙ cut-join (logOf S) (join (heldOf S) ++ image-body .zeros) (λ m k. passes-sized m (log-passes m k))
+
+  -- and so are its held messages
+  pub held-back : heldIn (imageOf S) ≡ heldOf S
+  held-back = ap₂ drop count-log messages-back ∙ drop-at (logOf S) (heldOf S) (length (logOf S)) refl
 
   -- the image reads back to its state
   pub state-back : stateIn (imageOf S) ≡ S

@@ -11,12 +11,12 @@ use lib.Dec.{T, T-not, not-T}
 use Rattle.model.specs.Lists.{_∈_, has, keep}
 use Rattle.model.specs.Message.{Message, sequenceOf}
 use Rattle.model.specs.Listing as L
-use Rattle.model.specs.Order.{Origin, State, holding, Ascending, sequencesOf, needs, placedBy, Executable, Grounded, executablesOf, heldOf, keyOf, less, IsLog, logOf}
+use Rattle.model.specs.Order.{Origin, State, holding, Ascending, sequencesOf, needs, placedBy, Reaches, MeetsRing, Executable, Grounded, executablesOf, heldOf, keyOf, less, IsLog, logOf}
 use Rattle.order.specs.TestLaws.{Same, decide, same-test, has→∈, ∈→has, keep-∈, ∈-keep, keep-length, keep-cong}
 use Rattle.order.specs.KeyOrder.{Total, less-total}
 use Rattle.order.specs.ListingLaws.{fresh, any-chooses, grow-complete, complete-items, first-is, first-unique, after-from, after-has, listing-length, listing-room, listing-closed}
-use Rattle.order.specs.Reach.{grounded↔executable}
-use Rattle.laws.specs.SetLaws.{ascending-names, ascending-unique}
+use Rattle.order.specs.Reach.{reach-more, grounded↔executable}
+use Rattle.laws.specs.SetLaws.{keep-ascending, ascending-names, ascending-unique}
 
 -- ---- the key is a strict total order on every set: keys are under one, and tell the deltas of a set apart
 pub key-order : Total less
@@ -45,6 +45,14 @@ log-of-set S R e p q f = ap₂ (λ (O : Origin) (l : List Message). logOf (holdi
 pub executables-complete : (S : State) → Ascending (S .deltas) → L.Complete sequenceOf (needs S) (S .deltas) (executablesOf S)
 unfolding executablesOf
 executables-complete S h = grow-complete sequenceOf (needs S) L.anyOf any-chooses (S .deltas) (ascending-names (S .deltas) h)
+
+-- a ring stays one, whatever is received besides
+pub ring-stays : (S R : State) → ((x : Message) → x ∈ S .deltas → x ∈ R .deltas) → (m : Message) → MeetsRing S m → MeetsRing R m
+unfolding needs
+ring-stays S R all m = ⊎-elim (λ r. inl (more r)) (λ r. inr (r .0, all (r .0) (r .1), more (r .2), more (r .3)))
+  where
+    more : {a : Message} {s : ℕ} → Reaches S a s → Reaches R a s
+    more r = reach-more sequenceOf (needs S) (S .deltas) (R .deltas) all r
 
 -- a delta of this sequence is in the log
 abbrev pub Logged : State → ℕ → Type 0
@@ -98,6 +106,21 @@ module _ (S : State) (ascends : Ascending (S .deltas)) where
     λ r. subst (λ (l : List Message). m ∈ l) (sym held-by-log)
         (∈-keep others (r .0) (not-T (has (sequenceOf m) (sequencesOf (logOf S))) (λ t. r .1 (log-named m (r .0) (has→∈ (sequenceOf m) (sequencesOf (logOf S)) t))))),
   )
+
+  -- which is to say, those that are not executable
+  pub held-executable : (m : Message) → (m ∈ heldOf S) ↔ ((m ∈ S .deltas) × ¬ Executable S m)
+  held-executable m = (
+    λ j. let k = held-is m .0 j in (k .0, λ e. k .1 (log-executable m (k .0) .1 e)),
+    λ r. held-is m .1 (r .0, λ l. r .1 (log-executable m (r .0) .0 l)),
+  )
+
+  pub held-ascends : Ascending (heldOf S)
+  held-ascends = subst Ascending (sym held-by-log) (keep-ascending others (S .deltas) ascends)
+
+  -- what meets a ring is held
+  pub ring-held : (m : Message) → m ∈ S .deltas → MeetsRing S m → m ∈ heldOf S
+  ring-held m k ring = held-is m .1 (k, λ l. let g : Grounded S m = log-grounded m k .0 l in
+      ⊎-elim (g .no-ring) (λ r. g .no-ring-behind (r .0) (r .1) (r .2) (r .3)) ring)
 
   -- each delta is in the log or held
   pub log-held : Same (logOf S ++ heldOf S) (S .deltas)

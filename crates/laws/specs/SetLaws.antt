@@ -8,11 +8,11 @@ use native.Mathlib.Omega.{arith}
 use native.Mathlib.Nat.{lt-irrefl}
 use lib.ListN.{length}
 use lib.Dec.{T, eqb, ltb, eqb→eq, ltb→lt, nltb→le}
-use Rattle.model.specs.Lists.{_∈_}
+use Rattle.model.specs.Lists.{_∈_, keep}
 use Rattle.model.specs.Message.{Message, sequenceOf}
 use Rattle.model.specs.Order.{Ascending, insert, find}
 use Rattle.model.specs.Image.{setOf}
-use Rattle.order.specs.TestLaws.{Same, not-eqb}
+use Rattle.order.specs.TestLaws.{Same, not-eqb, keep-∈}
 
 pub insert-from : (m : Message) (S : List Message) (a : Message) → a ∈ insert m S → (a ≡ m) ⊎ (a ∈ S)
 insert-from m [] a h = List·Memᴰ·cases-cons h
@@ -33,6 +33,15 @@ insert-ascending m (x ∷ S) h =
     go true c f g n ih = (λ y k. ⊎-elim (λ e. omega (arith, f tt, ap sequenceOf e)) (λ j. omega (arith, f tt, h .0 y j)) (List·Memᴰ·cases-cons k), h)
     go false true f g n ih = h
     go false false f g n ih = (λ y k. ⊎-elim (λ e. omega (arith, g tt, n tt, ap sequenceOf e)) (λ j. h .0 y j) (insert-from m S y k), ih)
+
+-- what passes a test ascends too
+pub keep-ascending : (p : Message → Bool) (S : List Message) → Ascending S → Ascending (keep p S)
+keep-ascending p [] h = tt
+keep-ascending p (m ∷ S) h = go (p m) (keep-ascending p S (h .1))
+  where
+    go : (b : Bool) → Ascending (keep p S) → Ascending (cond b (m ∷ keep p S) (keep p S))
+    go true ih = (λ x k. h .0 x (keep-∈ p S k .0), ih)
+    go false ih = ih
 
 clash : {a b : ℕ} → a < b → b < a → ⊥
 clash h k = omega arith

@@ -75,12 +75,15 @@ valuesIn b = map (λ p. integer (number p)) (parts tagCount valueSize (drop setp
 unfoldable pub messagesStartIn : List ℕ → ℕ
 messagesStartIn b = setpointsStart + valuesSize
 
--- The image's log, and all of its messages.
+-- The image's log, all of its messages, and the held ones, which stand behind those of the log.
 abbrev pub logIn : List ℕ → List Message
 logIn b = cut (logCount b) (drop (messagesStartIn b) b)
 
 abbrev pub messagesIn : List ℕ → List Message
 messagesIn b = cut (logCount b + heldCount b) (drop (messagesStartIn b) b)
+
+abbrev pub heldIn : List ℕ → List Message
+heldIn b = drop (logCount b) (messagesIn b)
 
 -- ---- where they lie (document 02, Paper 3)
 -- "the offset of the first message plus the lengths of all messages before the place"

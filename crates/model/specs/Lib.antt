@@ -13,4 +13,5 @@ pub mod Codes
 pub mod Calls
 pub mod PlainStation
 pub mod Run
+pub mod RunOrder
 pub mod Program

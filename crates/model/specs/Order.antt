@@ -1,4 +1,5 @@
 -- What runs, and in which order: the state of a station, executable deltas, the effective block, the key, the log and the held ones.
+use mathlib.Core.Logic.{_⊎_}
 use mathlib.Core.Bool.{Bool, true, false, cond, not, _&&_, _||_}
 use mathlib.Core.List.{List, [], _∷_, map}
 use Prim.Native.Nat.{ℕ, zero, suc, _-_, _≤_, _<_, max}
@@ -73,6 +74,14 @@ Listing S = L.Listing sequenceOf (needs S)
 
 abbrev pub Executable : State → Message → Type 0
 Executable S m = L.Executable sequenceOf (needs S) (S .deltas) m
+
+-- The sequences that it reaches, step by step back: those that it needs, and those that a received delta which it needs reaches.
+abbrev pub Reaches : State → Message → ℕ → Type 0
+Reaches S m s = L.Reaches sequenceOf (needs S) (S .deltas) m s
+
+-- "a ring of deltas": it reaches itself, or a received delta that does.
+abbrev pub MeetsRing : State → Message → Type 0
+MeetsRing S m = Reaches S m (sequenceOf m) ⊎ ((r : Message) × (r ∈ S .deltas) × Reaches S m (sequenceOf r) × Reaches S r (sequenceOf r))
 
 -- "all it needs, step by step back, has been received and contains no ring"
 abbrev pub Grounded : State → Message → Type 0

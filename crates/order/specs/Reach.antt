@@ -12,6 +12,12 @@ use Rattle.model.specs.Listing as L
 use Rattle.order.specs.TestLaws.{or-r, has→∈, ∈→has, hasAll→∈, keep-loses}
 use Rattle.order.specs.ListingLaws.{Stuck, fresh, any-chooses, grow-complete, stuck-placed, ready-fresh, ready-needs, after-has, after-from, complete-stuck}
 
+-- among more items it reaches as much
+pub reach-more : {A : Type 0} (name : A → ℕ) (needs : A → List ℕ) (S R : List A) → ((b : A) → b ∈ S → b ∈ R)
+    → {a : A} {s : ℕ} → L.Reaches name needs S a s → L.Reaches name needs R a s
+reach-more name needs S R all (L.needed m) = L.needed m
+reach-more name needs S R all (L.through {b = b} k m r) = L.through (all b k) m (reach-more name needs S R all r)
+
 module _ {A : Type 0} (name : A → ℕ) (needs : A → List ℕ) (S : List A) where
   abbrev Reaches : A → ℕ → Type 0
   Reaches a s = L.Reaches name needs S a s

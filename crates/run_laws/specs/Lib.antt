@@ -1,2 +1,3 @@
 pub mod PairRuns
 pub mod RunLaws
+pub mod OrderRuns

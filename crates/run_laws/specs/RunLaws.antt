@@ -210,7 +210,7 @@ plays-log given b begun (e ∷ earlier) run log = go (event-facts given b begun 
     )
 
 -- ---- the played pairs
-next-keeps : (S : State) (c : Call) (x : Message) → x ∈ S .deltas → x ∈ stateNext S c .deltas
+pub next-keeps : (S : State) (c : Call) (x : Message) → x ∈ S .deltas → x ∈ stateNext S c .deltas
 unfolding receive
 next-keeps S (delivery m steps) x k = go (accepts S m (length steps))
   where
@@ -244,7 +244,7 @@ agreement = record {
 }
 
 -- ---- and so of every empty and deliver that promise what the definitions answer
-run-of : (answers : List ℕ → Call → Delivered → Type 0) → ((b : List ℕ) (c : Call) (a : Delivered) → answers b c a → Answers b c a)
+pub run-of : (answers : List ℕ → Call → Delivered → Type 0) → ((b : List ℕ) (c : Call) (a : Delivered) → answers b c a → Answers b c a)
     → (b : List ℕ) (events : List Event) → Run answers b events → Run Answers b events
 run-of answers f b [] run = tt
 run-of answers f b (e ∷ earlier) run = (f (imageAfter b earlier) (e .call) (e .answer) (run .0), run-of answers f b earlier (run .1))
