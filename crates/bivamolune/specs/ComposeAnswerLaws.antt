@@ -13,7 +13,7 @@ use Rattle.model.specs.Image.{stateIn}
 use Rattle.model.specs.Compose.{composed}
 use Rattle.model.specs.Calls.{Composed, composeAnswer, composeCode, compose}
 use Rattle.wire_laws.specs.MessageLaws.{passes-sized, sized-range}
-use Rattle.compose_laws.specs.ComposeLaws.{Promised, compose-promise, composedBy as messageBy}
+use Rattle.compose_laws.specs.ComposeLaws.{Promised, compose-promise, messageBy}
 use Rattle.compose.specs.declared.answer.Composition.{Composition}
 use Rattle.compose.specs.declared.answer.Composition.the-variants as composition
 use Rattle.compose.specs.Answer.{composedBy}

@@ -225,8 +225,8 @@ module _ (b line commands : List ℕ) (flag priority room : ℕ) (g : Granted b 
       ∙ omega (arith, common-longer (sequencesOf (logOf S)) (sequenceOf message ∷ sequencesOf (r .0)))
 
 -- ---- the promise
-abbrev pub composedBy : Composed → Message
-composedBy c = take (c .size) (c .message)
+abbrev pub messageBy : Composed → Message
+messageBy c = take (c .size) (c .message)
 
 pub record Promised (b m : List ℕ) : Type 0 where
   pub passes-all : T (passes m)
@@ -266,7 +266,7 @@ granted-promise b line commands flag priority room g = record {
     added h steps r = receive-accepted S′ m (length steps) (code-zero S′ m (length steps) .1 (takes h steps r))
 
 pub compose-promise : (b line commands : List ℕ) (flag priority : ℕ) (buffer : List ℕ) → compose b line commands flag priority buffer .code ≡ 0
-    → Promised b (composedBy (compose b line commands flag priority buffer))
+    → Promised b (messageBy (compose b line commands flag priority buffer))
 unfolding compose
 compose-promise b line commands flag priority buffer =
     go (composeCode b line commands flag priority (length buffer)) (λ e. granted-promise b line commands flag priority (length buffer) (granted b line commands flag priority (length buffer) e))
@@ -274,6 +274,6 @@ compose-promise b line commands flag priority buffer =
     m : Message
     m = composed (stateIn b) (number line) commands (eqb flag 1) priority
 
-    go : (n : ℕ) → (n ≡ 0 → Promised b m) → composeAnswer n m buffer .code ≡ 0 → Promised b (composedBy (composeAnswer n m buffer))
+    go : (n : ℕ) → (n ≡ 0 → Promised b m) → composeAnswer n m buffer .code ≡ 0 → Promised b (messageBy (composeAnswer n m buffer))
     go zero f e = subst (Promised b) (sym (take-at m (drop (length m) buffer) (length m) refl)) (f refl)
     go (suc n) f e = absurd (suc-ne-zero n e)

@@ -31,10 +31,10 @@ abbrev pub after : ℕ → model.Reader → model.Reader
 after zero r = r
 after (suc n) r = after n (model.next r .reader)
 
--- The same of the code: readers and parts of which each call's promise holds.
-abbrev pub Called : LogReader → List (List ℕ) → LogReader → Type 0
-Called r [] end = r ≡ end
-Called r (part ∷ parts) end = (mid : LogReader) × Reads r part mid × Called mid parts end
+-- The same of the code: calls of `next`, each of which keeps its promise, from one reader to another.
+abbrev pub NextCalls : LogReader → List (List ℕ) → LogReader → Type 0
+NextCalls r [] end = r ≡ end
+NextCalls r (part ∷ parts) end = (mid : LogReader) × Reads r part mid × NextCalls mid parts end
 
 -- ---- what n calls give and leave
 pub record OfImage (b : List ℕ) (n : ℕ) (parts : List (List ℕ)) (end : model.Reader) : Type 0 where
@@ -165,16 +165,16 @@ whole-reading b n = record {
 }
 
 -- and of the code: whatever calls were made, from the start on
-called-parts : (parts : List (List ℕ)) (r end : LogReader) → Called r parts end → parts ≡ partsOf (length parts) (readerOf r)
+called-parts : (parts : List (List ℕ)) (r end : LogReader) → NextCalls r parts end → parts ≡ partsOf (length parts) (readerOf r)
 called-parts [] r end c = refl
 called-parts (part ∷ parts) r end (mid, c, cs) =
     ap (λ (l : List (List ℕ)). part ∷ l) (called-parts parts mid end cs) ∙ ap (λ (x : model.Read). x .part ∷ partsOf (length parts) (x .reader)) c
 
-called-after : (parts : List (List ℕ)) (r end : LogReader) → Called r parts end → readerOf end ≡ after (length parts) (readerOf r)
+called-after : (parts : List (List ℕ)) (r end : LogReader) → NextCalls r parts end → readerOf end ≡ after (length parts) (readerOf r)
 called-after [] r end c = ap readerOf (sym c)
 called-after (part ∷ parts) r end (mid, c, cs) = called-after parts mid end cs ∙ ap (λ (x : model.Read). after (length parts) (x .reader)) c
 
-pub calls-read : (b : List ℕ) (r : LogReader) → Starts b r → (parts : List (List ℕ)) (end : LogReader) → Called r parts end
+pub calls-read : (b : List ℕ) (r : LogReader) → Starts b r → (parts : List (List ℕ)) (end : LogReader) → NextCalls r parts end
     → WholeReading b (length parts) parts (readerOf end)
 calls-read b r s parts end c =
     let n : ℕ = length parts in

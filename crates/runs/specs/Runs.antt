@@ -25,7 +25,7 @@ use Rattle.emptying.proofs.empty.Reads as empty-reads
 use Rattle.deliver.proofs.delivery.deliver.Reads as deliver-reads
 
 -- A call of `empty` that was given this, answered 0 and left the image b.
-pub record Emptied (given : Given) (b : List ℕ) : Type 0 where
+pub record Began (given : Given) (b : List ℕ) : Type 0 where
   pub lifetimes : Lfts 1
   pub entry : RefT (List ℕ)
   pub exit : RefT (List ℕ)
@@ -50,11 +50,11 @@ pub record DeliveredTo (b : List ℕ) (m : Message) (steps : List ℕ) (a : Deli
   pub lent : steps ≡ now steps-entry
   pub answer : a ≡ deliveredBy result (now image-exit) (now steps-exit)
 
-abbrev pub Called : List ℕ → Call → Delivered → Type 0
-Called b (delivery m steps) a = DeliveredTo b m steps a
+abbrev pub Answered : List ℕ → Call → Delivered → Type 0
+Answered b (delivery m steps) a = DeliveredTo b m steps a
 
 -- ---- they are the definitions' calls
-begins : (given : Given) (b : List ℕ) → Emptied given b → Begins given b
+begins : (given : Given) (b : List ℕ) → Began given b → Begins given b
 begins given b e = (
   ap (λ (x : List ℕ). model.empty x .code) (e .lent) ∙ ap (λ (x : model.Emptied). x .code) (sym (e .post)) ∙ e .accepted,
   e .image ∙ left (e .result) (now (e .exit)) ∙ ap (λ (x : model.Emptied). x .image) (e .post) ∙ ap (λ (x : List ℕ). model.empty x .image) (sym (e .lent)),
@@ -64,13 +64,13 @@ begins given b e = (
     left emptying.Done i = refl
     left emptying.WrongSize i = refl
 
-pub answers : (b : List ℕ) (c : Call) (a : Delivered) → Called b c a → Answers b c a
+pub answers : (b : List ℕ) (c : Call) (a : Delivered) → Answered b c a → Answers b c a
 answers b (delivery m steps) a d =
     d .answer ∙ d .post ∙ ap₂ (λ (x y : List ℕ). deliver x y (now (d .steps-entry))) (sym (d .image)) (sym (d .sent)) ∙ ap (deliver b m) (sym (d .lent))
 
 -- DEMAND 3
-pub agreement : Agreement Emptied Called
-agreement = agreement-of Emptied Called begins answers
+pub agreement : Agreement Began Answered
+agreement = agreement-of Began Answered begins answers
 
 -- DEMAND 2 after every call: the image's log is the first of all listings, and a received delta is in it exactly if
 -- it is executable, which is to say that all it needs, step by step back, was received and contains no ring.
@@ -79,7 +79,7 @@ pub record InOrder (image : List ℕ) (S : State) : Type 0 where
   pub executed : (m : Message) → m ∈ S .deltas → (m ∈ logIn image) ↔ Executable S m
   pub grounded : (m : Message) → m ∈ S .deltas → (m ∈ logIn image) ↔ Grounded S m
 
-pub order-after : (given : Given) (b : List ℕ) → Emptied given b → (events : List Event) → Run Called b events
+pub order-after : (given : Given) (b : List ℕ) → Began given b → (events : List Event) → Run Answered b events
     → InOrder (imageAfter b events) (stateAfter given events)
 order-after given b begun events run = record {
   first = subst (IsLog S) (sym same) (log-is S (state-valid given events .ascends));

@@ -37,7 +37,7 @@ use Rattle.laws.specs.CodeLaws.{Lowest, lowest-is}
 use Rattle.laws.specs.DeliverLaws.{receive-valid}
 use Rattle.run_laws.specs.RunLaws.{CallFacts, call-facts, agreement}
 use Rattle.text_laws.specs.RoundTrips as trips
-use Rattle.compose_laws.specs.ComposeLaws.{Promised, composedBy, compose-promise}
+use Rattle.compose_laws.specs.ComposeLaws.{Promised, messageBy, compose-promise}
 
 -- 1. The computed log is the declared one and the only one. A received delta is in it exactly if it is executable, and so
 -- exactly if all it needs, step by step back, was received and contains no ring; held are the others.
@@ -131,7 +131,7 @@ station-law = receive-valid
 
 -- 6. What compose hands out passes 3 to 6, and is accepted with no undo, its execution the first step.
 pub compose-law : (b line commands : List ℕ) (flag priority : ℕ) (buffer : List ℕ) → compose b line commands flag priority buffer .code ≡ 0
-    → Promised b (composedBy (compose b line commands flag priority buffer))
+    → Promised b (messageBy (compose b line commands flag priority buffer))
 compose-law = compose-promise
 
 -- 7. A call's code is the lowest number of its own list whose condition holds, and 0 exactly where none does. That a refusal
