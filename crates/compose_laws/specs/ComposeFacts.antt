@@ -64,10 +64,10 @@ module _ (S : State) (valid : Valid S) (line : ℕ) (free : T (not (heldOn S lin
   abbrev own : ℕ
   own = newSequence (logOf S) line
 
-  own-line : lineOf own ≡ line
+  pub own-line : lineOf own ≡ line
   own-line = let h : newNumber (logOf S) line < 65536 = small in omega arith
 
-  own-number : numberOf own ≡ newNumber (logOf S) line
+  pub own-number : numberOf own ≡ newNumber (logOf S) line
   own-number = let h : newNumber (logOf S) line < 65536 = small in omega arith
 
   pub own-numbered : T (numbered own)
@@ -117,7 +117,7 @@ module _ (S : State) (valid : Valid S) (line : ℕ) (free : T (not (heldOn S lin
   abbrev chosen : ℕ → Bool
   chosen d = unneeded S d && not (has d (predecessorOf own))
 
-  dependency-is : (d : ℕ) → d ∈ dependencies → (d ∈ sequencesOf (S .deltas)) × T (chosen d)
+  pub dependency-is : (d : ℕ) → d ∈ dependencies → (d ∈ sequencesOf (S .deltas)) × T (chosen d)
   unfolding newDependencies
   dependency-is d k = keep-∈ chosen (sequencesOf (S .deltas)) k
 

@@ -34,6 +34,7 @@ use Rattle.laws.specs.EffectiveLaws.{keys-agree}
 use Rattle.wire_laws.specs.MessageLaws.{sequence-range}
 use Rattle.wire_laws.specs.BytesLaws.{number-range}
 use Rattle.laws.specs.ImageLaws.{log-passes, image-own, own-valid}
+use Rattle.laws.specs.CodeLaws.{compose-code}
 use Rattle.laws.specs.DeliverLaws.{code-zero, receive-accepted}
 use Rattle.run_laws.specs.RunLaws.{CallFacts, steps-read, call-facts}
 use Rattle.compose_laws.specs.ComposedMessage.{Parts, made-passes, made-sequence, made-dependencies}
@@ -123,7 +124,7 @@ module _ (b line commands : List ℕ) (flag priority room : ℕ) (g : Granted b 
   abbrev message : Message
   message = composed S (number line) commands (eqb flag 1) priority
 
-  valid : Valid S
+  pub valid : Valid S
   valid = own-valid b (g .image)
 
   priority-fits : priority ≤ fieldLimit
@@ -131,7 +132,7 @@ module _ (b line commands : List ℕ) (flag priority room : ℕ) (g : Granted b 
       let t : T (composeContent commands flag priority) = g .content in
       let h : T (leb priority fieldLimit) = search (and-l, and-r) depth 6 in leb→le priority fieldLimit h
 
-  parts-right : Parts (eqb flag 1) own (newGroup (logOf S) own) (newBlock S (eqb flag 1)) priority (newDependencies S own) commands
+  pub parts-right : Parts (eqb flag 1) own (newGroup (logOf S) own) (newBlock S (eqb flag 1)) priority (newDependencies S own) commands
   parts-right = record {
     sequence-fits =
         let h : number line < 256 ^ 10 = subst (λ (n : ℕ). number line < 256 ^ n) (g .line-length) (number-range line (g .line-bytes)) in
@@ -166,11 +167,11 @@ module _ (b line commands : List ℕ) (flag priority room : ℕ) (g : Granted b 
       (dependencies-not-predecessor S valid (number line) (g .free) (g .number-small)) block-right
       (and-r (leb flag 1 && leb priority fieldLimit && (eqb flag 1 || eqb priority 0)) (every commandRight (parts (length commands / commandSize) commandSize commands)) t)
 
-  composed-sequence : sequenceOf message ≡ own
+  pub composed-sequence : sequenceOf message ≡ own
   unfolding composed
   composed-sequence = made-sequence (eqb flag 1) own (newGroup (logOf S) own) (newBlock S (eqb flag 1)) priority (newDependencies S own) commands parts-right
 
-  composed-dependencies : dependenciesOf message ≡ newDependencies S own
+  pub composed-dependencies : dependenciesOf message ≡ newDependencies S own
   unfolding composed
   composed-dependencies = made-dependencies (eqb flag 1) own (newGroup (logOf S) own) (newBlock S (eqb flag 1)) priority (newDependencies S own) commands parts-right
 
@@ -224,10 +225,32 @@ module _ (b line commands : List ℕ) (flag priority room : ℕ) (g : Granted b 
       ap (λ (l : List ℕ). length (sequencesOf (logOf S)) - common (sequencesOf (logOf S)) l) e
       ∙ omega (arith, common-longer (sequencesOf (logOf S)) (sequenceOf message ∷ sequencesOf (r .0)))
 
--- ---- the promise
+-- ---- what code 0 says of the answer: the message stands at the front of the buffer, and the rest is unchanged
 abbrev pub messageBy : Composed → Message
-messageBy c = take (c .size) (c .message)
+messageBy a = take (a .size) (a .message)
 
+pub compose-written : (b line commands : List ℕ) (flag priority : ℕ) (buffer : List ℕ) → compose b line commands flag priority buffer .code ≡ 0
+    → compose b line commands flag priority buffer ≡ composeAnswer 0 (composed (stateIn b) (number line) commands (eqb flag 1) priority) buffer
+unfolding compose
+compose-written b line commands flag priority buffer = go (composeCode b line commands flag priority (length buffer))
+  where
+    m : Message
+    m = composed (stateIn b) (number line) commands (eqb flag 1) priority
+
+    go : (n : ℕ) → composeAnswer n m buffer .code ≡ 0 → composeAnswer n m buffer ≡ composeAnswer 0 m buffer
+    go zero e = refl
+    go (suc n) e = absurd (suc-ne-zero n e)
+
+pub message-written : (m : Message) (buffer : List ℕ) → messageBy (composeAnswer 0 m buffer) ≡ m
+message-written m buffer = take-at m (drop (length m) buffer) (length m) refl
+
+pub compose-granted : (b line commands : List ℕ) (flag priority : ℕ) (buffer : List ℕ) → compose b line commands flag priority buffer .code ≡ 0
+    → Granted b line commands flag priority (length buffer)
+unfolding composeCode
+compose-granted b line commands flag priority buffer e =
+    granted b line commands flag priority (length buffer) (sym (compose-code b line commands flag priority buffer) ∙ e)
+
+-- ---- the promise
 pub record Promised (b m : List ℕ) : Type 0 where
   pub passes-all : T (passes m)
   -- "Delivered to the image it was composed on, if that holds fewer than 64, the result is accepted with no undo,
@@ -267,13 +290,7 @@ granted-promise b line commands flag priority room g = record {
 
 pub compose-promise : (b line commands : List ℕ) (flag priority : ℕ) (buffer : List ℕ) → compose b line commands flag priority buffer .code ≡ 0
     → Promised b (messageBy (compose b line commands flag priority buffer))
-unfolding compose
-compose-promise b line commands flag priority buffer =
-    go (composeCode b line commands flag priority (length buffer)) (λ e. granted-promise b line commands flag priority (length buffer) (granted b line commands flag priority (length buffer) e))
-  where
-    m : Message
-    m = composed (stateIn b) (number line) commands (eqb flag 1) priority
-
-    go : (n : ℕ) → (n ≡ 0 → Promised b m) → composeAnswer n m buffer .code ≡ 0 → Promised b (messageBy (composeAnswer n m buffer))
-    go zero f e = subst (Promised b) (sym (take-at m (drop (length m) buffer) (length m) refl)) (f refl)
-    go (suc n) f e = absurd (suc-ne-zero n e)
+compose-promise b line commands flag priority buffer e =
+    let m : Message = composed (stateIn b) (number line) commands (eqb flag 1) priority in
+    subst (Promised b) (sym (ap messageBy (compose-written b line commands flag priority buffer e) ∙ message-written m buffer))
+    (granted-promise b line commands flag priority (length buffer) (compose-granted b line commands flag priority buffer e))

@@ -17,7 +17,7 @@ use Rattle.order.specs.TestLaws.{eq→eqb, and-l, and-r, and-i}
 use Rattle.wire_laws.specs.BytesLaws.{length-bytes, number-bytes, bytes-isBytes, isBytes-append, parts-join, length-join}
 use Rattle.wire_laws.specs.MessageLaws.{passes-all}
 
-one-byte : (x : ℕ) → number (x ∷ []) ≡ x
+pub one-byte : (x : ℕ) → number (x ∷ []) ≡ x
 one-byte x = omega arith
 
 -- ---- numbers of one size, end to end
@@ -59,16 +59,16 @@ module _ (flag : Bool) (s group block priority : ℕ) (deps commands : List ℕ)
     pub made-sequence : sequenceOf made ≡ s
     made-sequence = number-bytes sequenceSize s (p .sequence-fits)
 
-    made-group : groupOf made ≡ group
+    pub made-group : groupOf made ≡ group
     made-group = number-bytes 4 group (let h : group ≤ fieldLimit = p .group-fits in omega arith)
 
-    made-block : blockOf made ≡ block
+    pub made-block : blockOf made ≡ block
     made-block = number-bytes 4 block (let h : block ≤ fieldLimit = p .block-fits in omega arith)
 
-    made-priority : priorityOf made ≡ priority
+    pub made-priority : priorityOf made ≡ priority
     made-priority = number-bytes 4 priority (let h : priority ≤ fieldLimit = p .priority-fits in omega arith)
 
-    made-dependency-count : dependencyCount made ≡ length deps
+    pub made-dependency-count : dependencyCount made ≡ length deps
     made-dependency-count = one-byte (length deps)
 
     made-command-count : commandCount made ≡ length commands / commandSize
@@ -83,7 +83,7 @@ module _ (flag : Bool) (s group block priority : ℕ) (deps commands : List ℕ)
         ∙ ap (map number) (parts-join sequenceSize (map (bytes sequenceSize) deps) commands (all-sized sequenceSize deps))
         ∙ numbers-back sequenceSize deps (p .deps-fit)
 
-    commands-from : drop (commandsStart (length deps)) made ≡ commands
+    pub commands-from : drop (commandsStart (length deps)) made ≡ commands
     commands-from =
         sym (drop-drop (sequenceSize * length deps) headerSize made)
         ∙ drop-at (join (map (bytes sequenceSize) deps)) commands (sequenceSize * length deps) (omega (arith, deps-length))

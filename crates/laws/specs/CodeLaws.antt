@@ -5,16 +5,16 @@ use mathlib.Core.Bool.{Bool, true, false, cond}
 use mathlib.Core.List.{List, [], _∷_, List·Memᴰ·head, List·Memᴰ·tail, List·Memᴰ·not-nil, List·Memᴰ·cases-cons}
 use Prim.Native.Nat.{ℕ, zero, suc, _≤_, _<_}
 use native.Mathlib.Omega.{arith}
-use lib.ListN.{length}
-use lib.Dec.{T, eqb}
+use lib.ListN.{length, getD}
+use lib.Dec.{T, eqb, eqb→eq}
 use lib.IntN.{pos}
 use Rattle.model.specs.Lists.{_∈_}
 use Rattle.model.specs.Bytes.{number}
 use Rattle.model.specs.Message.{Message}
-use Rattle.model.specs.Image.{stateIn}
+use Rattle.model.specs.Image.{stateIn, logIn}
 use Rattle.model.specs.Compose.{composed}
 use Rattle.model.specs.Codes.{Conditions, lowestCode, emptyConditions, deliverConditions, composeConditions, setpointConditions}
-use Rattle.model.specs.Calls.{empty, emptyAnswer, deliver, deliverCode, deliverAnswer, compose, composeCode, composeAnswer, setpoint, setpointAnswer}
+use Rattle.model.specs.Calls.{empty, emptyAnswer, deliver, deliverCode, deliverAnswer, compose, composeCode, composeAnswer, logMessageCode, logMessage, setpoint, setpointAnswer}
 
 -- ---- the lowest number
 -- the numbers ascend, from one above `low` on
@@ -122,6 +122,14 @@ compose-refused b line commands flag priority buffer h =
     go : (n : ℕ) (m : Message) → ¬ (composeAnswer n m buffer .code ≡ 0) → (composeAnswer n m buffer .size ≡ 0) × (composeAnswer n m buffer .message ≡ buffer)
     go zero m h = absurd (h refl)
     go (suc n) m h = (refl, refl)
+
+pub log-message-refused : (b : List ℕ) (place : ℕ) → ¬ (logMessageCode b place ≡ 0) → logMessage b place ≡ []
+unfolding logMessage
+log-message-refused b place h = go (eqb (logMessageCode b place) 0) (eqb→eq (logMessageCode b place) 0)
+  where
+    go : (t : Bool) → (T t → logMessageCode b place ≡ 0) → cond t (getD (logIn b) place []) [] ≡ []
+    go true f = absurd (h (f tt))
+    go false f = refl
 
 pub setpoint-refused : (b : List ℕ) (tag : ℕ) → ¬ (setpoint b tag .code ≡ 0) → setpoint b tag .value ≡ pos 0
 unfolding setpoint

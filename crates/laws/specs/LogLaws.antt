@@ -119,8 +119,11 @@ module _ (S : State) (ascends : Ascending (S .deltas)) where
 
   -- what meets a ring is held
   pub ring-held : (m : Message) → m ∈ S .deltas → MeetsRing S m → m ∈ heldOf S
-  ring-held m k ring = held-is m .1 (k, λ l. let g : Grounded S m = log-grounded m k .0 l in
-      ⊎-elim (g .no-ring) (λ r. g .no-ring-behind (r .0) (r .1) (r .2) (r .3)) ring)
+  ring-held m k ring = held-is m .1 (
+    k,
+    λ l. let g : Grounded S m = log-grounded m k .0 l in
+        ⊎-elim (g .no-ring) (λ r. g .no-ring-behind (r .0) (r .1) (r .2) (r .3)) ring,
+  )
 
   -- each delta is in the log or held
   pub log-held : Same (logOf S ++ heldOf S) (S .deltas)

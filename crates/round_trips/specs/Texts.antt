@@ -39,10 +39,10 @@ pub record WrittenFrom (b entry : List ℕ) (a : Converted) : Type 0 where
   pub answered : a ≡ convertedBy result (now text-exit)
 
 -- each answered as the definitions do
-reads-as : (t entry : List ℕ) (a : Converted) → ReadFrom t entry a → a ≡ readSequences t entry
+pub reads-as : (t entry : List ℕ) (a : Converted) → ReadFrom t entry a → a ≡ readSequences t entry
 reads-as t entry a c = c .answered ∙ c .post ∙ ap₂ readSequences (sym (c .of)) (sym (c .given))
 
-writes-as : (b entry : List ℕ) (a : Converted) → WrittenFrom b entry a → a ≡ writeSequences b entry
+pub writes-as : (b entry : List ℕ) (a : Converted) → WrittenFrom b entry a → a ≡ writeSequences b entry
 writes-as b entry a c = c .answered ∙ c .post ∙ ap₂ writeSequences (sym (c .of)) (sym (c .given))
 
 -- "Reading a written list yields the sequences": what a call wrote is read, with any buffer of 96 bytes or more, as what it was given.

@@ -5,10 +5,10 @@ use mathlib.Core.List.{List, [], _∷_, _++_}
 use Prim.Native.Nat.{ℕ}
 use Rattle.model.specs.Lists.{_∈_}
 use Rattle.model.specs.Message.{Message}
-use Rattle.model.specs.Order.{State, Ascending, MeetsRing, Executable, Grounded, IsLog, logOf, heldOf}
+use Rattle.model.specs.Order.{State, Ascending, Executable, Grounded, IsLog, logOf, heldOf}
 use Rattle.model.specs.Image.{imageOf, Valid, logIn, heldIn}
 use Rattle.model.specs.Calls.{Delivered}
-use Rattle.model.specs.Run.{Given, Call, Event, imageAfter, Run, stateAfter, Begins, Answers}
+use Rattle.model.specs.Run.{Given, Call, Event, Run, stateAfter, Begins, Answers}
 use Rattle.model.specs.RunOrder.{receivedIn, InOrder, OrderKept}
 use Rattle.order.specs.TestLaws.{Same}
 use Rattle.laws.specs.LogLaws.{log-is, log-executable, log-grounded, held-executable, held-ascends, ring-stays, ring-held}
@@ -46,7 +46,7 @@ run-before answers b [] events run = run
 run-before answers b (e ∷ later) events run = run-before answers b later events (run .1)
 
 -- ---- the theorem
-order-kept : OrderKept Begins Answers
+pub order-kept : OrderKept Begins Answers
 order-kept = record {
   in-order = λ given b begun events run. subst (InOrder (receivedIn events) (stateAfter given events)) (sym (agreement .image given b begun events run))
       (image-in-order (stateAfter given events) (state-valid given events) (receivedIn events) (accepted-set given b begun events run));

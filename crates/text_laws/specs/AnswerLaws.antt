@@ -21,6 +21,11 @@ module _ (new buffer : List ℕ) where
   by-tests : {a b c x y z : Bool} → a ≡ x → b ≡ y → c ≡ z → answer a b c ≡ answer x y z
   by-tests {c = c} {x = x} {y = y} e f g = ap₂ (λ (s t : Bool). answer s t c) e f ∙ ap (answer x y) g
 
+  -- the code of an answer is the one that was found
+  code-is : (n : ℕ) → convertedAnswer n new buffer .code ≡ n
+  code-is zero = refl
+  code-is (suc n) = refl
+
   -- a refusal writes nothing, and its length is 0
   refused : (n : ℕ) → ¬ (convertedAnswer n new buffer .code ≡ 0) → (convertedAnswer n new buffer .size ≡ 0) × (convertedAnswer n new buffer .buffer ≡ buffer)
   refused zero h = absurd (h refl)
@@ -32,6 +37,10 @@ pub read-by : (t buffer : List ℕ) {x y z : Bool} → ltb (length buffer) seque
 unfolding readSequences
 read-by t buffer e f g = by-tests (sequenceBytesIn t) buffer e f g
 
+pub read-code : (t buffer : List ℕ) → readSequences t buffer .code ≡ lowestCode (readSequencesConditions t (length buffer))
+unfolding readSequences
+read-code t buffer = code-is (sequenceBytesIn t) buffer (lowestCode (readSequencesConditions t (length buffer)))
+
 pub read-refused : (t buffer : List ℕ) → ¬ (readSequences t buffer .code ≡ 0) → (readSequences t buffer .size ≡ 0) × (readSequences t buffer .buffer ≡ buffer)
 unfolding readSequences
 read-refused t buffer h = refused (sequenceBytesIn t) buffer (lowestCode (readSequencesConditions t (length buffer))) h
@@ -41,6 +50,10 @@ pub write-by : (b buffer : List ℕ) {x y z : Bool} → ltb (length buffer) text
     → writeSequences b buffer ≡ convertedAnswer (codeOf x y z) (textOf b) buffer
 unfolding writeSequences
 write-by b buffer e f g = by-tests (textOf b) buffer e f g
+
+pub write-code : (b buffer : List ℕ) → writeSequences b buffer .code ≡ lowestCode (writeSequencesConditions b (length buffer))
+unfolding writeSequences
+write-code b buffer = code-is (textOf b) buffer (lowestCode (writeSequencesConditions b (length buffer)))
 
 pub write-refused : (b buffer : List ℕ) → ¬ (writeSequences b buffer .code ≡ 0) → (writeSequences b buffer .size ≡ 0) × (writeSequences b buffer .buffer ≡ buffer)
 unfolding writeSequences

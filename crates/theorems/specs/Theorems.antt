@@ -1,52 +1,59 @@
--- The laws of the definitions, each as one statement. Their proofs stand in the files beside this one.
-use mathlib.Core.Path.{_≡_, refl, sym, _∙_, ap}
+-- The laws of the definitions, each as one statement. Their proofs stand in the crates of laws below.
+use mathlib.Core.Path.{_≡_, refl, sym, _∙_, ap, subst}
 use mathlib.Core.Logic.{_↔_, _⊎_, inl, inr, ⊎-elim}
+use mathlib.Core.Bool.{true}
 use mathlib.Core.Option.{some}
 use mathlib.Core.List.{List, [], _++_, map}
 use Prim.Native.Nat.{ℕ, _+_, _≤_, _<_, max}
 use native.Mathlib.Omega.{arith}
 use lib.ListN.{length, take, drop, getD}
 use lib.Dec.{T}
-use lib.IntN.{ℤ}
+use lib.IntN.{ℤ, pos}
 use Rattle.model.specs.Lists.{_∈_, greatest}
 use Rattle.model.specs.Bytes.{join}
 use Rattle.model.specs.Layout.{imageSize, sequencesRoom, textRoom}
 use Rattle.model.specs.Message.{Message, blockOf}
-use Rattle.model.specs.Order.{State, find, sequencesOf, needs, effectiveBlock, keyOf, less, Executable, Grounded, IsLog, logOf, heldOf}
+use Rattle.model.specs.Order.{State, Ascending, find, sequencesOf, needs, MeetsRing, effectiveBlock, keyOf, less, Executable, Grounded, IsLog, logOf, heldOf}
 use Rattle.model.specs.Setpoints.{startValues, setpointsOf}
-use Rattle.model.specs.Image.{imageOf, Valid, IsImage, stateIn, valuesIn, logCount, messagesStartIn, logIn, messagesIn, walk, messageOffset, usedCount, isImage}
+use Rattle.model.specs.Image.{imageOf, Valid, IsImage, stateIn, valuesIn, logCount, messagesStartIn, logIn, messagesIn, heldIn, walk, messageOffset, usedCount, isImage}
 use Rattle.model.specs.Steps.{Step, common, undosOf, executionsOf, stepsOf, recordsBetween, recordsBytes, readRecords, Plays, Standing, PlaysPairs}
-use Rattle.model.specs.Codes.{lowestCode, deliverConditions, composeConditions, emptyConditions, logMessageConditions, setpointConditions, readSequencesConditions, writeSequencesConditions}
-use Rattle.model.specs.Calls.{deliver, compose, messageAt, convertedAnswer, front, readSequences, writeSequences}
+use Rattle.model.specs.Codes.{Conditions, lowestCode, deliverConditions, composeConditions, emptyConditions, logMessageConditions, setpointConditions, readSequencesConditions, writeSequencesConditions}
+use Rattle.model.specs.Calls.{empty, Delivered, deliver, compose, logMessageCode, logMessage, setpoint, messageAt, convertedAnswer, front, readSequences, writeSequences}
 use Rattle.model.specs.PlainStation.{receive}
 use Rattle.model.specs.Run.{delivery, Agreement, Begins, Answers}
+use Rattle.model.specs.RunOrder.{OrderKept}
 use Rattle.order.specs.KeyOrder.{Total}
 use Rattle.order.specs.TestLaws.{Same}
 use Rattle.order.specs.CommonLaws.{common-start, common-longest}
 use Rattle.order.specs.StepLaws.{steps-play, steps-counted, steps-fewest}
 use Rattle.laws.specs.OriginLaws.{one-origin}
-use Rattle.laws.specs.LogLaws.{key-order, keys-differ, log-is, log-only, log-of-set, log-executable, log-grounded, held-is}
+use Rattle.laws.specs.LogLaws.{key-order, keys-differ, log-is, log-only, log-of-set, log-executable, log-grounded, held-is, held-ascends, ring-held}
 use Rattle.laws.specs.EffectiveLaws.{effective-is, effective-only}
 use Rattle.wire_laws.specs.RecordLaws.{records-steps}
-use Rattle.laws.specs.ImageLaws.{image-size, state-back, log-back, image-declared, image-state}
+use Rattle.laws.specs.ImageLaws.{image-size, state-back, log-back, held-back, image-declared, image-state}
 use Rattle.laws.specs.OffsetLaws.{offset-join, walk-offset, message-at-offset, message-placed, log-count, log-offset, message-here, log-full, offset-used}
 use Rattle.laws.specs.ValueLaws.{values-back}
 use Rattle.laws.specs.RecordRange.{records-back}
 use Rattle.laws.specs.PairLaws.{standingIn, state-pairs-play, pairs-unique}
-use Rattle.laws.specs.CodeLaws.{Lowest, lowest-is}
+use Rattle.laws.specs.CodeLaws.{Above, Lowest, lowest-is, empty-code, deliver-code, compose-code, setpoint-code, deliver-refused, empty-refused, compose-refused, log-message-refused, setpoint-refused}
 use Rattle.laws.specs.DeliverLaws.{receive-valid}
 use Rattle.run_laws.specs.RunLaws.{CallFacts, call-facts, agreement}
+use Rattle.run_laws.specs.OrderRuns.{order-kept}
+use Rattle.text_laws.specs.AnswerLaws.{read-code, read-refused, write-code, write-refused}
 use Rattle.text_laws.specs.RoundTrips as trips
-use Rattle.compose_laws.specs.ComposeLaws.{Promised, messageBy, compose-promise}
+use Rattle.compose_laws.specs.ComposePromise.{ComposePromise, promise-of}
 
 -- 1. The computed log is the declared one and the only one. A received delta is in it exactly if it is executable, and so
--- exactly if all it needs, step by step back, was received and contains no ring; held are the others.
+-- exactly if all it needs, step by step back, was received and contains no ring; held are the others, by ascending sequence, and so
+-- whatever meets a ring.
 pub record LogLaw (S : State) : Type 0 where
   pub is-log : IsLog S (logOf S)
   pub only : (l : List Message) → IsLog S l → l ≡ logOf S
   pub executable : (m : Message) → m ∈ S .deltas → (m ∈ logOf S) ↔ Executable S m
   pub grounded : (m : Message) → m ∈ S .deltas → (m ∈ logOf S) ↔ Grounded S m
   pub held : (m : Message) → (m ∈ heldOf S) ↔ ((m ∈ S .deltas) × ¬ (m ∈ logOf S))
+  pub held-ascend : Ascending (heldOf S)
+  pub ring : (m : Message) → m ∈ S .deltas → MeetsRing S m → m ∈ heldOf S
 
 pub log-law : (S : State) → Valid S → LogLaw S
 log-law S v = record {
@@ -55,6 +62,8 @@ log-law S v = record {
   executable = log-executable S (v .ascends);
   grounded = log-grounded S (v .ascends);
   held = held-is S (v .ascends);
+  held-ascend = held-ascends S (v .ascends);
+  ring = ring-held S (v .ascends);
 }
 
 -- It depends on the set alone.
@@ -104,15 +113,16 @@ pair-law S next v w all = record {
     plays : PlaysPairs (standingIn S) (setpointsOf S) (recordsBetween S next) (standingIn next) (setpointsOf next)
     plays = state-pairs-play S next (v .ascends) (w .ascends) all
 
--- 4. The image of a valid state has 16,384 bytes and reads back to that state, its log and its setpoints.
+-- 4. The image of a valid state has 16,384 bytes and reads back to that state, its log, its held deltas and its setpoints.
 pub record ImageLaw (S : State) : Type 0 where
   pub size : length (imageOf S) ≡ imageSize
   pub state : stateIn (imageOf S) ≡ S
   pub log : logIn (imageOf S) ≡ logOf S
+  pub held : heldIn (imageOf S) ≡ heldOf S
   pub setpoints : valuesIn (imageOf S) ≡ setpointsOf S
 
 pub image-law : (S : State) → Valid S → ImageLaw S
-image-law S v = record { size = image-size S v; state = state-back S v; log = log-back S v; setpoints = values-back S v }
+image-law S v = record { size = image-size S v; state = state-back S v; log = log-back S v; held = held-back S v; setpoints = values-back S v }
 
 -- A buffer passes code 2 by computing exactly if it is declared an image, and it is the image of one state.
 pub image-test : (b : List ℕ) → T (isImage b) ↔ IsImage b
@@ -129,35 +139,52 @@ deliver-law S v m steps = call-facts S v (delivery m steps) (deliver (imageOf S)
 pub station-law : (S : State) → Valid S → (m : Message) (room : ℕ) → Valid (receive S m room)
 station-law = receive-valid
 
--- 6. What compose hands out passes 3 to 6, and is accepted with no undo, its execution the first step.
+-- 6. What compose hands out: what the message carries, what it leaves in the buffer, and how it is delivered.
 pub compose-law : (b line commands : List ℕ) (flag priority : ℕ) (buffer : List ℕ) → compose b line commands flag priority buffer .code ≡ 0
-    → Promised b (messageBy (compose b line commands flag priority buffer))
-compose-law = compose-promise
+    → ComposePromise (λ i m steps d. d ≡ deliver i m steps) b line commands flag priority buffer (compose b line commands flag priority buffer)
+compose-law b line commands flag priority buffer = promise-of (λ i m steps d. d ≡ deliver i m steps) (λ i m steps d h. h) b line commands flag priority buffer _ refl
 
--- 7. A call's code is the lowest number of its own list whose condition holds, and 0 exactly where none does. That a refusal
--- leaves every buffer is in CodeLaws: `deliver-refused`, `empty-refused`, `compose-refused`, `setpoint-refused`; and in AnswerLaws of
--- texts: `read-refused`, `write-refused`.
-pub deliver-lowest : (b : List ℕ) (m : Message) (room : ℕ) → Lowest (deliverConditions b m room) (lowestCode (deliverConditions b m room))
-deliver-lowest b m room = lowest-is 0 (deliverConditions b m room) (omega arith)
+-- 7. Demand 1: a call's code is the lowest number of its own list whose condition holds, and 0 where none does; `nothing` is what
+-- holds beside a refusal, that every buffer is as it was and all else 0.
+pub record CodeLaw (conditions : Conditions) (code : ℕ) (nothing : Type 0) : Type 0 where
+  pub lowest : Lowest conditions code
+  pub accepted : ((n : ℕ) → ¬ ((n, true) ∈ conditions)) → code ≡ 0
+  pub refused : ¬ (code ≡ 0) → nothing
 
-pub compose-lowest : (b line commands : List ℕ) (flag priority room : ℕ)
-    → Lowest (composeConditions b line commands flag priority room) (lowestCode (composeConditions b line commands flag priority room))
-compose-lowest b line commands flag priority room = lowest-is 0 (composeConditions b line commands flag priority room) (omega arith)
+code-law : (conditions : Conditions) → Above 0 conditions → {code : ℕ} → code ≡ lowestCode conditions → {nothing : Type 0} → (¬ (code ≡ 0) → nothing) → CodeLaw conditions code nothing
+code-law conditions ascends {code} is f =
+    let lowest : Lowest conditions code = subst (Lowest conditions) (sym is) (lowest-is 0 conditions ascends) in
+    record { lowest = lowest; accepted = λ none. ⊎-elim (λ e. e) (λ k. absurd (none code k)) (lowest .holds); refused = f }
 
-pub empty-lowest : (b : List ℕ) → Lowest (emptyConditions b) (lowestCode (emptyConditions b))
-empty-lowest b = lowest-is 0 (emptyConditions b) (omega arith)
+pub empty-codes : (b : List ℕ) → CodeLaw (emptyConditions b) (empty b .code) (empty b .image ≡ b)
+empty-codes b = code-law (emptyConditions b) (omega arith) (empty-code b) (empty-refused b)
 
-pub log-message-lowest : (b : List ℕ) (place : ℕ) → Lowest (logMessageConditions b place) (lowestCode (logMessageConditions b place))
-log-message-lowest b place = lowest-is 0 (logMessageConditions b place) (omega arith)
+abbrev pub LeftAlone : List ℕ → List ℕ → Delivered → Type 0
+LeftAlone b steps a = (a .undos ≡ 0) × (a .executions ≡ 0) × (a .image ≡ b) × (a .steps ≡ steps)
 
-pub setpoint-lowest : (b : List ℕ) (tag : ℕ) → Lowest (setpointConditions b tag) (lowestCode (setpointConditions b tag))
-setpoint-lowest b tag = lowest-is 0 (setpointConditions b tag) (omega arith)
+pub deliver-codes : (b : List ℕ) (m : Message) (steps : List ℕ) → CodeLaw (deliverConditions b m (length steps)) (deliver b m steps .code) (LeftAlone b steps (deliver b m steps))
+deliver-codes b m steps = code-law (deliverConditions b m (length steps)) (omega arith) (deliver-code b m steps)
+    (λ h. subst (LeftAlone b steps) (sym (deliver-refused b m steps h)) (refl, refl, refl, refl))
 
-pub read-sequences-lowest : (t : List ℕ) (room : ℕ) → Lowest (readSequencesConditions t room) (lowestCode (readSequencesConditions t room))
-read-sequences-lowest t room = lowest-is 0 (readSequencesConditions t room) (omega arith)
+pub compose-codes : (b line commands : List ℕ) (flag priority : ℕ) (buffer : List ℕ) → let a = compose b line commands flag priority buffer in
+    CodeLaw (composeConditions b line commands flag priority (length buffer)) (a .code) ((a .size ≡ 0) × (a .message ≡ buffer))
+compose-codes b line commands flag priority buffer = code-law (composeConditions b line commands flag priority (length buffer)) (omega arith)
+    (compose-code b line commands flag priority buffer) (compose-refused b line commands flag priority buffer)
 
-pub write-sequences-lowest : (b : List ℕ) (room : ℕ) → Lowest (writeSequencesConditions b room) (lowestCode (writeSequencesConditions b room))
-write-sequences-lowest b room = lowest-is 0 (writeSequencesConditions b room) (omega arith)
+pub log-message-codes : (b : List ℕ) (place : ℕ) → CodeLaw (logMessageConditions b place) (logMessageCode b place) (logMessage b place ≡ [])
+unfolding logMessageCode
+log-message-codes b place = code-law (logMessageConditions b place) (omega arith) refl (log-message-refused b place)
+
+pub setpoint-codes : (b : List ℕ) (tag : ℕ) → CodeLaw (setpointConditions b tag) (setpoint b tag .code) (setpoint b tag .value ≡ pos 0)
+setpoint-codes b tag = code-law (setpointConditions b tag) (omega arith) (setpoint-code b tag) (setpoint-refused b tag)
+
+pub read-sequences-codes : (t buffer : List ℕ) → let a = readSequences t buffer in
+    CodeLaw (readSequencesConditions t (length buffer)) (a .code) ((a .size ≡ 0) × (a .buffer ≡ buffer))
+read-sequences-codes t buffer = code-law (readSequencesConditions t (length buffer)) (omega arith) (read-code t buffer) (read-refused t buffer)
+
+pub write-sequences-codes : (b buffer : List ℕ) → let a = writeSequences b buffer in
+    CodeLaw (writeSequencesConditions b (length buffer)) (a .code) ((a .size ≡ 0) × (a .buffer ≡ buffer))
+write-sequences-codes b buffer = code-law (writeSequencesConditions b (length buffer)) (omega arith) (write-code b buffer) (write-refused b buffer)
 
 -- 8. Reading a written list yields the sequences, and a text that is read is the one that would be written.
 pub record TextLaw : Type 0 where
@@ -194,6 +221,9 @@ offset-law b = record {
   used = offset-used b;
 }
 
--- Demand 3, of the definitions' own calls.
+-- Demand 2 after every call, and demand 3, of the definitions' own calls.
+pub order-law : OrderKept Begins Answers
+order-law = order-kept
+
 pub agreement-law : Agreement Begins Answers
 agreement-law = agreement
