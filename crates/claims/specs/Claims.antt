@@ -5,9 +5,9 @@ use mathlib.Core.Logic.{_↔_, _⊎_}
 use mathlib.Core.Bool.{true}
 use mathlib.Core.Option.{some}
 use mathlib.Core.List.{List, [], _∷_, _++_}
-use Prim.Native.Nat.{ℕ, suc, _+_, _≤_, _<_}
+use Prim.Native.Nat.{ℕ, suc, _+_, _-_, _≤_, _<_, min}
 use native.Mathlib.Nat.{le-refl}
-use lib.ListN.{length, take, drop, getD}
+use lib.ListN.{length, take, drop, getD, replicate}
 use lib.Dec.{T}
 use lib.IntN.{ℤ, pos}
 use Rattle.model.specs.Lists.{_∈_, greatest, sum, ascending}
@@ -15,57 +15,56 @@ use Rattle.model.specs.Bytes.{number, field}
 use Rattle.model.specs.Layout.{capacity, stepRoom, priorityFlagAt, sequencesRoom, textRoom}
 use Rattle.model.specs.Message.{Message, dependencyCount, commandsStart, sequenceOf, groupOf, blockOf, priorityOf, dependenciesOf, lineOf, numberOf, predecessorOf, passes}
 use Rattle.model.specs.Order.{Ascending, sequencesOf, effectiveBlock, MeetsRing, Executable, Grounded, IsLog, logOf}
-use Rattle.model.specs.Image.{imageOf, valuesIn, logIn, heldIn, stateIn, isImage, messagesIn, messagesStartIn, offsetOf, walk, usedCount}
+use Rattle.model.specs.Image.{imageOf, valuesIn, logIn, heldIn, stateIn, isImage, messagesIn, messagesStartIn, offsetOf, walk, messageOffset, usedCount}
 use Rattle.model.specs.Steps.{Step, undosOf, executionsOf, Plays, Standing, execute, readSteps}
 use Rattle.model.specs.Compose.{newNumber, lastSequence}
-use Rattle.model.specs.Codes.{Conditions, emptyConditions, deliverConditions, composeConditions, logMessageConditions, setpointConditions, readSequencesConditions, writeSequencesConditions}
-use Rattle.model.specs.Calls.{Emptied, Delivered, Composed, Setpoint, Converted, convertedAnswer, front}
+use Rattle.model.specs.Codes.{Conditions, lowestCode, emptyConditions, deliverConditions, composeConditions, readConditions, logMessageConditions, setpointConditions, readSequencesConditions, writeSequencesConditions}
+use Rattle.model.specs.Calls.{Emptied, Delivered, Composed, Setpoint, Converted, start, convertedAnswer, front}
 use Rattle.model.specs.Run.{Given, Event, imageAfter, Run, stateAfter, logAfter, oldLog, accepts?, codeFor, acceptedIn, Played, PairsPlayed}
+use Rattle.model.specs.RunOrder.{receivedIn}
 use Rattle.compose_laws.specs.ComposeLaws.{messageBy}
 use Rattle.compose_laws.specs.ComposedFields.{NeededByNone}
-use Rattle.theorems.specs.Theorems.{offset-law}
+use Rattle.theorems.specs.Theorems.{CodeLaw, offset-law}
 use Rattle.runs.specs.Runs.{EmptiedFrom, DeliveredTo}
 use Rattle.runs.specs.Composes.{ComposedOn}
-use Rattle.refusals.specs.Refusals as refusals
-use Rattle.refusals.specs.Refusals.{LogMessageOf, SetpointOf}
-use Rattle.round_trips.specs.Texts as texts
-use Rattle.round_trips.specs.Texts.{ReadFrom, WrittenFrom}
+use Rattle.refusals.specs.Refusals.{LogMessageOf, SetpointOf, empty-codes, deliver-codes, compose-codes, log-message-codes, setpoint-codes, read-sequences-codes, write-sequences-codes}
+use Rattle.round_trips.specs.Texts.{ReadFrom, WrittenFrom, written-read, read-written}
 use Rattle.log_reader.specs.declared.reader.LogReader.{LogReader}
 use Rattle.log_reader.specs.Reader.{readerOf, Starts}
-use Rattle.log_reader.specs.Readings.{NextCalls, WholeReading, calls-read}
+use Rattle.log_reader.specs.Readings.{NextCalls, calls-read}
 use Rattle.host_runs.specs.HostRuns.{HostBegan, HostAnswered, HostDelivered, host-agreement, host-order-kept}
 use Rattle.host_runs.specs.HostComposes.{HostComposed, host-composed-keeps}
 
--- ---- DEMAND 1
--- "The lowest number that applies to the call is answered, and never when its condition fails." A condition is a number and whether it applies.
-abbrev LowestOf : Conditions → ℕ → Type 0
-LowestOf conditions code = ((code ≡ 0) ⊎ ((code, true) ∈ conditions)) × ((n : ℕ) → (n, true) ∈ conditions → (0 < code) × (code ≤ n))
+-- ---- DEMAND 1: "The lowest number that applies to the call is answered, and never when its condition fails. A refusal writes nothing, and
+-- its counts and length are 0." A call's conditions are its numbers, each with whether it applies.
+abbrev Refuses : Conditions → ℕ → Type 0 → Type 0
+Refuses conditions code nothing = ((code ≡ 0) ⊎ ((code, true) ∈ conditions)) × ((n : ℕ) → (n, true) ∈ conditions → (0 < code) × (code ≤ n)) × (¬ (code ≡ 0) → nothing)
 
--- "A refusal writes nothing, and its counts and length are 0."
+refuses : {conditions : Conditions} {code : ℕ} {nothing : Type 0} → CodeLaw conditions code nothing → Refuses conditions code nothing
+refuses l = (l .lowest .holds, l .lowest .least, l .refused)
+
+empty-refuses : (buffer : List ℕ) (a : Emptied) → EmptiedFrom buffer a → Refuses (emptyConditions buffer) (a .code) (a .image ≡ buffer)
+empty-refuses buffer a c = refuses (empty-codes buffer a c)
+
 deliver-refuses : (b : List ℕ) (m : Message) (steps : List ℕ) (a : Delivered) → DeliveredTo b m steps a
-    → LowestOf (deliverConditions b m (length steps)) (a .code) × (¬ (a .code ≡ 0) → (a .undos ≡ 0) × (a .executions ≡ 0) × (a .image ≡ b) × (a .steps ≡ steps))
-deliver-refuses b m steps a c = let l = refusals.deliver-codes b m steps a c in ((l .lowest .holds, l .lowest .least), l .refused)
-
-empty-refuses : (buffer : List ℕ) (a : Emptied) → EmptiedFrom buffer a → LowestOf (emptyConditions buffer) (a .code) × (¬ (a .code ≡ 0) → a .image ≡ buffer)
-empty-refuses buffer a c = let l = refusals.empty-codes buffer a c in ((l .lowest .holds, l .lowest .least), l .refused)
+    → Refuses (deliverConditions b m (length steps)) (a .code) ((a .undos ≡ 0) × (a .executions ≡ 0) × (a .image ≡ b) × (a .steps ≡ steps))
+deliver-refuses b m steps a c = refuses (deliver-codes b m steps a c)
 
 compose-refuses : (b line commands : List ℕ) (flag priority : ℕ) (buffer : List ℕ) (a : Composed) → ComposedOn b line commands flag priority buffer a
-    → LowestOf (composeConditions b line commands flag priority (length buffer)) (a .code) × (¬ (a .code ≡ 0) → (a .size ≡ 0) × (a .message ≡ buffer))
-compose-refuses b line commands flag priority buffer a c = let l = refusals.compose-codes b line commands flag priority buffer a c in ((l .lowest .holds, l .lowest .least), l .refused)
+    → Refuses (composeConditions b line commands flag priority (length buffer)) (a .code) ((a .size ≡ 0) × (a .message ≡ buffer))
+compose-refuses b line commands flag priority buffer a c = refuses (compose-codes b line commands flag priority buffer a c)
 
-log-message-refuses : (b : List ℕ) (place : ℕ) (part : List ℕ) (code : ℕ) → LogMessageOf b place part code → LowestOf (logMessageConditions b place) code × (¬ (code ≡ 0) → part ≡ [])
-log-message-refuses b place part code c = let l = refusals.log-message-codes b place part code c in ((l .lowest .holds, l .lowest .least), l .refused)
+log-message-refuses : (b : List ℕ) (place : ℕ) (part : List ℕ) (code : ℕ) → LogMessageOf b place part code → Refuses (logMessageConditions b place) code (part ≡ [])
+log-message-refuses b place part code c = refuses (log-message-codes b place part code c)
 
-setpoint-refuses : (b : List ℕ) (tag : ℕ) (a : Setpoint) → SetpointOf b tag a → LowestOf (setpointConditions b tag) (a .code) × (¬ (a .code ≡ 0) → a .value ≡ pos 0)
-setpoint-refuses b tag a c = let l = refusals.setpoint-codes b tag a c in ((l .lowest .holds, l .lowest .least), l .refused)
+setpoint-refuses : (b : List ℕ) (tag : ℕ) (a : Setpoint) → SetpointOf b tag a → Refuses (setpointConditions b tag) (a .code) (a .value ≡ pos 0)
+setpoint-refuses b tag a c = refuses (setpoint-codes b tag a c)
 
-reader-refuses : (t buffer : List ℕ) (a : Converted) → ReadFrom t buffer a
-    → LowestOf (readSequencesConditions t (length buffer)) (a .code) × (¬ (a .code ≡ 0) → (a .size ≡ 0) × (a .buffer ≡ buffer))
-reader-refuses t buffer a c = let l = refusals.read-sequences-codes t buffer a c in ((l .lowest .holds, l .lowest .least), l .refused)
+reader-refuses : (t buffer : List ℕ) (a : Converted) → ReadFrom t buffer a → Refuses (readSequencesConditions t (length buffer)) (a .code) ((a .size ≡ 0) × (a .buffer ≡ buffer))
+reader-refuses t buffer a c = refuses (read-sequences-codes t buffer a c)
 
-writer-refuses : (b buffer : List ℕ) (a : Converted) → WrittenFrom b buffer a
-    → LowestOf (writeSequencesConditions b (length buffer)) (a .code) × (¬ (a .code ≡ 0) → (a .size ≡ 0) × (a .buffer ≡ buffer))
-writer-refuses b buffer a c = let l = refusals.write-sequences-codes b buffer a c in ((l .lowest .holds, l .lowest .least), l .refused)
+writer-refuses : (b buffer : List ℕ) (a : Converted) → WrittenFrom b buffer a → Refuses (writeSequencesConditions b (length buffer)) (a .code) ((a .size ≡ 0) × (a .buffer ≡ buffer))
+writer-refuses b buffer a c = refuses (write-sequences-codes b buffer a c)
 
 -- ---- DEMANDS 3 AND 2, as the host sees them: `bivamolune_empty` answered 0 and wrote the image b, and then `bivamolune_deliver` was called,
 -- each time on the image as the last call left it. In a list of calls the latest stands first.
@@ -84,31 +83,25 @@ module _ (given : Given) (b : List ℕ) (begun : HostBegan given b) where
     fewest = host-agreement .fewest given b begun call earlier run
 
   module _ (calls : List Event) (run : Run HostAnswered b calls) where
-    -- "Its log and image are those of the set"
-    image : imageAfter b calls ≡ imageOf (stateAfter given calls)
-    image = host-agreement .image given b begun calls run
-
-    -- "After each call the played log, the image's log and the plain station's log are the same sequences in the same order."
-    logs : ((log : List ℕ) → Played calls log ↔ (log ≡ logAfter given calls)) × (sequencesOf (logIn (imageAfter b calls)) ≡ logAfter given calls)
-    logs = (host-agreement .played given b begun calls run, host-agreement .imageLog given b begun calls run)
+    -- "Its log and image are those of the set"; "After each call the played log, the image's log and the plain station's log are the same ..".
+    logs : (imageAfter b calls ≡ imageOf (stateAfter given calls))
+        × ((log : List ℕ) → Played calls log ↔ (log ≡ logAfter given calls)) × (sequencesOf (logIn (imageAfter b calls)) ≡ logAfter given calls)
+    logs = (host-agreement .image given b begun calls run, host-agreement .played given b begun calls run, host-agreement .imageLog given b begun calls run)
 
     -- "Played on the setpoints, the pairs must lead to the image's values."
     setpoints : (values : List ℤ) → ((standing : List Standing) × PairsPlayed b calls standing values) ↔ (values ≡ valuesIn (imageAfter b calls))
     setpoints = host-agreement .setpoints given b begun calls run
 
-    -- "The log lists each executable delta once, needs before, and is the first of all such listings"; executable is what is grounded.
-    first : IsLog (stateAfter given calls) (logIn (imageAfter b calls))
-    first = host-order-kept .in-order given b begun calls run .first
-
-    executed : (m : Message) → m ∈ acceptedIn calls → (m ∈ logIn (imageAfter b calls)) ↔ Grounded (stateAfter given calls) m
-    executed = host-order-kept .in-order given b begun calls run .grounded
+    -- "The log lists each executable delta once, needs before, and is the first of all such listings"; grounded: "all it needs .. contains no ring".
+    executed : IsLog (stateAfter given calls) (logIn (imageAfter b calls)) × ((m : Message) → m ∈ receivedIn calls → (m ∈ logIn (imageAfter b calls)) ↔ Grounded (stateAfter given calls) m)
+    executed = let o = host-order-kept .in-order given b begun calls run in (o .first, o .grounded)
 
     -- "All others are held", "by ascending sequence"
-    held : ((m : Message) → (m ∈ heldIn (imageAfter b calls)) ↔ ((m ∈ acceptedIn calls) × ¬ Executable (stateAfter given calls) m)) × Ascending (heldIn (imageAfter b calls))
+    held : ((m : Message) → (m ∈ heldIn (imageAfter b calls)) ↔ ((m ∈ receivedIn calls) × ¬ Executable (stateAfter given calls) m)) × Ascending (heldIn (imageAfter b calls))
     held = let o = host-order-kept .in-order given b begun calls run in (o .held, o .held-ascend)
 
   -- "a ring of deltas is held for good"
-  ring-held : (later calls : List Event) → Run HostAnswered b (later ++ calls) → (m : Message) → m ∈ acceptedIn calls → MeetsRing (stateAfter given calls) m → m ∈ heldIn (imageAfter b (later ++ calls))
+  ring-held : (later calls : List Event) → Run HostAnswered b (later ++ calls) → (m : Message) → m ∈ receivedIn calls → MeetsRing (stateAfter given calls) m → m ∈ heldIn (imageAfter b (later ++ calls))
   ring-held = host-order-kept .ring-held given b begun
 
 -- "So a set of deltas has one image": two stations that accepted the same messages have equal images.
@@ -116,8 +109,7 @@ equal-images : (given other : Given) (b c : List ℕ) → HostBegan given b → 
     → ((m : Message) → (m ∈ acceptedIn calls) ↔ (m ∈ acceptedIn others)) → imageAfter b calls ≡ imageAfter c others
 equal-images = host-agreement .equal
 
--- ---- COMPOSE, as the host sees it: `bivamolune_compose` answered 0. Number, dependencies, group, block, and what the message carries as
--- handed over; the length, and the rest of the buffer; and how it is delivered.
+-- ---- COMPOSE, as the host sees it: `bivamolune_compose` answered 0. Number, dependencies, group, block, and what was handed over; length and rest; delivery.
 module _ (b line commands : List ℕ) (flag priority : ℕ) (buffer : List ℕ) (a : Composed) (call : HostComposed b line commands flag priority buffer a) (answered : a .code ≡ 0) where
   composed-carries : let m = messageBy a in let S = stateIn b in let log = logOf S in
       (lineOf (sequenceOf m) ≡ number line) × (numberOf (sequenceOf m) ≡ newNumber log (number line))
@@ -136,20 +128,22 @@ module _ (b line commands : List ℕ) (flag priority : ℕ) (buffer : List ℕ) 
       → (d .code ≡ 0) × (d .undos ≡ 0) × ((rest : List Step) × (readSteps (d .undos + d .executions) (d .steps) ≡ some (execute (sequenceOf (messageBy a)) ∷ rest)))
   composed-delivered few steps room d h = let f = host-composed-keeps b line commands flag priority buffer a call answered .delivered few steps room d h in (f .accepted, f .no-undo, (f .rest, f .steps))
 
--- ---- THE READER: "It starts at the first message of the log. Past the last one of the log, or on a buffer that answers 1 or 2, it gives an
--- empty part and stays there."
-reading : (b : List ℕ) (r : LogReader) → Starts b r → (parts : List (List ℕ)) (end : LogReader) → NextCalls r parts end → WholeReading b (length parts) parts (readerOf end)
-reading = calls-read
+-- ---- THE READER: "It starts at the first message of the log. Past the last one .., or on a buffer that answers 1 or 2, it gives an empty part and stays there."
+reading : (b : List ℕ) (r : LogReader) → Starts b r → (parts : List (List ℕ)) (end : LogReader) → NextCalls r parts end → let n = length parts in let log = logIn b in
+    (lowestCode (readConditions b) ≡ 0 → (parts ≡ take n log ++ replicate (n - length log) []) × (readerOf end ≡ record { image = b; offset = messageOffset b (min n (length log)) }))
+    × (¬ (lowestCode (readConditions b) ≡ 0) → (parts ≡ replicate n []) × (readerOf end ≡ start b))
+reading b r s parts end c = let w = calls-read b r s parts end c in (λ e. (w .of-image e .given, w .of-image e .stands), λ n. (w .of-other n .given, w .of-other n .stands))
 
 -- ---- TEXTS: "Reading a written list yields the sequences, and a text that is read is the one that would be written."
-written-read : (b entry : List ℕ) (w : Converted) → WrittenFrom b entry w → w .code ≡ 0 → (out : List ℕ) → sequencesRoom ≤ length out → (a : Converted) → ReadFrom (front w) out a → a ≡ convertedAnswer 0 b out
-written-read = texts.written-read
+written-list-read : (b entry : List ℕ) (w : Converted) → WrittenFrom b entry w → w .code ≡ 0
+    → (out : List ℕ) → sequencesRoom ≤ length out → (a : Converted) → ReadFrom (front w) out a → a ≡ convertedAnswer 0 b out
+written-list-read = written-read
 
-read-written : (t entry : List ℕ) (r : Converted) → ReadFrom t entry r → r .code ≡ 0 → (out : List ℕ) → textRoom ≤ length out → (a : Converted) → WrittenFrom (front r) out a → a ≡ convertedAnswer 0 t out
-read-written = texts.read-written
+read-text-written : (t entry : List ℕ) (r : Converted) → ReadFrom t entry r → r .code ≡ 0
+    → (out : List ℕ) → textRoom ≤ length out → (a : Converted) → WrittenFrom (front r) out a → a ≡ convertedAnswer 0 t out
+read-text-written = read-written
 
--- ---- OFFSETS: "at every place of a walk this value is the offset of the first message plus the lengths of all messages before the place, and,
--- in a valid image, past its last message the bytes used"
+-- ---- OFFSETS: "the offset of the first message plus the lengths of all messages before the place, and, in a valid image, past its last message the bytes used"
 offsets : (b : List ℕ) → let walked = walk (messagesStartIn b) (messagesIn b) in
     ((k : ℕ) → k ≤ length (messagesIn b) → getD walked k 0 ≡ messagesStartIn b + sum length (take k (messagesIn b))) × (T (isImage b) → getD walked (length (messagesIn b)) 0 ≡ usedCount b)
 unfolding offsetOf
