@@ -1,12 +1,11 @@
 -- What is promised of the calls, over what they were proved to leave behind, their own postconditions: each promise at its full type,
 -- under the words of documents 01 and 02. A buffer is a list of bytes. The proofs stand in the crates below.
-use mathlib.Core.Path.{_≡_, _∙_}
+use mathlib.Core.Path.{_≡_}
 use mathlib.Core.Logic.{_↔_, _⊎_}
 use mathlib.Core.Bool.{true}
 use mathlib.Core.Option.{some}
 use mathlib.Core.List.{List, [], _∷_, _++_}
 use Prim.Native.Nat.{ℕ, suc, _+_, _-_, _≤_, _<_, min}
-use native.Mathlib.Nat.{le-refl}
 use lib.ListN.{length, take, drop, getD, replicate}
 use lib.Dec.{T}
 use lib.IntN.{ℤ, pos}
@@ -22,6 +21,7 @@ use Rattle.model.specs.Codes.{Conditions, lowestCode, emptyConditions, deliverC
 use Rattle.model.specs.Calls.{Emptied, Delivered, Composed, Setpoint, Converted, start, convertedAnswer, front}
 use Rattle.model.specs.Run.{Given, Event, imageAfter, Run, stateAfter, logAfter, oldLog, accepts?, codeFor, acceptedIn, Played, PairsPlayed}
 use Rattle.model.specs.RunOrder.{receivedIn}
+use Rattle.run_laws.specs.CalledRuns.{Began, Answered}
 use Rattle.compose_laws.specs.ComposeLaws.{messageBy}
 use Rattle.compose_laws.specs.ComposedFields.{NeededByNone}
 use Rattle.theorems.specs.Theorems.{CodeLaw, offset-law}
@@ -32,7 +32,7 @@ use Rattle.round_trips.specs.Texts.{ReadFrom, WrittenFrom, written-read, read-w
 use Rattle.log_reader.specs.declared.reader.LogReader.{LogReader}
 use Rattle.log_reader.specs.Reader.{readerOf, Starts}
 use Rattle.log_reader.specs.Readings.{NextCalls, calls-read}
-use Rattle.host_runs.specs.HostRuns.{HostBegan, HostAnswered, HostDelivered, host-agreement, host-order-kept}
+use Rattle.host_runs.specs.HostRuns.{HostEmptied, HostDelivered, host-agreement, host-order-kept}
 use Rattle.host_runs.specs.HostComposes.{HostComposed, host-composed-keeps}
 
 -- ---- DEMAND 1: "The lowest number that applies to the call is answered, and never when its condition fails. A refusal writes nothing, and
@@ -68,8 +68,8 @@ writer-refuses b buffer a c = refuses (write-sequences-codes b buffer a c)
 
 -- ---- DEMANDS 3 AND 2, as the host sees them: `bivamolune_empty` answered 0 and wrote the image b, and then `bivamolune_deliver` was called,
 -- each time on the image as the last call left it. In a list of calls the latest stands first.
-module _ (given : Given) (b : List ℕ) (begun : HostBegan given b) where
-  module _ (call : Event) (earlier : List Event) (run : Run HostAnswered b (call ∷ earlier)) where
+module _ (given : Given) (b : List ℕ) (begun : Began HostEmptied given b) where
+  module _ (call : Event) (earlier : List Event) (run : Run (Answered HostDelivered) b (call ∷ earlier)) where
     -- "Deliver answers 0 exactly where the plain station accepts, and otherwise the lowest number that applies."
     codes : ((call .answer .code ≡ 0) ↔ T (accepts? (stateAfter given earlier) (call .call))) × (call .answer .code ≡ codeFor (imageAfter b earlier) (call .call))
     codes = (host-agreement .accepted given b begun call earlier run, host-agreement .code given b begun call earlier run)
@@ -82,7 +82,7 @@ module _ (given : Given) (b : List ℕ) (begun : HostBegan given b) where
     fewest : (rival : List Step) → Plays (oldLog given call earlier) rival (logAfter given (call ∷ earlier)) → call .answer .undos + call .answer .executions ≤ length rival
     fewest = host-agreement .fewest given b begun call earlier run
 
-  module _ (calls : List Event) (run : Run HostAnswered b calls) where
+  module _ (calls : List Event) (run : Run (Answered HostDelivered) b calls) where
     -- "Its log and image are those of the set"; "After each call the played log, the image's log and the plain station's log are the same ..".
     logs : (imageAfter b calls ≡ imageOf (stateAfter given calls))
         × ((log : List ℕ) → Played calls log ↔ (log ≡ logAfter given calls)) × (sequencesOf (logIn (imageAfter b calls)) ≡ logAfter given calls)
@@ -101,11 +101,11 @@ module _ (given : Given) (b : List ℕ) (begun : HostBegan given b) where
     held = let o = host-order-kept .in-order given b begun calls run in (o .held, o .held-ascend)
 
   -- "a ring of deltas is held for good"
-  ring-held : (later calls : List Event) → Run HostAnswered b (later ++ calls) → (m : Message) → m ∈ receivedIn calls → MeetsRing (stateAfter given calls) m → m ∈ heldIn (imageAfter b (later ++ calls))
+  ring-held : (later calls : List Event) → Run (Answered HostDelivered) b (later ++ calls) → (m : Message) → m ∈ receivedIn calls → MeetsRing (stateAfter given calls) m → m ∈ heldIn (imageAfter b (later ++ calls))
   ring-held = host-order-kept .ring-held given b begun
 
 -- "So a set of deltas has one image": two stations that accepted the same messages have equal images.
-equal-images : (given other : Given) (b c : List ℕ) → HostBegan given b → HostBegan other c → (calls others : List Event) → Run HostAnswered b calls → Run HostAnswered c others
+equal-images : (given other : Given) (b c : List ℕ) → Began HostEmptied given b → Began HostEmptied other c → (calls others : List Event) → Run (Answered HostDelivered) b calls → Run (Answered HostDelivered) c others
     → ((m : Message) → (m ∈ acceptedIn calls) ↔ (m ∈ acceptedIn others)) → imageAfter b calls ≡ imageAfter c others
 equal-images = host-agreement .equal
 
@@ -144,7 +144,7 @@ read-text-written : (t entry : List ℕ) (r : Converted) → ReadFrom t entry r 
 read-text-written = read-written
 
 -- ---- OFFSETS: "the offset of the first message plus the lengths of all messages before the place, and, in a valid image, past its last message the bytes used"
-offsets : (b : List ℕ) → let walked = walk (messagesStartIn b) (messagesIn b) in
-    ((k : ℕ) → k ≤ length (messagesIn b) → getD walked k 0 ≡ messagesStartIn b + sum length (take k (messagesIn b))) × (T (isImage b) → getD walked (length (messagesIn b)) 0 ≡ usedCount b)
+offsets : (b : List ℕ) → let l = messagesIn b in ((k : ℕ) → k ≤ length l → getD (walk (messagesStartIn b) l) k 0 ≡ messagesStartIn b + sum length (take k l))
+    × (T (isImage b) → messagesStartIn b + sum length (take (length l) l) ≡ usedCount b)
 unfolding offsetOf
-offsets b = (offset-law b .carried, λ image. offset-law b .carried (length (messagesIn b)) (le-refl _) ∙ offset-law b .used image)
+offsets b = (offset-law b .carried, offset-law b .used)

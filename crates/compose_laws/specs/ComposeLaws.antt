@@ -14,7 +14,7 @@ use lib.Dec.{T, eqb, ltb, leb, eqb→eq, ltb→lt, leb→le, nleb→lt, nltb→l
 use Rattle.model.specs.Lists.{_∈_, has, every, some?}
 use Rattle.model.specs.Bytes.{isBytes, number, parts}
 use Rattle.model.specs.Layout.{imageSize, stepRoom, messageRoom, lineSize, sequenceSize, numbersOfLine, commandSize, mostDependencies, fieldLimit, capacity}
-use Rattle.model.specs.Message.{Message, sequenceOf, predecessorOf, dependenciesOf, commandRight, blockRight, passes}
+use Rattle.model.specs.Message.{Message, sequenceOf, predecessorOf, commandRight, blockRight, passes}
 use Rattle.model.specs.Order.{State, add, insert, Ascending, sequencesOf, needs, placedBy, keyOf, less, logOf}
 use Rattle.model.specs.Image.{imageOf, Valid, stateIn, isImage}
 use Rattle.model.specs.Steps.{Step, execute, common, stepsOf, undosOf, readSteps}
@@ -37,7 +37,7 @@ use Rattle.laws.specs.ImageLaws.{log-passes, image-own, own-valid}
 use Rattle.laws.specs.CodeLaws.{compose-code}
 use Rattle.laws.specs.DeliverLaws.{code-zero, receive-accepted}
 use Rattle.run_laws.specs.RunLaws.{CallFacts, steps-read, call-facts}
-use Rattle.compose_laws.specs.ComposedMessage.{Parts, made-passes, made-sequence, made-dependencies}
+use Rattle.compose_laws.specs.ComposedMessage.{HasParts, Parts, made-parts, made-passes}
 use Rattle.compose_laws.specs.ComposeFacts.{own-numbered, own-new, predecessor-logged, dependency-logged, dependencies-ascend, dependencies-numbered, dependencies-other, dependencies-not-predecessor, unneeded-named}
 
 -- ---- a delta that needs every logged delta that none needs, and nothing that is not logged: the log goes on with it
@@ -132,7 +132,7 @@ module _ (b line commands : List ℕ) (flag priority room : ℕ) (g : Granted b 
       let t : T (composeContent commands flag priority) = g .content in
       let h : T (leb priority fieldLimit) = search (and-l, and-r) depth 6 in leb→le priority fieldLimit h
 
-  pub parts-right : Parts (eqb flag 1) own (newGroup (logOf S) own) (newBlock S (eqb flag 1)) priority (newDependencies S own) commands
+  parts-right : Parts (eqb flag 1) own (newGroup (logOf S) own) (newBlock S (eqb flag 1)) priority (newDependencies S own) commands
   parts-right = record {
     sequence-fits =
         let h : number line < 256 ^ 10 = subst (λ (n : ℕ). number line < 256 ^ n) (g .line-length) (number-range line (g .line-bytes)) in
@@ -167,20 +167,16 @@ module _ (b line commands : List ℕ) (flag priority room : ℕ) (g : Granted b 
       (dependencies-not-predecessor S valid (number line) (g .free) (g .number-small)) block-right
       (and-r (leb flag 1 && leb priority fieldLimit && (eqb flag 1 || eqb priority 0)) (every commandRight (parts (length commands / commandSize) commandSize commands)) t)
 
-  pub composed-sequence : sequenceOf message ≡ own
+  pub composed-parts : HasParts (eqb flag 1) own (newGroup (logOf S) own) (newBlock S (eqb flag 1)) priority (newDependencies S own) commands message
   unfolding composed
-  composed-sequence = made-sequence (eqb flag 1) own (newGroup (logOf S) own) (newBlock S (eqb flag 1)) priority (newDependencies S own) commands parts-right
-
-  pub composed-dependencies : dependenciesOf message ≡ newDependencies S own
-  unfolding composed
-  composed-dependencies = made-dependencies (eqb flag 1) own (newGroup (logOf S) own) (newBlock S (eqb flag 1)) priority (newDependencies S own) commands parts-right
+  composed-parts = made-parts (eqb flag 1) own (newGroup (logOf S) own) (newBlock S (eqb flag 1)) priority (newDependencies S own) commands parts-right
 
   composed-needs : needs S message ≡ predecessorOf own ++ newDependencies S own
   unfolding needs
-  composed-needs = ap₂ (λ (s : ℕ) (d : List ℕ). predecessorOf s ++ d) composed-sequence composed-dependencies
+  composed-needs = ap₂ (λ (s : ℕ) (d : List ℕ). predecessorOf s ++ d) (composed-parts .sequence) (composed-parts .dependencies)
 
   composed-new : (a : Message) → a ∈ S .deltas → sequenceOf message ≡ sequenceOf a → ⊥
-  composed-new a k e = own-new S valid (number line) (g .free) (g .number-small) a k (sym composed-sequence ∙ e)
+  composed-new a k e = own-new S valid (number line) (g .free) (g .number-small) a k (sym (composed-parts .sequence) ∙ e)
 
   -- the log goes on with it
   pub composed-extends : (rest : List Message) × (logOf (add message S) ≡ logOf S ++ message ∷ rest)

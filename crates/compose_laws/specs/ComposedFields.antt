@@ -19,9 +19,9 @@ use Rattle.model.specs.Codes.{composeContent}
 use Rattle.model.specs.Calls.{compose}
 use Rattle.order.specs.TestLaws.{and-l, and-r, and-i, decide, not-eqb, has→∈, ∈→has, some-∈, ∈-some}
 use Rattle.laws.specs.LogLaws.{log-received, log-grounded}
-use Rattle.compose_laws.specs.ComposedMessage.{Parts, one-byte, made-group, made-block, made-priority, made-dependency-count, commands-from}
+use Rattle.compose_laws.specs.ComposedMessage.{HasParts}
 use Rattle.compose_laws.specs.ComposeFacts.{own-line, own-number, dependency-is, dependencies-ascend, unneeded-named}
-use Rattle.compose_laws.specs.ComposeLaws.{Granted, valid, parts-right, composed-sequence, composed-dependencies, messageBy, compose-written, message-written, compose-granted}
+use Rattle.compose_laws.specs.ComposeLaws.{Granted, valid, composed-parts, messageBy, compose-written, message-written, compose-granted}
 
 -- "the log deltas that no other log delta needs"
 pub record NeededByNone (S : State) (d : ℕ) : Type 0 where
@@ -116,38 +116,24 @@ module _ (b line commands : List ℕ) (flag priority room : ℕ) (g : Granted b 
   )
 
   carries : Carries S line commands flag priority message
-  unfolding composed
   carries = record {
-    on-line = ap lineOf sequence-is ∙ own-line S right (number line) (g .free) (g .number-small);
-    next-number = ap numberOf sequence-is ∙ own-number S right (number line) (g .free) (g .number-small);
-    dependencies = λ d. subst (λ (l : List ℕ). (d ∈ l) ↔ (NeededByNone S d × ¬ (d ∈ predecessorOf (sequenceOf message)))) (sym dependencies-is)
-        (subst (λ (s : ℕ). (d ∈ newDependencies S own) ↔ (NeededByNone S d × ¬ (d ∈ predecessorOf s))) (sym sequence-is) (dependencies-are d));
-    dependencies-ascend = subst (λ (l : List ℕ). T (ascending l)) (sym dependencies-is) (dependencies-ascend S right (number line) (g .free) (g .number-small));
-    group-first = λ e. group-is ∙ ap (λ (l : List Message). newGroup l own) e;
-    group-raised = λ n h. group-is ∙ above-last (logOf S) own n (subst (λ (s : ℕ). s < lastSequence (logOf S)) sequence-is h);
-    group-kept = λ n h. group-is ∙ not-above (logOf S) own n (λ k. h (subst (λ (s : ℕ). s < lastSequence (logOf S)) (sym sequence-is) k));
-    block = λ e. block-is ∙ ap (λ (n : ℕ). newBlock S (eqb n 1)) e;
-    no-block = λ e. block-is ∙ ap (λ (n : ℕ). newBlock S (eqb n 1)) e;
-    flag-carried = one-byte (cond (eqb flag 1) 1 0) ∙ flag-is flag flag-small;
-    priority-carried = made-priority (eqb flag 1) own (newGroup (logOf S) own) (newBlock S (eqb flag 1)) priority (newDependencies S own) commands parts;
-    commands-carried = ap (λ (D : ℕ). drop (commandsStart D) message) (made-dependency-count (eqb flag 1) own (newGroup (logOf S) own) (newBlock S (eqb flag 1)) priority (newDependencies S own) commands parts)
-        ∙ commands-from (eqb flag 1) own (newGroup (logOf S) own) (newBlock S (eqb flag 1)) priority (newDependencies S own) commands parts;
+    on-line = ap lineOf (made .sequence) ∙ own-line S right (number line) (g .free) (g .number-small);
+    next-number = ap numberOf (made .sequence) ∙ own-number S right (number line) (g .free) (g .number-small);
+    dependencies = λ d. subst (λ (l : List ℕ). (d ∈ l) ↔ (NeededByNone S d × ¬ (d ∈ predecessorOf (sequenceOf message)))) (sym (made .dependencies))
+        (subst (λ (s : ℕ). (d ∈ newDependencies S own) ↔ (NeededByNone S d × ¬ (d ∈ predecessorOf s))) (sym (made .sequence)) (dependencies-are d));
+    dependencies-ascend = subst (λ (l : List ℕ). T (ascending l)) (sym (made .dependencies)) (dependencies-ascend S right (number line) (g .free) (g .number-small));
+    group-first = λ e. made .group-is ∙ ap (λ (l : List Message). newGroup l own) e;
+    group-raised = λ n h. made .group-is ∙ above-last (logOf S) own n (subst (λ (s : ℕ). s < lastSequence (logOf S)) (made .sequence) h);
+    group-kept = λ n h. made .group-is ∙ not-above (logOf S) own n (λ k. h (subst (λ (s : ℕ). s < lastSequence (logOf S)) (sym (made .sequence)) k));
+    block = λ e. made .block-is ∙ ap (λ (n : ℕ). newBlock S (eqb n 1)) e;
+    no-block = λ e. made .block-is ∙ ap (λ (n : ℕ). newBlock S (eqb n 1)) e;
+    flag-carried = made .flag-byte ∙ flag-is flag flag-small;
+    priority-carried = made .priority-is;
+    commands-carried = made .commands-behind;
   }
     where
-      parts : Parts (eqb flag 1) own (newGroup (logOf S) own) (newBlock S (eqb flag 1)) priority (newDependencies S own) commands
-      parts = parts-right b line commands flag priority room g
-
-      sequence-is : sequenceOf message ≡ own
-      sequence-is = composed-sequence b line commands flag priority room g
-
-      dependencies-is : dependenciesOf message ≡ newDependencies S own
-      dependencies-is = composed-dependencies b line commands flag priority room g
-
-      group-is : groupOf message ≡ newGroup (logOf S) own
-      group-is = made-group (eqb flag 1) own (newGroup (logOf S) own) (newBlock S (eqb flag 1)) priority (newDependencies S own) commands parts
-
-      block-is : blockOf message ≡ newBlock S (eqb flag 1)
-      block-is = made-block (eqb flag 1) own (newGroup (logOf S) own) (newBlock S (eqb flag 1)) priority (newDependencies S own) commands parts
+      made : HasParts (eqb flag 1) own (newGroup (logOf S) own) (newBlock S (eqb flag 1)) priority (newDependencies S own) commands message
+      made = composed-parts b line commands flag priority room g
 
       flag-small : flag ≤ 1
       flag-small =

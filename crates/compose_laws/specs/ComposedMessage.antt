@@ -17,7 +17,7 @@ use Rattle.order.specs.TestLaws.{eq→eqb, and-l, and-r, and-i}
 use Rattle.wire_laws.specs.BytesLaws.{length-bytes, number-bytes, bytes-isBytes, isBytes-append, parts-join, length-join}
 use Rattle.wire_laws.specs.MessageLaws.{passes-all}
 
-pub one-byte : (x : ℕ) → number (x ∷ []) ≡ x
+one-byte : (x : ℕ) → number (x ∷ []) ≡ x
 one-byte x = omega arith
 
 -- ---- numbers of one size, end to end
@@ -41,6 +41,16 @@ fields-isBytes : (l : List (ℕ × ℕ)) (b : List ℕ) → T (isBytes b) → T 
 fields-isBytes [] b t = t
 fields-isBytes (f ∷ l) b t = isBytes-append (bytes (f .0) (f .1)) (fieldsThen l b) (bytes-isBytes (f .0) (f .1)) (fields-isBytes l b t)
 
+-- A message that has these parts, by its fields.
+pub record HasParts (flag : Bool) (s group block priority : ℕ) (deps commands : List ℕ) (m : Message) : Type 0 where
+  pub flag-byte : field m priorityFlagAt 1 ≡ cond flag 1 0
+  pub sequence : sequenceOf m ≡ s
+  pub group-is : groupOf m ≡ group
+  pub block-is : blockOf m ≡ block
+  pub priority-is : priorityOf m ≡ priority
+  pub dependencies : dependenciesOf m ≡ deps
+  pub commands-behind : drop (commandsStart (dependencyCount m)) m ≡ commands
+
 -- ---- the parts
 module _ (flag : Bool) (s group block priority : ℕ) (deps commands : List ℕ) where
   abbrev pub made : Message
@@ -56,19 +66,19 @@ module _ (flag : Bool) (s group block priority : ℕ) (deps commands : List ℕ)
     pub commands-sized : T (commandsSized commands)
 
   module _ (p : Parts) where
-    pub made-sequence : sequenceOf made ≡ s
+    made-sequence : sequenceOf made ≡ s
     made-sequence = number-bytes sequenceSize s (p .sequence-fits)
 
-    pub made-group : groupOf made ≡ group
+    made-group : groupOf made ≡ group
     made-group = number-bytes 4 group (let h : group ≤ fieldLimit = p .group-fits in omega arith)
 
-    pub made-block : blockOf made ≡ block
+    made-block : blockOf made ≡ block
     made-block = number-bytes 4 block (let h : block ≤ fieldLimit = p .block-fits in omega arith)
 
-    pub made-priority : priorityOf made ≡ priority
+    made-priority : priorityOf made ≡ priority
     made-priority = number-bytes 4 priority (let h : priority ≤ fieldLimit = p .priority-fits in omega arith)
 
-    pub made-dependency-count : dependencyCount made ≡ length deps
+    made-dependency-count : dependencyCount made ≡ length deps
     made-dependency-count = one-byte (length deps)
 
     made-command-count : commandCount made ≡ length commands / commandSize
@@ -77,13 +87,13 @@ module _ (flag : Bool) (s group block priority : ℕ) (deps commands : List ℕ)
     deps-length : length (join (map (bytes sequenceSize) deps)) ≡ length deps * sequenceSize
     deps-length = length-join sequenceSize (map (bytes sequenceSize) deps) (all-sized sequenceSize deps) ∙ ap (λ (n : ℕ). n * sequenceSize) (length-map deps (bytes sequenceSize))
 
-    pub made-dependencies : dependenciesOf made ≡ deps
+    made-dependencies : dependenciesOf made ≡ deps
     made-dependencies =
         ap (λ (n : ℕ). map number (parts n sequenceSize (join (map (bytes sequenceSize) deps) ++ commands))) (made-dependency-count ∙ sym (length-map deps (bytes sequenceSize)))
         ∙ ap (map number) (parts-join sequenceSize (map (bytes sequenceSize) deps) commands (all-sized sequenceSize deps))
         ∙ numbers-back sequenceSize deps (p .deps-fit)
 
-    pub commands-from : drop (commandsStart (length deps)) made ≡ commands
+    commands-from : drop (commandsStart (length deps)) made ≡ commands
     commands-from =
         sym (drop-drop (sequenceSize * length deps) headerSize made)
         ∙ drop-at (join (map (bytes sequenceSize) deps)) commands (sequenceSize * length deps) (omega (arith, deps-length))
@@ -92,6 +102,17 @@ module _ (flag : Bool) (s group block priority : ℕ) (deps commands : List ℕ)
     made-commands =
         ap₂ (λ (C D : ℕ). parts C commandSize (drop (commandsStart D) made)) made-command-count made-dependency-count
         ∙ ap (parts (length commands / commandSize) commandSize) commands-from
+
+    pub made-parts : HasParts flag s group block priority deps commands made
+    made-parts = record {
+      flag-byte = one-byte (cond flag 1 0);
+      sequence = made-sequence;
+      group-is = made-group;
+      block-is = made-block;
+      priority-is = made-priority;
+      dependencies = made-dependencies;
+      commands-behind = ap (λ (D : ℕ). drop (commandsStart D) made) made-dependency-count ∙ commands-from;
+    }
 
     sized-bytes : T (isBytes commands)
     sized-bytes = let t : T (commandsSized commands) = p .commands-sized in search (and-l, and-r) depth 6

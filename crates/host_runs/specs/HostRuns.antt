@@ -7,10 +7,9 @@ use denote.Ref.{now, RefT}
 use contract.Lifetimes.{Lfts}
 use Rattle.model.specs.Message.{Message}
 use Rattle.model.specs.Calls.{Emptied, empty, Delivered, deliver}
-use Rattle.model.specs.Run.{Given, Call, delivery, Agreement, Begins, Answers}
+use Rattle.model.specs.Run.{Agreement}
 use Rattle.model.specs.RunOrder.{OrderKept}
-use Rattle.run_laws.specs.RunLaws.{agreement-of}
-use Rattle.run_laws.specs.OrderRuns.{order-kept-of}
+use Rattle.run_laws.specs.CalledRuns.{Began, Answered, called-agreement, called-order}
 use Rattle.bivamolune.specs.Packing.{codeIn, undosIn, executionsIn}
 use Rattle.bivamolune.specs.Answers.{Empties, Delivers}
 use Rattle.bivamolune.proofs.bivamolune_empty.Reads as empty-reads
@@ -73,29 +72,10 @@ host-delivered-as b m steps a c =
     c .answer ∙ delivered-is (now (c .image-entry)) (now (c .message)) (now (c .steps-entry)) (c .number) (now (c .image-exit)) (now (c .steps-exit)) (c .post)
     ∙ ap₂ (λ (x y : List ℕ). deliver x y (now (c .steps-entry))) (sym (c .image)) (sym (c .sent)) ∙ ap (deliver b m) (sym (c .lent))
 
--- ---- the calls of a run: the one of `bivamolune_empty` that it begins with, which answered 0 and left the image b, and those of
--- `bivamolune_deliver`
-pub record HostBegan (given : Given) (b : List ℕ) : Type 0 where
-  pub answer : Emptied
-  pub called : HostEmptied (given .buffer) answer
-  pub accepted : answer .code ≡ 0
-  pub image : b ≡ answer .image
-
-abbrev pub HostAnswered : List ℕ → Call → Delivered → Type 0
-HostAnswered b (delivery m steps) a = HostDelivered b m steps a
-
-begins : (given : Given) (b : List ℕ) → HostBegan given b → Begins given b
-begins given b e =
-    let is : e .answer ≡ empty (given .buffer) = host-emptied-as (given .buffer) (e .answer) (e .called) in
-    (ap (λ (x : Emptied). x .code) (sym is) ∙ e .accepted, e .image ∙ ap (λ (x : Emptied). x .image) is)
-
-answers : (b : List ℕ) (c : Call) (a : Delivered) → HostAnswered b c a → Answers b c a
-answers b (delivery m steps) a c = host-delivered-as b m steps a c
-
 -- DEMAND 3, as the host sees it
-pub host-agreement : Agreement HostBegan HostAnswered
-host-agreement = agreement-of HostBegan HostAnswered begins answers
+pub host-agreement : Agreement (Began HostEmptied) (Answered HostDelivered)
+host-agreement = called-agreement HostEmptied HostDelivered host-emptied-as host-delivered-as
 
 -- DEMAND 2 after every call, as the host sees it
-pub host-order-kept : OrderKept HostBegan HostAnswered
-host-order-kept = order-kept-of HostBegan HostAnswered begins answers
+pub host-order-kept : OrderKept (Began HostEmptied) (Answered HostDelivered)
+host-order-kept = called-order HostEmptied HostDelivered host-emptied-as host-delivered-as

@@ -6,7 +6,7 @@ use lib.ListN.{length, take, drop}
 use Rattle.model.specs.Message.{Message}
 use Rattle.model.specs.Order.{needs, executablesOf, logOf, heldOf}
 use Rattle.model.specs.Setpoints.{startValues, stop, raise, operate, changeOf, apply, runCommand, runDelta, setpointsOf}
-use Rattle.model.specs.Image.{messagesStart, messagesOf, valuesOf, headerOf, sectionsOf, usedOf, messagesStartIn, logIn, messagesIn}
+use Rattle.model.specs.Image.{messagesStart, messagesOf, valuesOf, headerOf, sectionsOf, usedOf, messagesStartIn, logIn, messagesIn, heldIn}
 use Rattle.model.proofs.ExampleMessages.{a1, a2, b1, c2, b1-5, c1-7, a1-naming-b1, b1-naming-a1, holding}
 
 -- ---- "log count L, held count H, offset of setpoints 16, offset of messages 272, bytes used, zero"
@@ -65,17 +65,17 @@ messages-hold : map (λ e. drop 272 (usedOf (holding (e .0)))) messages ≡ map 
 unfolding messages usedOf sectionsOf headerOf valuesOf messagesOf messagesStart setpointsOf startValues runDelta runCommand apply changeOf operate raise stop logOf heldOf executablesOf needs
 messages-hold = refl
 
--- ---- read back from the bytes used: the log, and all messages
-readBack : List (List Message × (List Message × List Message))
+-- ---- read back from the bytes used: the log, the held ones, and all messages
+readBack : List (List Message × (List Message × List Message × List Message))
 readBack =
-    ([], ([], []))
-    ∷ (b1 ∷ a1 ∷ [], (a1 ∷ b1 ∷ [], a1 ∷ b1 ∷ []))
-    ∷ (a2 ∷ b1 ∷ [], (b1 ∷ [], b1 ∷ a2 ∷ []))
-    ∷ (b1-naming-a1 ∷ a1-naming-b1 ∷ [], ([], a1-naming-b1 ∷ b1-naming-a1 ∷ []))
+    ([], ([], [], []))
+    ∷ (b1 ∷ a1 ∷ [], (a1 ∷ b1 ∷ [], [], a1 ∷ b1 ∷ []))
+    ∷ (a2 ∷ b1 ∷ [], (b1 ∷ [], a2 ∷ [], b1 ∷ a2 ∷ []))
+    ∷ (b1-naming-a1 ∷ a1-naming-b1 ∷ [], ([], a1-naming-b1 ∷ b1-naming-a1 ∷ [], a1-naming-b1 ∷ b1-naming-a1 ∷ []))
     ∷ []
 
-abbrev readFrom : List ℕ → List Message × List Message
-readFrom b = (logIn b, messagesIn b)
+abbrev readFrom : List ℕ → List Message × List Message × List Message
+readFrom b = (logIn b, heldIn b, messagesIn b)
 
 readBack-holds : map (λ e. readFrom (usedOf (holding (e .0)))) readBack ≡ map (λ e. e .1) readBack
 unfolding readBack messagesStartIn usedOf sectionsOf headerOf valuesOf messagesOf messagesStart setpointsOf startValues runDelta runCommand apply changeOf operate raise stop logOf heldOf executablesOf needs

@@ -1,3 +1,4 @@
 pub mod PairRuns
 pub mod RunLaws
 pub mod OrderRuns
+pub mod CalledRuns

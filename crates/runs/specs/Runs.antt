@@ -7,10 +7,9 @@ use denote.Ref.{now, RefT}
 use contract.Lifetimes.{Lfts}
 use Rattle.model.specs.Message.{Message}
 use Rattle.model.specs.Calls.{Emptied, empty, Delivered, deliver}
-use Rattle.model.specs.Run.{Given, Call, delivery, Agreement, Begins, Answers}
+use Rattle.model.specs.Run.{Agreement}
 use Rattle.model.specs.RunOrder.{OrderKept}
-use Rattle.run_laws.specs.RunLaws.{agreement-of}
-use Rattle.run_laws.specs.OrderRuns.{order-kept-of}
+use Rattle.run_laws.specs.CalledRuns.{Began, Answered, called-agreement, called-order}
 use Rattle.deliver.specs.declared.answer.Delivery.{Delivery}
 use Rattle.emptying.specs.declared.Emptying.{Emptying}
 use Rattle.deliver.specs.Answer.{deliveredBy}
@@ -51,28 +50,10 @@ pub delivered-as : (b : List ℕ) (m : Message) (steps : List ℕ) (a : Delivere
 delivered-as b m steps a c =
     c .answer ∙ c .post ∙ ap₂ (λ (x y : List ℕ). deliver x y (now (c .steps-entry))) (sym (c .image)) (sym (c .sent)) ∙ ap (deliver b m) (sym (c .lent))
 
--- ---- the calls of a run: the one of `empty` that it begins with, which answered 0 and left the image b, and those of `deliver`
-pub record Began (given : Given) (b : List ℕ) : Type 0 where
-  pub answer : Emptied
-  pub called : EmptiedFrom (given .buffer) answer
-  pub accepted : answer .code ≡ 0
-  pub image : b ≡ answer .image
-
-abbrev pub Answered : List ℕ → Call → Delivered → Type 0
-Answered b (delivery m steps) a = DeliveredTo b m steps a
-
-begins : (given : Given) (b : List ℕ) → Began given b → Begins given b
-begins given b e =
-    let is : e .answer ≡ empty (given .buffer) = emptied-as (given .buffer) (e .answer) (e .called) in
-    (ap (λ (x : Emptied). x .code) (sym is) ∙ e .accepted, e .image ∙ ap (λ (x : Emptied). x .image) is)
-
-answers : (b : List ℕ) (c : Call) (a : Delivered) → Answered b c a → Answers b c a
-answers b (delivery m steps) a c = delivered-as b m steps a c
-
 -- DEMAND 3
-pub agreement : Agreement Began Answered
-agreement = agreement-of Began Answered begins answers
+pub agreement : Agreement (Began EmptiedFrom) (Answered DeliveredTo)
+agreement = called-agreement EmptiedFrom DeliveredTo emptied-as delivered-as
 
 -- DEMAND 2 after every call
-pub order-kept : OrderKept Began Answered
-order-kept = order-kept-of Began Answered begins answers
+pub order-kept : OrderKept (Began EmptiedFrom) (Answered DeliveredTo)
+order-kept = called-order EmptiedFrom DeliveredTo emptied-as delivered-as
