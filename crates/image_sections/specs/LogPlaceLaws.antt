@@ -13,7 +13,7 @@ use Rattle.model.specs.Layout.{headerSize, capacity}
 use Rattle.model.specs.Message.{Message, passes}
 use Rattle.model.specs.Order.{logOf}
 use Rattle.model.specs.Setpoints.{startValues, runLog, setpointsOf}
-use Rattle.order.specs.ListLaws.{getD-∈}
+use Rattle.order.specs.ListLaws.{getD-∈, getD-map}
 use Rattle.laws.specs.LogLaws.{log-received, log-length}
 use Rattle.wire_laws.specs.MessageLaws.{passes-sized, sized-range}
 use Rattle.table.specs.Table.{messageFrom, deltasOf, deltasAt, setIn, Holds}
@@ -64,6 +64,20 @@ next-message l places k h =
 
 pub no-message : (l : List Message) (places : List ℕ) (k : ℕ) → length places ≤ k → deltasAt l (drop k places) ≡ []
 no-message l places k h = ap (deltasAt l) (drop-of-length-le places h)
+
+-- ---- the deltas at places: as many as these, each of them passes, and each is the next of those from its place on; none is past the last
+pub deltas-count : (l : List Message) (places : List ℕ) → length (deltasAt l places) ≡ length places
+deltas-count l places = length-map places (λ (i : ℕ). getD l i [])
+
+pub delta-passes : (pool starts places : List ℕ) → TablePlaces pool starts places → {k : ℕ} {m : Message} → m ≡ getD (deltasAt (deltasOf pool starts) places) k [] → k < length places → T (passes m)
+delta-passes pool starts places p {k} e h =
+    subst (λ (m : Message). T (passes m)) (sym (e ∙ getD-map (λ (i : ℕ). getD (deltasOf pool starts) i []) places k 0 [] h)) (place-passes pool starts places p k h)
+
+pub next-delta : (l : List Message) (k : ℕ) → k < length l → drop k l ≡ getD l k [] ∷ drop (k + 1) l
+next-delta l k h = drop-cons l k [] h ∙ ap (λ (n : ℕ). getD l k [] ∷ drop n l) (sym (add-one k))
+
+pub no-delta : (l : List Message) (k : ℕ) → length l ≤ k → drop k l ≡ []
+no-delta l k h = drop-of-length-le l h
 
 -- ---- what the deltas at the log's places leave is what the log leaves
 pub log-values : (pool starts places : List ℕ) (values : List ℤ) → LogPlaces pool starts places

@@ -1,4 +1,4 @@
-// A command's change of the setpoints, as a value: made from the command and the values, then applied to them.
+// A command's change of the setpoints, as a value: made from the command and the values, kept, and applied to them.
 use arithmetic::integers::of_word;
 use arithmetic::operations::operate;
 use buffer::byte;
@@ -7,16 +7,16 @@ use layout::OPERATION_AT;
 use layout::TAG_AT;
 use layout::VALUE_AT;
 ghost use mathlib.Core.Path.{_≡_};
-ghost use Prim.Native.Nat.{_+_, _≤_};
+ghost use Prim.Native.Nat.{_+_, _≤_, _<_};
 ghost use lib.IntN.{pos};
-ghost use lib.ListN.{length, take, drop, getD};
+ghost use lib.ListN.{length, take, drop, getD, set};
 ghost use Rattle.model.specs.Layout.{commandSize};
 ghost use Rattle.model.specs.Setpoints as model;
-ghost use Rattle.setpoints.specs.Changes.{changeIn};
+ghost use Rattle.setpoints.specs.Changes.{changeIn, changesIn, Room};
 
 // A command's tag, and the tag's value before and after it.
 pub struct Change {
-    pub tag: usize,
+    pub tag: u8,
     pub before: i32,
     pub after: i32,
 }
@@ -37,9 +37,9 @@ pub fn change_of(values: &[i32], c: &[u8], at: usize) -> Change
     ensures { λ r. ⌜ changeIn r ≡ model.changeOf (take commandSize (drop at (now (c .entry)))) (now (values .entry)) ⌝ }
 {
     let operation = byte(c, at + OPERATION_AT);
-    let tag = byte(c, at + TAG_AT) as usize;
+    let tag = byte(c, at + TAG_AT) as u8;
     let v = of_word(get_u32(c, at + VALUE_AT));
-    let before = value_of(values, tag);
+    let before = value_of(values, tag as usize);
     let after = operate(operation, before, v);
     Change { tag, before, after }
 }
@@ -48,10 +48,22 @@ pub fn change_of(values: &[i32], c: &[u8], at: usize) -> Change
 pub fn apply(values: &mut [i32], change: Change)
     ensures { λ _. ⌜ now (values .exit) ≡ model.apply (changeIn change) (now (values .entry)) ⌝ }
 {
-    let tag = change.tag;
+    let tag = change.tag as usize;
     let after = change.after;
     if values.len() <= tag {
         return;
     }
     values[tag] = after;
+}
+
+// Keeps a change at a place of the tags, of the values before and of the values after.
+pub fn keep(tags: &mut [u8], before: &mut [i32], after: &mut [i32], k: usize, change: Change)
+    requires { ⌜ Room (k + 1) (now tags) (now before) (now after) ⌝ }
+    ensures { λ _. ⌜ changesIn (now (tags .exit)) (now (before .exit)) (now (after .exit)) ≡ set (changesIn (now (tags .entry)) (now (before .entry)) (now (after .entry))) k (changeIn change) ⌝ }
+{
+    let found = change.before;
+    let left = change.after;
+    tags[k] = change.tag;
+    before[k] = found;
+    after[k] = left;
 }

@@ -1,2 +1,4 @@
+pub mod Kinds
+pub mod KindLaws
 pub mod Pairs
 pub mod PairLaws

@@ -1,2 +1,4 @@
 pub mod Frame
 pub mod FrameLaws
+pub mod Records
+pub mod RecordLaws

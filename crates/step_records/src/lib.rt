@@ -1,35 +1,35 @@
-// A delta's step, written into a step buffer while the delta is run on the setpoints.
+// A delta's step, written into a step buffer from the changes that the delta makes of the setpoints.
 use buffer::byte;
 use buffer_writes::copy_at;
 use buffer_writes::put_u32;
 use buffer_writes::put_u64;
 use layout::COMMAND_COUNT_AT;
-use layout::DEPENDENCY_COUNT_AT;
-use layout::HEADER_SIZE;
+use layout::MOST_COMMANDS;
 use layout::PAIR_SIZE;
 use layout::PAIRS_AT;
 use layout::PAIRS_SIZE;
 use layout::SEQUENCE_AT;
-use layout::SEQUENCE_SIZE;
 use layout::STEP_SEQUENCE_AT;
 use layout::TAG_COUNT;
 use sequence::Sequence;
 use sequence::read_sequence;
-use step_pairs::put_values_after;
-use step_pairs::put_values_before;
+use setpoints::run_delta;
+use step_pairs::kinds::Kind;
+use step_pairs::put_pairs;
 ghost use mathlib.Core.Path.{_≡_};
 ghost use mathlib.Core.List.{_∷_, _++_};
 ghost use Prim.Native.Nat.{_+_, _*_, _-_, _≤_};
 ghost use lib.Dec.{T};
-ghost use lib.ListN.{length, drop, replicate};
+ghost use lib.ListN.{length, replicate};
 ghost use lib.Seq.{paste};
 ghost use Rattle.model.specs.Bytes.{bytes};
 ghost use Rattle.model.specs.Layout.{mostCommands, sequenceSize, pairCountSize, stepSequenceAt, pairsAt, pairSize, pairsSize, stepSize};
-ghost use Rattle.model.specs.Message.{dependencyCount, commandCount, commandsStart, sequenceOf, passes};
+ghost use Rattle.model.specs.Message.{commandCount, sequenceOf, passes};
 ghost use Rattle.model.specs.Setpoints.{runDelta};
-ghost use Rattle.model.specs.Steps.{executionOf, undoOf, recordBytes};
+ghost use Rattle.model.specs.Steps.{recordBytes};
 ghost use Rattle.sequence.specs.Sequence.{sequenceNumber};
 ghost use Rattle.step_records.specs.Frame.{framed};
+ghost use Rattle.step_records.specs.Records.{firstBy, recordBy};
 
 // the size of a sequence's high part
 const HIGH_SIZE: usize = 8;
@@ -74,35 +74,33 @@ fn put_frame(steps: &mut [u8], at: usize, kind: u8, m: &[u8])
     clear_unused(steps, at + PAIRS_AT, count as usize);
 }
 
-// The commands of a message: its part past the dependencies.
-fn commands_of<'a>(m: &'a [u8]) -> &'a [u8]
-    requires { ⌜ T (passes (now m)) ⌝ }
-    ensures { λ r. ⌜ now r ≡ drop (commandsStart (dependencyCount (now (m .entry)))) (now (m .entry)) ⌝ }
+// The first byte of a step of this kind.
+fn first_byte(kind: Kind) -> u8
+    ensures { λ r. ⌜ r ≡ firstBy kind ⌝ }
 {
-    let dependencies = byte(m, DEPENDENCY_COUNT_AT) as usize;
-    let from = HEADER_SIZE + SEQUENCE_SIZE * dependencies;
-    &m[from..]
+    match kind {
+        Kind::Undo => UNDO,
+        Kind::Execute => EXECUTE,
+    }
 }
 
-// Writes the step that executes a delta, and runs the delta.
-pub fn put_execution(
+// Runs a delta, and writes its step of this kind: of the changes that its commands make of the values.
+pub fn put_record(
     steps: &mut [u8],
     at: usize,
+    kind: Kind,
     values: [i32; TAG_COUNT],
     m: &[u8],
 ) -> [i32; TAG_COUNT]
     requires { ⌜ (at + stepSize ≤ length (now steps)) × T (passes (now m)) ⌝ }
-    ensures { λ r. ⌜ (r ≡ runDelta (now (m .entry)) values) × (now (steps .exit) ≡ paste (now (steps .entry)) at (recordBytes (executionOf (now (m .entry)) values)) stepSize) ⌝ }
+    ensures { λ r. ⌜ (r ≡ runDelta (now (m .entry)) values) × (now (steps .exit) ≡ paste (now (steps .entry)) at (recordBytes (recordBy kind (now (m .entry)) values)) stepSize) ⌝ }
 {
-    put_frame(steps, at, EXECUTE, m);
-    put_values_after(steps, at + PAIRS_AT, values, commands_of(m))
-}
-
-// Writes the step that undoes a delta that had found these values, and runs the delta.
-pub fn put_undo(steps: &mut [u8], at: usize, values: [i32; TAG_COUNT], m: &[u8]) -> [i32; TAG_COUNT]
-    requires { ⌜ (at + stepSize ≤ length (now steps)) × T (passes (now m)) ⌝ }
-    ensures { λ r. ⌜ (r ≡ runDelta (now (m .entry)) values) × (now (steps .exit) ≡ paste (now (steps .entry)) at (recordBytes (undoOf (now (m .entry)) values)) stepSize) ⌝ }
-{
-    put_frame(steps, at, UNDO, m);
-    put_values_before(steps, at + PAIRS_AT, values, commands_of(m))
+    let mut tags = [0u8; MOST_COMMANDS];
+    let mut before = [0i32; MOST_COMMANDS];
+    let mut after = [0i32; MOST_COMMANDS];
+    let next = run_delta(values, m, &mut tags, &mut before, &mut after);
+    put_frame(steps, at, first_byte(kind), m);
+    let count = byte(m, COMMAND_COUNT_AT) as usize;
+    put_pairs(steps, at + PAIRS_AT, kind, &tags, &before, &after, count);
+    next
 }

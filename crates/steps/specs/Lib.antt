@@ -5,3 +5,5 @@ pub mod Room
 pub mod RoomLaws
 pub mod RecordPlaceLaws
 pub mod StepsWritten
+pub mod Putting
+pub mod PuttingLaws

@@ -1,42 +1,64 @@
--- The invariant: the values that all commands leave are those that the commands from `at` on make of the current ones.
-use mathlib.Core.Path.{_≡_, refl, sym, ap, _∙_}
+-- The first k commands are run, and their changes kept.
+use mathlib.Core.Path.{_≡_, refl}
 use mathlib.Core.List.{List}
-use Prim.Native.Nat.{ℕ, _+_, _-_, _≤_}
+use Prim.Native.Nat.{ℕ, _+_, _-_, _/_, _<_}
 use native.Mathlib.Omega.{arith}
+use lib.ListN.{length}
 use borrow.Author.Needs.{needs}
-use lib.ListN.{length, drop}
-use Rattle.model.specs.Layout.{commandSize, tagCount}
-use Rattle.model.specs.Setpoints.{Change, apply, runCommand, runCommands}
-use Rattle.setpoints.specs.Commands.{commandsIn}
-use Rattle.setpoints.specs.CommandLaws.{run-end, run-next}
+use Rattle.model.specs.Layout.{commandSize}
+use Rattle.setpoints.specs.Changes.{changesIn, Room}
+use Rattle.setpoints.specs.ChangeLaws.{changes-room}
+use Rattle.setpoints.specs.Running.{Running}
+use Rattle.setpoints.specs.RunningLaws.{running-none, running-more, ran-values, ran-changes}
 use Rattle.setpoints.proofs.run_commands.Statement.{statement}
 use Rattle.setpoints.proofs.run_commands.Tie as tie
 
 abbrev Inv-loop : tie.InvT-loop
-Inv-loop c current₀ at₀ current at =
-    (at ≤ length c) × ((length current ≡ tagCount) × (runCommands (commandsIn c) current₀ ≡ runCommands (commandsIn (drop at c)) current))
+Inv-loop c tags₀ before₀ after₀ current₀ k₀ tags before after current k =
+    Running c current₀ (changesIn tags before after) current k
+    × ((length tags ≡ length tags₀) × ((length before ≡ length before₀) × (length after ≡ length after₀)))
 
 abbrev μ-loop : tie.MeasureT-loop
-μ-loop c current₀ at₀ current at = length c - at
+μ-loop c tags₀ before₀ after₀ current₀ k₀ tags before after current k = length c / commandSize - k
+
+-- the call as it began, and its commands
+abbrev start : tie.At-loop Inv-loop μ-loop → tie.Start Inv-loop μ-loop
+start h = h .before .before .before
 
 abbrev commands : tie.At-loop Inv-loop μ-loop → List ℕ
-commands l = l .before .before .args .c .now
+commands h = start h .args .c .now
 
--- where the turn begins
+-- where a turn's change is kept, where it is made, and where that turn begins
+abbrev kept : tie.After-apply Inv-loop μ-loop → tie.After-keep Inv-loop μ-loop
+kept applied = applied .before .before .before .before .before .before
+
+abbrev made : tie.After-keep Inv-loop μ-loop → tie.After-change-of Inv-loop μ-loop
+made k = k .before .before .before .before
+
 abbrev turn : tie.After-change-of Inv-loop μ-loop → tie.At-loop Inv-loop μ-loop
-turn made = made .before .before .before
+turn m = m .before .before .before
+
+-- there is a command at k, and room for its change
+more : (m : tie.After-change-of Inv-loop μ-loop) → turn m .loop .k < length (commands (turn m)) / commandSize
+more m = m .before .before .loop-test .taken
+
+room : (h : tie.At-loop Inv-loop μ-loop) → h .loop .k < length (commands h) / commandSize → Room (h .loop .k + 1) (h .loop .tags) (h .loop .before) (h .loop .after)
+room h more = record { in-tags = omega arith; in-before = omega arith; in-after = omega arith }
 
 loop-holds : tie.Need-loop-holds Inv-loop μ-loop
-loop-holds c = (omega arith, (search needs, refl))
-
-sub-loop : tie.Need-sub-loop Inv-loop μ-loop
-sub-loop c = omega arith
+loop-holds c = (running-none _ _ _ (search needs), (refl, (refl, refl)))
 
 slice-aggregate-change-of : tie.Need-slice-aggregate-change-of Inv-loop μ-loop
 slice-aggregate-change-of c = search needs
 
+mul-change-of : tie.Need-mul-change-of Inv-loop μ-loop
+mul-change-of c = omega arith
+
 change-of-requires : tie.Need-change-of-requires Inv-loop μ-loop
 change-of-requires c κs = omega arith
+
+keep-requires : tie.Need-keep-requires Inv-loop μ-loop
+keep-requires c κs = let m = c .before .before .before in room (turn m) (more m)
 
 slice-aggregate-apply : tie.Need-slice-aggregate-apply Inv-loop μ-loop
 slice-aggregate-apply c = search needs
@@ -44,29 +66,38 @@ slice-aggregate-apply c = search needs
 apply-requires : tie.Need-apply-requires Inv-loop μ-loop
 apply-requires c κs = search needs
 
-add-at : tie.Need-add-at Inv-loop μ-loop
-add-at c = omega arith
+add-k : tie.Need-add-k Inv-loop μ-loop
+add-k c = omega arith
 
 loop-less : tie.Need-loop-less Inv-loop μ-loop
 loop-less c = omega arith
 
 loop-again : tie.Need-loop-again Inv-loop μ-loop
-unfolding runCommand
 loop-again c =
-    let made = c .before .before .before in
-    let l = turn made .loop in
-    let b = commands (turn made) in (
-      omega arith,
-      (
-        search needs,
-        l .inv .1 .1 ∙ run-next b (l .at) (l .current) (omega arith)
-            ∙ ap (runCommands (commandsIn (drop (l .at + commandSize) b)))
-            (sym (c .before .apply .ensures ∙ ap (λ (d : Change). apply d (l .current)) (made .change-of .ensures))),
-      ),
+    let applied = c .before in
+    let k = kept applied in
+    let change = made k .change-of in
+    let h = turn (made k) in
+    let l = h .loop in
+    let free = changes-room (room h (more (made k))) in (
+      running-more (commands h) (start h .args .values) (l .k) (l .inv .0) (more (made k)) (omega arith) (change .ensures) (k .keep .ensures) (applied .apply .ensures) (search needs),
+      (search needs, (search needs, search needs)),
     )
 
+same-length : tie.Need-same-length Inv-loop μ-loop
+same-length c = c .before .loop .inv .1 .0
+
+same-length-2 : tie.Need-same-length-2 Inv-loop μ-loop
+same-length-2 c = c .before .loop .inv .1 .1 .0
+
+same-length-3 : tie.Need-same-length-3 Inv-loop μ-loop
+same-length-3 c = c .before .loop .inv .1 .1 .1
+
 returns : tie.Need-returns Inv-loop μ-loop
-returns c = let l = c .before .loop in run-end (commands (c .before)) (l .at) (l .current) (omega arith) ∙ sym (l .inv .1 .1)
+returns c =
+    let h = c .before in
+    let l = h .loop in
+    (ran-values (commands h) (start h .args .values) (l .k) (l .inv .0) (omega arith), ran-changes (commands h) (start h .args .values) (l .k) (l .inv .0) (omega arith))
 
 pub run-commands-spec : {M : Type 1} → statement M
 run-commands-spec =
@@ -75,12 +106,16 @@ run-commands-spec =
     Inv-loop
     μ-loop
     loop-holds
-    sub-loop
     slice-aggregate-change-of
+    mul-change-of
     change-of-requires
+    keep-requires
     slice-aggregate-apply
     apply-requires
-    add-at
+    add-k
     loop-less
     loop-again
+    same-length
+    same-length-2
+    same-length-3
     returns)

@@ -1,33 +1,40 @@
--- Both tests say that no command starts inside the message; else the slice handed over is the message past its dependencies.
-use mathlib.Core.Path.{ap, _∙_}
-use mathlib.Core.List.{List}
-use Prim.Native.Nat.{ℕ, _-_}
+-- The slice handed over is the message past its dependencies.
+use mathlib.Core.Path.{_≡_, ap, _∙_}
+use Prim.Native.Nat.{ℕ, _-_, _≤_}
 use native.Mathlib.Omega.{arith}
-use lib.ListN.{length, drop, length-drop}
+use lib.ListN.{length, take, drop, length-drop}
 use lib.Seq.{take-all}
 use borrow.Author.Needs.{needs}
-use Rattle.model.specs.Message.{commandsStart}
-use Rattle.model.specs.Setpoints.{runCommands}
-use Rattle.setpoints.specs.Commands.{commandsIn}
-use Rattle.setpoints.specs.CommandLaws.{run-end}
+use Rattle.model.specs.Message.{Message, dependencyCount, commandsStart}
+use Rattle.wire_laws.specs.MessageLaws.{Sized, passes-sized}
+use Rattle.setpoints.specs.DeltaLaws.{delta-count, delta-run, delta-changes}
 use Rattle.setpoints.proofs.run_delta.Statement.{statement}
 use Rattle.setpoints.proofs.run_delta.Tie as tie
 
-abbrev start : tie.After-shared-slice-known → tie.Start
-start known = known .before
+-- the call as it began, from where the dependencies are counted; and its message's lengths
+abbrev start : tie.After-byte → tie.Start
+start c = c .before .before .before
 
-returns : tie.Need-returns
-returns c =
-    let a = start (c .before) .args in
-    run-end (a .m .now) (commandsStart (a .dependencies)) (a .values) (omega arith)
+sized : (s : tie.Start) → Sized (s .args .m .now)
+sized s = passes-sized (s .args .m .now) (s .pre .0)
 
-sub-if2 : tie.Need-sub-if2
-sub-if2 c = search needs
+inside : (c : tie.After-byte) → commandsStart (c .byte .result) ≤ length (start c .args .m .now)
+inside c = omega (arith, sized (start c) .total, c .byte .ensures .0)
 
-returns-2 : tie.Need-returns-2
-returns-2 c =
-    let a = start (c .before .before) .args in
-    run-end (a .m .now) (commandsStart (a .dependencies)) (a .values) (omega arith)
+-- what is handed over
+part : (c : tie.After-byte) → let m = start c .args .m .now in
+    take (length m - commandsStart (c .byte .result)) (drop (commandsStart (c .byte .result)) m) ≡ drop (commandsStart (dependencyCount m)) m
+part c =
+    let m : Message = start c .args .m .now in
+    let from : ℕ = commandsStart (dependencyCount m) in
+    ap (λ (n : ℕ). take (length m - commandsStart n) (drop (commandsStart n) m)) (c .byte .ensures .0)
+    ∙ take-all (length m - from) (drop from m) (omega (arith, length-drop from m))
+
+byte-requires : tie.Need-byte-requires
+byte-requires c κs = omega (arith, sized (c .before .before) .total)
+
+cast-dependencies : tie.Need-cast-dependencies
+cast-dependencies c = search needs
 
 mul-from : tie.Need-mul-from
 mul-from c = search needs
@@ -36,35 +43,55 @@ add-from : tie.Need-add-from
 add-from c = search needs
 
 sub-run-commands : tie.Need-sub-run-commands
-sub-run-commands c = search needs
+sub-run-commands c = inside c
 
 part-run-commands-start : tie.Need-part-run-commands-start
-part-run-commands-start c = search needs
+part-run-commands-start c = inside c
 
 part-run-commands-end : tie.Need-part-run-commands-end
 part-run-commands-end c = search needs
 
 run-commands-requires : tie.Need-run-commands-requires
-run-commands-requires c κs = search needs
+run-commands-requires c κs =
+    let counted = c .before .before .before .before in
+    let s = start counted in
+    let count = delta-count (s .args .m .now) (s .pre .0) (part counted) in
+    let most = sized s .commands in
+    let room = s .pre .1 in
+    record { in-tags = omega (arith, room .in-tags); in-before = omega (arith, room .in-before); in-after = omega (arith, room .in-after) }
 
-returns-3 : tie.Need-returns-3
-returns-3 c =
-    let a = start (c .before .before .before .before) .args in
-    let from = commandsStart (a .dependencies) in
-    c .run-commands .ensures
-    ∙ ap (λ (l : List ℕ). runCommands (commandsIn l) (a .values)) (take-all (length (a .m .now) - from) (drop from (a .m .now)) (omega (arith, length-drop from (a .m .now))))
+same-length : tie.Need-same-length
+same-length c = search needs
+
+same-length-2 : tie.Need-same-length-2
+same-length-2 c = search needs
+
+same-length-3 : tie.Need-same-length-3
+same-length-3 c = search needs
+
+returns : tie.Need-returns
+returns c =
+    let run = c .before .before .before .before in
+    let counted = run .before .before .before .before .before in
+    let s = start counted in
+    let m = s .args .m .now in (
+      delta-run m (s .pre .0) (part counted) (s .args .values) (run .run-commands .ensures .0),
+      delta-changes m (s .pre .0) (part counted) (s .args .values) _ (run .run-commands .ensures .1),
+    )
 
 pub run-delta-spec : {M : Type 1} → statement M
 run-delta-spec =
     tie.close
     (tie.spec
-    returns
-    sub-if2
-    returns-2
+    byte-requires
+    cast-dependencies
     mul-from
     add-from
     sub-run-commands
     part-run-commands-start
     part-run-commands-end
     run-commands-requires
-    returns-3)
+    same-length
+    same-length-2
+    same-length-3
+    returns)

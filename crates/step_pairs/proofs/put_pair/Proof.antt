@@ -1,4 +1,4 @@
--- The tag's low four bytes and then the value's four: a pair has no more of the tag.
+-- The tag's four bytes and then the value's four.
 use mathlib.Core.Path.{refl, ap, ap₂, _∙_}
 use mathlib.Core.List.{List}
 use Prim.Native.Nat.{ℕ, _+_}
@@ -7,7 +7,6 @@ use lib.Seq.{paste}
 use mir.Facts.{toZ-ofZ}
 use Rattle.model.specs.Bytes.{bytes, word}
 use Rattle.model.specs.Layout.{pairTagSize, valueSize}
-use Rattle.buffer.specs.FieldLaws.{bytes-low}
 use Rattle.buffer_writes.specs.PasteLaws.{paste-paste}
 use borrow.Author.Needs.{needs}
 use Rattle.step_pairs.proofs.put_pair.Statement.{statement}
@@ -15,9 +14,6 @@ use Rattle.step_pairs.proofs.put_pair.Tie as tie
 
 add-behind : tie.Need-add-behind
 add-behind c = search needs
-
-cast-put-u32 : tie.Need-cast-put-u32
-cast-put-u32 c = search needs
 
 put-u32-requires : tie.Need-put-u32-requires
 put-u32-requires c κs = search needs
@@ -40,7 +36,7 @@ returns c =
     let a = start .args in
     value .put-u322 .ensures
     ∙ ap₂ (λ (b : List ℕ) (n : ℕ). paste b (a .at + pairTagSize) (bytes valueSize n) valueSize)
-    (tag .put-u32 .ensures ∙ ap (λ (x : List ℕ). paste (a .steps .now) (a .at) x pairTagSize) (bytes-low pairTagSize 0 (a .tag)))
+    (tag .put-u32 .ensures)
     (words .to-word .ensures ∙ ap word (toZ-ofZ (start .fits .value)))
     ∙ paste-paste (a .steps .now) (a .at) (bytes pairTagSize (a .tag)) (bytes valueSize (word (a .value))) pairTagSize valueSize (omega arith) refl
 
@@ -49,7 +45,6 @@ put-pair-spec =
     tie.close
     (tie.spec
     add-behind
-    cast-put-u32
     put-u32-requires
     to-word-requires
     put-u32-requires-2

@@ -18,10 +18,10 @@ use Rattle.steps.proofs.write_steps.Tie as tie
 abbrev began : tie.After-run-log-arg → tie.Start
 began c = c .before .before .before .before .before .before
 
-abbrev run : tie.After-put-undos → tie.After-run-log
+abbrev run : tie.After-put-records → tie.After-run-log
 run u = u .before .before
 
-abbrev start : tie.After-put-undos → tie.Start
+abbrev start : tie.After-put-records → tie.Start
 start u = began (run u .before)
 
 slice-aggregate-run-log : tie.Need-slice-aggregate-run-log
@@ -30,8 +30,8 @@ slice-aggregate-run-log c = let s = began c in sym (length-take-le (s .args .kep
 run-log-requires : tie.Need-run-log-requires
 run-log-requires c κs = kept-inside (began c .pre)
 
-put-undos-requires : tie.Need-put-undos-requires
-put-undos-requires c κs = undos-fit (began (c .before .before) .pre)
+put-records-requires : tie.Need-put-records-requires
+put-records-requires c κs = undos-fit (began (c .before .before) .pre)
 
 sub-undone : tie.Need-sub-undone
 sub-undone c = kept-old (start (c .before .before) .pre)
@@ -39,11 +39,11 @@ sub-undone c = kept-old (start (c .before .before) .pre)
 mul-undone : tie.Need-mul-undone
 mul-undone c = search needs
 
-put-executions-requires : tie.Need-put-executions-requires
-put-executions-requires c κs =
+put-records-requires-2 : tie.Need-put-records-requires-2
+put-records-requires-2 c κs =
     let undone = c .before .before .before in
     let s = start undone in
-    let same : length (undone .put-undos .last .0) ≡ length (s .args .steps .now) = search needs in
+    let same : length (undone .put-records .last .0) ≡ length (s .args .steps .now) = search needs in
     subst (RestFits (s .args .pool .now) (s .args .starts .now) (s .args .new .now) (s .args .kept) (stepSize * (length (s .args .old .now) - s .args .kept))) (sym same) (executions-fit (s .pre))
 
 same-length : tie.Need-same-length
@@ -56,7 +56,7 @@ returns c =
     let s = start undone in
     let a = s .args in
     steps-written (a .pool .now) (a .starts .now) (a .old .now) (a .new .now) (a .kept) (a .steps .now) (s .pre) (startValues (setIn (a .pool .now) (a .starts .now))) (run undone .run-log .result) (run undone .run-log .ensures)
-    (undone .put-undos .ensures) (executed .put-executions .ensures)
+    (undone .put-records .ensures) (executed .put-records2 .ensures)
 
 pub write-steps-spec : {M : Type 1} → statement M
 write-steps-spec =
@@ -64,9 +64,9 @@ write-steps-spec =
     (tie.spec
     slice-aggregate-run-log
     run-log-requires
-    put-undos-requires
+    put-records-requires
     sub-undone
     mul-undone
-    put-executions-requires
+    put-records-requires-2
     same-length
     returns)

@@ -11,7 +11,10 @@ use Rattle.setpoints.proofs.changes.apply.Statement.{statement}
 use Rattle.setpoints.proofs.changes.apply.Tie as tie
 
 abbrev start : tie.After-struct-told → tie.Start
-start told = told .before
+start told = told .before .before
+
+cast-tag : tie.Need-cast-tag
+cast-tag c = search needs
 
 returns : tie.Need-returns
 unfolding apply
@@ -33,4 +36,4 @@ returns-2 c =
     ap (λ (z : ℤ). set (a .values .now) (a .change .tag) z) (toZ-ofZ (record { sfits = omega arith }))
 
 pub apply-spec : {M : Type 1} → statement M
-apply-spec = tie.close (tie.spec returns mul-after slice-set-from-after same-length returns-2)
+apply-spec = tie.close (tie.spec cast-tag returns mul-after slice-set-from-after same-length returns-2)

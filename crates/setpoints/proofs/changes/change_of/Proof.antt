@@ -31,6 +31,9 @@ get-u32-requires c κs = search needs
 of-word-requires : tie.Need-of-word-requires
 of-word-requires c κs = search needs
 
+cast-value-of : tie.Need-cast-value-of
+cast-value-of c = search needs
+
 value-of-requires : tie.Need-value-of-requires
 value-of-requires c κs = search needs
 
@@ -62,6 +65,7 @@ change-of-spec =
     add-get-u32
     get-u32-requires
     of-word-requires
+    cast-value-of
     value-of-requires
     operate-requires
     returns)
