@@ -8,6 +8,7 @@ use lib.IntN.{ℤ, pos}
 use lib.ListN.{length, take, drop, getD, set}
 use Rattle.model.specs.Bytes.{field, integer}
 use Rattle.model.specs.Layout.{commandSize, operationAt, tagAt, valueAt, valueSize}
+use Rattle.model.specs.Message.{valueOf}
 use Rattle.model.specs.Setpoints.{Change, operate, changeOf}
 use Rattle.wire_laws.specs.BytesLaws.{field-part}
 use Rattle.setpoints.specs.Changes.{changesIn, Room}
@@ -18,25 +19,26 @@ getD-past [] i d h = refl
 getD-past (a ∷ l) zero d h = absurd (not-suc-le-zero h)
 getD-past (a ∷ l) (suc i) d h = getD-past l i d (omega arith)
 
-pub change-read : (c : List ℕ) (at : ℕ) (values : List ℤ) {tag operation : ℕ} {v before after : ℤ}
-    → tag ≡ field c (at + tagAt) 1 → operation ≡ field c (at + operationAt) 1 → v ≡ integer (field c (at + valueAt) valueSize)
+pub change-read : (c : List ℕ) (at : ℕ) (values : List ℤ) {operation tag : ℕ} {v before after : ℤ} {d : Change}
+    → operation ≡ field c (at + operationAt) 1 → v ≡ integer (field c (at + valueAt) valueSize) → tag ≡ field c (at + tagAt) 1
     → before ≡ getD values tag (pos 0) → after ≡ operate operation before v
-    → record { tag = tag; before = before; after = after } ≡ changeOf (take commandSize (drop at c)) values
+    → d .tag ≡ field c (at + tagAt) 1 → d .before ≡ before → d .after ≡ after → d ≡ changeOf (take commandSize (drop at c)) values
 unfolding changeOf
-change-read c at values {tag} {operation} {v} {before} p q r e f =
-    ap₂ (λ (x z : ℤ). record { tag = tag; before = x; after = z }) e (f ∙ ap (λ (x : ℤ). operate operation x v) e)
-    ∙ ap (λ (t : ℕ). record { tag = t; before = getD values t (pos 0); after = operate operation (getD values t (pos 0)) v }) (p ∙ sym (part tagAt 1 (omega arith)))
-    ∙ ap₂ (λ (o : ℕ) (z : ℤ). record { tag = field k tagAt 1; before = x; after = operate o x z })
-    (q ∙ sym (part operationAt 1 (omega arith))) (r ∙ ap integer (sym (part valueAt valueSize (omega arith))))
+change-read c at values {operation} {tag} {v} {before} {after} {d} o w t e f first second third =
+    ap₂ (λ (n : ℕ) (z : ℤ). record { tag = n; before = d .before; after = z }) (first ∙ here) (third ∙ f ∙ ap₂ (λ (n : ℕ) (z : ℤ). operate n before z) (o ∙ sym (part operationAt 1 (omega arith))) (w ∙ ap integer (sym (part valueAt valueSize (omega arith)))))
+    ∙ ap₂ (λ (x y : ℤ). record { tag = field k tagAt 1; before = x; after = operate (field k operationAt 1) y (valueOf k) }) (second ∙ found) found
   where
     k : List ℕ
     k = take commandSize (drop at c)
 
-    x : ℤ
-    x = getD values (field k tagAt 1) (pos 0)
-
     part : (from size : ℕ) → from + size ≤ commandSize → field k from size ≡ field c (at + from) size
     part from size h = field-part c at commandSize from size h
+
+    here : field c (at + tagAt) 1 ≡ field k tagAt 1
+    here = sym (part tagAt 1 (omega arith))
+
+    found : before ≡ getD values (field k tagAt 1) (pos 0)
+    found = e ∙ ap (λ (n : ℕ). getD values n (pos 0)) (t ∙ here)
 
 -- ---- changes kept: as many as there are of each, one put at a place, and the one at a place
 length-kept : (tags : List ℕ) (before after : List ℤ) (k : ℕ) → k ≤ length tags → k ≤ length before → k ≤ length after → k ≤ length (changesIn tags before after)

@@ -10,7 +10,8 @@ ghost use mathlib.Core.Path.{_≡_};
 ghost use Prim.Native.Nat.{_+_, _≤_, _<_};
 ghost use lib.IntN.{pos};
 ghost use lib.ListN.{length, take, drop, getD, set};
-ghost use Rattle.model.specs.Layout.{commandSize};
+ghost use Rattle.model.specs.Bytes.{field};
+ghost use Rattle.model.specs.Layout.{commandSize, tagAt};
 ghost use Rattle.model.specs.Setpoints as model;
 ghost use Rattle.setpoints.specs.Changes.{changeIn, changesIn, Room};
 
@@ -31,17 +32,33 @@ fn value_of(values: &[i32], tag: usize) -> i32
     0
 }
 
+// The tag of the command at a place.
+fn tag_of(c: &[u8], at: usize) -> u8
+    requires { ⌜ at + commandSize ≤ length (now c) ⌝ }
+    ensures { λ r. ⌜ r ≡ field (now (c .entry)) (at + tagAt) 1 ⌝ }
+{
+    byte(c, at + TAG_AT) as u8
+}
+
+// The change of the command at a place, which found one value at its tag and left the other.
+fn change_between(c: &[u8], at: usize, before: i32, after: i32) -> Change
+    requires { ⌜ at + commandSize ≤ length (now c) ⌝ }
+    ensures { λ r. ⌜ (r .tag ≡ field (now (c .entry)) (at + tagAt) 1) × (r .before ≡ before) × (r .after ≡ after) ⌝ }
+{
+    let tag = tag_of(c, at);
+    Change { tag, before, after }
+}
+
 // The change that the command at a place makes.
 pub fn change_of(values: &[i32], c: &[u8], at: usize) -> Change
     requires { ⌜ at + commandSize ≤ length (now c) ⌝ }
     ensures { λ r. ⌜ changeIn r ≡ model.changeOf (take commandSize (drop at (now (c .entry)))) (now (values .entry)) ⌝ }
 {
     let operation = byte(c, at + OPERATION_AT);
-    let tag = byte(c, at + TAG_AT) as u8;
     let v = of_word(get_u32(c, at + VALUE_AT));
-    let before = value_of(values, tag as usize);
+    let before = value_of(values, tag_of(c, at) as usize);
     let after = operate(operation, before, v);
-    Change { tag, before, after }
+    change_between(c, at, before, after)
 }
 
 // Sets a change's tag to the value after. A tag past the last one changes nothing.

@@ -49,8 +49,8 @@ pair-at Undo l k p d h =
 pair-at Execute l k p d h = getD-map (λ c. pairOf (c .tag) (c .after)) l k d p h
 
 -- ---- of the first changes that are kept side by side
-abbrev pub none : Pair
-none = pairOf 0 (pos 0)
+abbrev pub noPair : Pair
+noPair = pairOf 0 (pos 0)
 
 module _ (kind : Kind) {tags : List ℕ} {before after : List ℤ} {count : ℕ} (room : Room count tags before after) where
   abbrev kept : List Change
@@ -61,20 +61,20 @@ module _ (kind : Kind) {tags : List ℕ} {before after : List ℤ} {count : ℕ}
 
   -- the pair at k is made of what stands at its place j
   pub kept-pair : {k j : ℕ} {x z v : ℤ} → k < count → j ≡ placeBy kind count k → x ≡ getD before j (pos 0) → z ≡ getD after j (pos 0) → v ≡ valueBy kind x z
-      → pairOf (getD tags j 0) v ≡ getD (pairsBy kind kept) k none
+      → pairOf (getD tags j 0) v ≡ getD (pairsBy kind kept) k noPair
   kept-pair {k} {j} h e p q f =
       ap (pairOf (getD tags j 0)) (f ∙ ap₂ (valueBy kind) p q)
       ∙ ap (λ (c : Change). pairOf (c .tag) (valueBy kind (c .before) (c .after))) (sym here)
-      ∙ sym (pair-at kind kept k none first (omega (arith, kept-count)))
+      ∙ sym (pair-at kind kept k noPair noChange (omega (arith, kept-count)))
     where
-      first : Change
-      first = record { tag = 0; before = pos 0; after = pos 0 }
+      noChange : Change
+      noChange = record { tag = 0; before = pos 0; after = pos 0 }
 
       inside : j < count
       inside = omega (arith, e, place-inside kind count k h)
 
-      here : getD kept (placeBy kind (length kept) k) first ≡ record { tag = getD tags j 0; before = getD before j (pos 0); after = getD after j (pos 0) }
+      here : getD kept (placeBy kind (length kept) k) noChange ≡ record { tag = getD tags j 0; before = getD before j (pos 0); after = getD after j (pos 0) }
       here =
-          ap (λ (n : ℕ). getD kept (placeBy kind n k) first) kept-count ∙ ap (λ (i : ℕ). getD kept i first) (sym e)
-          ∙ getD-take count (changesIn tags before after) j first inside
-          ∙ change-at tags before after j first (omega (arith, inside, changes-room room))
+          ap (λ (n : ℕ). getD kept (placeBy kind n k) noChange) kept-count ∙ ap (λ (i : ℕ). getD kept i noChange) (sym e)
+          ∙ getD-take count (changesIn tags before after) j noChange inside
+          ∙ change-at tags before after j noChange (omega (arith, inside, changes-room room))

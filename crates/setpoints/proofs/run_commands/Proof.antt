@@ -40,7 +40,7 @@ turn m = m .before .before .before
 
 -- there is a command at k, and room for its change
 more : (m : tie.After-change-of Inv-loop μ-loop) → turn m .loop .k < length (commands (turn m)) / commandSize
-more m = m .before .before .loop-test .taken
+more m = omega (arith, m .before .before .loop-test .taken)
 
 room : (h : tie.At-loop Inv-loop μ-loop) → h .loop .k < length (commands h) / commandSize → Room (h .loop .k + 1) (h .loop .tags) (h .loop .before) (h .loop .after)
 room h more = record { in-tags = omega arith; in-before = omega arith; in-after = omega arith }
@@ -58,7 +58,10 @@ change-of-requires : tie.Need-change-of-requires Inv-loop μ-loop
 change-of-requires c κs = omega arith
 
 keep-requires : tie.Need-keep-requires Inv-loop μ-loop
-keep-requires c κs = let m = c .before .before .before in room (turn m) (more m)
+keep-requires c κs =
+    let m = c .before .before .before in
+    let r = room (turn m) (more m) in
+    record { in-tags = omega (arith, r .in-tags); in-before = omega (arith, r .in-before); in-after = omega (arith, r .in-after) }
 
 slice-aggregate-apply : tie.Need-slice-aggregate-apply Inv-loop μ-loop
 slice-aggregate-apply c = search needs

@@ -43,10 +43,10 @@ add-from : tie.Need-add-from
 add-from c = search needs
 
 sub-run-commands : tie.Need-sub-run-commands
-sub-run-commands c = inside c
+sub-run-commands c = omega (arith, inside c)
 
 part-run-commands-start : tie.Need-part-run-commands-start
-part-run-commands-start c = inside c
+part-run-commands-start c = omega (arith, inside c)
 
 part-run-commands-end : tie.Need-part-run-commands-end
 part-run-commands-end c = search needs

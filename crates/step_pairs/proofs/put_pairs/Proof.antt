@@ -11,7 +11,7 @@ use Rattle.model.specs.Layout.{pairSize}
 use Rattle.model.specs.Steps.{Pair, pairBytes}
 use Rattle.setpoints.specs.Changes.{changesIn}
 use Rattle.step_pairs.specs.Kinds.{pairsBy}
-use Rattle.step_pairs.specs.KindLaws.{none, pairs-count, place-inside, kept-count, kept-pair}
+use Rattle.step_pairs.specs.KindLaws.{noPair, pairs-count, place-inside, kept-count, kept-pair}
 use Rattle.step_pairs.specs.Pairs.{withPairs}
 use Rattle.step_pairs.specs.PairLaws.{pairs-none, pairs-next}
 use Rattle.step_pairs.proofs.put_pairs.Statement.{statement}
@@ -46,7 +46,7 @@ turn p = p .before .before
 
 -- there is a pair at k, and its place is inside
 more : (p : tie.After-place-of Inv-loop μ-loop) → turn p .loop .k < start (turn p) .args .count
-more p = p .before .loop-test .taken
+more p = omega (arith, p .before .loop-test .taken)
 
 inside : (p : tie.After-place-of Inv-loop μ-loop) → p .place-of .result < start (turn p) .args .count
 inside p = let s = start (turn p) in omega (arith, p .place-of .ensures, place-inside (s .args .kind) (s .args .count) (turn p .loop .k) (more p))
@@ -106,7 +106,7 @@ loop-again c =
             ∙ ap₂ (λ (b : List ℕ) (x : Pair). paste b (s .args .at + pairSize * l .k) (pairBytes x) pairSize) (l .inv .1 .0)
             (kept-pair (s .args .kind) (s .pre .0) (more p) (p .place-of .ensures) (toZ-ofZ (record { sfits = v .before .before .listed-value-arg .given })) (toZ-ofZ (record { sfits = v .before .listed-value-arg2 .given }))
             (toZ-ofZ (record { sfits = v .listed-value .ok }) ∙ v .listed-value .ensures))
-            ∙ pairs-next (s .args .steps .now) (s .args .at) (pairs s) (l .k) none (omega arith) (omega arith),
+            ∙ pairs-next (s .args .steps .now) (s .args .at) (pairs s) (l .k) noPair (omega arith) (omega arith),
         search needs,
       ),
     )

@@ -36,7 +36,7 @@ turn m = m .before .before
 
 -- there is a delta at i
 more : (m : tie.After-delta-at Inv-loop μ-loop) → turn m .loop .i < length (start (turn m) .args .log .now)
-more m = m .before .loop-test .taken
+more m = omega (arith, m .before .loop-test .taken, start (turn m) .pre .start)
 
 -- its record has room
 room : (p : tie.After-place-of Inv-loop μ-loop) → let h = turn (read p) in start h .args .at + stepSize * p .place-of .result + stepSize ≤ length (h .loop .steps)
@@ -75,7 +75,7 @@ put-record-requires c κs =
     let p = c .before in
     let m = read p in
     let s = start (turn m) in
-    (room p, delta-passes (s .args .pool .now) (s .args .starts .now) (s .args .log .now) (s .pre .inside) (m .delta-at .ensures) (omega (arith, more m, turn m .loop .inv .behind)))
+    (omega (arith, room p), delta-passes (s .args .pool .now) (s .args .starts .now) (s .args .log .now) (s .pre .inside) (m .delta-at .ensures) (omega (arith, more m, turn m .loop .inv .behind)))
 
 add-i : tie.Need-add-i Inv-loop μ-loop
 add-i c = omega arith

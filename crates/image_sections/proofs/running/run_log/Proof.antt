@@ -49,7 +49,7 @@ delta-at-requires c κs = (start (c .before) .pre, omega arith)
 run-message-requires : tie.Need-run-message-requires Inv-loop μ-loop
 run-message-requires c κs =
     let s = start (head c) in
-    delta-passes (s .args .pool .now) (s .args .starts .now) (s .args .places .now) (s .pre) (c .delta-at .ensures) (more c)
+    delta-passes (s .args .pool .now) (s .args .starts .now) (s .args .places .now) (s .pre) (c .delta-at .ensures) (omega (arith, more c))
 
 add-k : tie.Need-add-k Inv-loop μ-loop
 add-k c = omega arith
