@@ -1,10 +1,7 @@
 -- The answer of deliver as the definitions have it: document 01's number and counts for each case, beside the buffers afterwards.
-use mathlib.Core.Bool.{Bool, true, false}
 use mathlib.Core.List.{List}
 use Prim.Native.Nat.{ℕ}
 use Rattle.model.specs.Calls.{Delivered}
-use Rattle.parse.specs.declared.Parsed.{Parsed}
-use Rattle.parse.specs.declared.Parsed.the-variants as parsed
 use Rattle.deliver.specs.declared.answer.Delivery.{Delivery}
 use Rattle.deliver.specs.declared.answer.Delivery.the-variants as delivery
 
@@ -22,16 +19,3 @@ deliveredBy delivery.WrongDependencies image steps = refusal 5 image steps
 deliveredBy delivery.WrongContent image steps = refusal 6 image steps
 deliveredBy delivery.Conflict image steps = refusal 7 image steps
 deliveredBy delivery.Full image steps = refusal 8 image steps
-
--- the refusal of a message that fails 3 to 6 (of one that passes it is asked nowhere)
-abbrev pub refusalOf : Parsed → Delivery
-refusalOf (parsed.Message h) = delivery.WrongLayout
-refusalOf parsed.WrongLayout = delivery.WrongLayout
-refusalOf parsed.WrongNumber = delivery.WrongNumber
-refusalOf parsed.WrongDependencies = delivery.WrongDependencies
-refusalOf parsed.WrongContent = delivery.WrongContent
-
--- the answer for a sequence that is there, by whether the bytes are equal
-abbrev pub repeatOf : Bool → Delivery
-repeatOf true = delivery.Accepted 0 0
-repeatOf false = delivery.Conflict

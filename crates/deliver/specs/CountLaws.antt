@@ -1,7 +1,6 @@
 -- A delivery has at most 64 undos and 64 executions, so that its answer fits one number.
-use mathlib.Core.Path.{_≡_, refl, sym, _∙_, ap, subst}
-use mathlib.Core.Logic.{_⊎_, inl, inr, ⊎-elim}
-use mathlib.Core.Bool.{not, _||_}
+use mathlib.Core.Path.{_≡_, refl, sym, ap, subst}
+use mathlib.Core.Bool.{Bool, true, false, cond, not, _||_}
 use mathlib.Core.List.{List}
 use Prim.Native.Nat.{ℕ, zero, suc, _≤_}
 use native.Mathlib.Omega.{arith}
@@ -12,15 +11,13 @@ use Rattle.model.specs.Message.{Message, sequenceOf}
 use Rattle.model.specs.Order.{State, sequencesOf, logOf}
 use Rattle.model.specs.Image.{imageOf, Valid, stateIn, isImage}
 use Rattle.model.specs.Codes.{wrongSize, smallSteps}
-use Rattle.model.specs.Calls.{Delivered, deliverCode, deliver}
+use Rattle.model.specs.Calls.{Delivered, deliverAnswer, deliverCode, deliver}
 use Rattle.model.specs.PlainStation.{receive}
 use Rattle.model.specs.Run.{delivery}
-use Rattle.order.specs.TestLaws.{decide, is-false}
 use Rattle.laws.specs.LogLaws.{log-length}
 use Rattle.laws.specs.ImageLaws.{image-own, own-valid}
 use Rattle.laws.specs.DeliverLaws.{receive-valid}
 use Rattle.run_laws.specs.RunLaws.{CallFacts, call-facts}
-use Rattle.deliver.specs.DeliverCases.{code-size, code-no-image, refused-is}
 
 pub record Counted (d : Delivered) : Type 0 where
   pub undos : d .undos ≤ capacity
@@ -28,11 +25,13 @@ pub record Counted (d : Delivered) : Type 0 where
 
 -- what is accepted is an image
 accepted-image : (b : List ℕ) (m : Message) (room : ℕ) → deliverCode b m room ≡ 0 → T (isImage b)
-accepted-image b m room e = ⊎-elim (λ t. t) (λ n. absurd (no (decide (wrongSize b || smallSteps room)) n)) (decide (isImage b))
+unfolding deliverCode
+accepted-image b m room e = go (wrongSize b || smallSteps room) (isImage b) _ e
   where
-    no : T (wrongSize b || smallSteps room) ⊎ T (not (wrongSize b || smallSteps room)) → T (not (isImage b)) → ⊥
-    no (inl t) n = let z : _≡_ {A = ℕ} 0 1 = sym e ∙ code-size b m room t in omega arith
-    no (inr t) n = let z : _≡_ {A = ℕ} 0 2 = sym e ∙ code-no-image b m room t (is-false (isImage b) n) in omega arith
+    go : (s i : Bool) (later : ℕ) → cond s 1 (cond (not i) 2 later) ≡ 0 → T i
+    go true i later e = let z : ⊥ = omega arith in absurd z
+    go false true later e = tt
+    go false false later e = let z : ⊥ = omega arith in absurd z
 
 names-few : (S : State) → Valid S → length (sequencesOf (logOf S)) ≤ capacity
 names-few S v = omega (arith, length-map (logOf S) sequenceOf, log-length S (v .ascends), v .fits)
@@ -54,6 +53,11 @@ accepted-counts b m steps image = record {
 
     facts : CallFacts S (receive S m (length steps)) (delivery m steps) (deliver b m steps)
     facts = call-facts S valid (delivery m steps) (deliver b m steps) (ap (λ (i : List ℕ). deliver i m steps) is)
+
+refused-is : (b : List ℕ) (m : Message) (steps : List ℕ) (n : ℕ) → deliverCode b m (length steps) ≡ suc n
+    → deliver b m steps ≡ record { code = suc n; undos = 0; executions = 0; image = b; steps = steps }
+unfolding deliver
+refused-is b m steps n e = ap (λ (k : ℕ). deliverAnswer k (stateIn b) b m steps) e
 
 pub deliver-counted : (b : List ℕ) (m : Message) (steps : List ℕ) → Counted (deliver b m steps)
 deliver-counted b m steps = go (deliverCode b m (length steps)) refl

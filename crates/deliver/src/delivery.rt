@@ -1,16 +1,18 @@
-// Deliver: a message arrives at a station.
+// Deliver: a message arrives at a station. Each check's answer is opened by let else, which returns the refusal, in the order of the codes.
 use crate::answer::Delivery;
-use crate::refusing::judge_repeat;
-use crate::refusing::refuse;
 use accepting::accept;
+use deliver_checks::check_repeat;
+use deliver_checks::check_room;
+use dependencies::check_dependencies;
+use dependencies::check_numbers;
 use judged::judging::Station;
 use judged::judging::read_and_copy;
-use layout::CAPACITY;
 use layout::POOL_SIZE;
+use layout::SEQUENCE_AT;
 use message::checks::Check;
-use parse::Parsed;
-use parse::parse;
-use sequence::Sequence;
+use message::checks::check_layout;
+use parse::content::check_content;
+use sequence::read_sequence;
 use sizes::check_image_size;
 use sizes::check_step_room;
 use table::places::Place;
@@ -19,50 +21,42 @@ ghost use mathlib.Core.Path.{_≡_};
 ghost use lib.ListN.{length};
 ghost use Rattle.model.specs.Calls as model;
 ghost use Rattle.deliver.specs.Answer.{deliveredBy};
-ghost use Rattle.deliver.specs.Delivering.{Takeable, Placeable};
+ghost use Rattle.deliver.specs.Delivering.{Takeable};
 
-// A message whose sequence is new: taken in where there is room for one more.
-fn accept_new(
-    image: &mut [u8],
-    message: &[u8],
-    steps: &mut [u8],
-    pool: &mut [u8],
-    station: Station,
-    p: usize,
-) -> Delivery
-    requires { ⌜ Placeable (now image) (now message) (length (now steps)) (now pool) station p ⌝ }
-    ensures { λ r. ⌜ deliveredBy r (now (image .exit)) (now (steps .exit)) ≡ model.deliver (now (image .entry)) (now (message .entry)) (now (steps .entry)) ⌝ }
-{
-    let table = station.table;
-    if CAPACITY <= table.count {
-        return Delivery::Full;
-    }
-    let change = accept(image, message, steps, pool, station, p);
-    Delivery::Accepted {
-        undos: change.undos,
-        executions: change.executions,
-    }
-}
-
-// A message that passes 3 to 6, by whether its sequence is there.
+// Codes 7 and 8, of a message that passes 3 to 6. One that is present with equal bytes is accepted with no step; any other is taken in.
 fn take_in(
     image: &mut [u8],
     message: &[u8],
     steps: &mut [u8],
     pool: &mut [u8],
     station: Station,
-    s: Sequence,
 ) -> Delivery
-    requires { ⌜ Takeable (now image) (now message) (length (now steps)) (now pool) station s ⌝ }
+    requires { ⌜ Takeable (now image) (now message) (length (now steps)) (now pool) station ⌝ }
     ensures { λ r. ⌜ deliveredBy r (now (image .exit)) (now (steps .exit)) ≡ model.deliver (now (image .entry)) (now (message .entry)) (now (steps .entry)) ⌝ }
 {
     let table = station.table;
     let starts = table.starts;
     let count = table.count;
+    let s = read_sequence(message, SEQUENCE_AT);
     let place = find(image, &starts[..count], s);
-    match place {
-        Place::Present(i) => judge_repeat(image, starts[i] as usize, message),
-        Place::Absent(p) => accept_new(image, message, steps, pool, station, p),
+    let repeat = check_repeat(image, &starts[..count], place, message);
+    let Check::Right = repeat else {
+        return Delivery::Conflict;
+    };
+    let Place::Absent(p) = place else {
+        return Delivery::Accepted {
+            undos: 0,
+            executions: 0,
+        };
+    };
+    let room = check_room(count);
+    let Check::Right = room else {
+        return Delivery::Full;
+    };
+    let change = accept(image, message, steps, pool, station, p);
+    Delivery::Accepted {
+        undos: change.undos,
+        executions: change.executions,
     }
 }
 
@@ -85,10 +79,21 @@ pub fn deliver(image: &mut [u8], message: &[u8], steps: &mut [u8]) -> Delivery
     let Check::Right = check else {
         return Delivery::NoImage;
     };
-    let parsed = parse(message);
-    let Parsed::Message(header) = parsed else {
-        return refuse(parsed);
+    let layout = check_layout(message);
+    let Check::Right = layout else {
+        return Delivery::WrongLayout;
     };
-    let s = header.sequence;
-    take_in(image, message, steps, &mut pool, station, s)
+    let numbers = check_numbers(message);
+    let Check::Right = numbers else {
+        return Delivery::WrongNumber;
+    };
+    let dependencies = check_dependencies(message);
+    let Check::Right = dependencies else {
+        return Delivery::WrongDependencies;
+    };
+    let content = check_content(message);
+    let Check::Right = content else {
+        return Delivery::WrongContent;
+    };
+    take_in(image, message, steps, &mut pool, station)
 }

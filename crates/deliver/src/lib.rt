@@ -1,4 +1,3 @@
 // The call deliver.
 pub mod answer;
 pub mod delivery;
-pub mod refusing;

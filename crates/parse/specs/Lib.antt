@@ -1,6 +1,3 @@
 pub mod Content
 pub mod ContentLaws
-pub mod Verdict
-pub mod VerdictLaws
-pub mod Parsed
-pub mod ParsedLaws
+pub mod PassLaws

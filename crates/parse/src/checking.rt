@@ -5,37 +5,24 @@ use dependencies::check_numbers;
 use message::checks::Check;
 use message::checks::check_layout;
 ghost use mathlib.Core.Path.{_≡_};
-ghost use Rattle.model.specs.Codes.{lowestCode, messageConditions};
-ghost use Rattle.parse.specs.Verdict.{verdictCode};
+ghost use Rattle.model.specs.Message.{passes};
+ghost use Rattle.message.specs.Check.{right};
 
-// A message passes 3 to 6, or this is the lowest of them that it fails.
-pub enum Verdict {
-    Passes,
-    WrongLayout,
-    WrongNumber,
-    WrongDependencies,
-    WrongContent,
-}
-
-// Checks any bytes in the order of the codes; each check's answer is opened by let else, which returns the refusal.
-pub fn check_message(m: &[u8]) -> Verdict
-    ensures { λ r. ⌜ verdictCode r ≡ lowestCode (messageConditions (now (m .entry))) ⌝ }
+// Whether any bytes are a message that passes 3 to 6. Each check asks for what the one before has told.
+pub fn check_message(m: &[u8]) -> Check
+    ensures { λ r. ⌜ right r ≡ passes (now (m .entry)) ⌝ }
 {
     let layout = check_layout(m);
     let Check::Right = layout else {
-        return Verdict::WrongLayout;
+        return Check::Wrong;
     };
     let numbers = check_numbers(m);
     let Check::Right = numbers else {
-        return Verdict::WrongNumber;
+        return Check::Wrong;
     };
     let dependencies = check_dependencies(m);
     let Check::Right = dependencies else {
-        return Verdict::WrongDependencies;
+        return Check::Wrong;
     };
-    let content = check_content(m);
-    let Check::Right = content else {
-        return Verdict::WrongContent;
-    };
-    Verdict::Passes
+    check_content(m)
 }

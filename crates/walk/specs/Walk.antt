@@ -1,6 +1,6 @@
 -- What the walk over an image's messages answers, and what holds on its way.
 use mathlib.Core.Path.{_≡_}
-use mathlib.Core.Bool.{cond}
+use mathlib.Core.Bool.{false}
 use mathlib.Core.List.{List}
 use Prim.Native.Nat.{ℕ, _+_, _≤_, _<_}
 use lib.ListN.{length, take, getD}
@@ -13,15 +13,18 @@ use Rattle.model.specs.Image.{logCount, heldCount, usedCount, messagesIn, messa
 use Rattle.message.specs.declared.checks.Check.{Check}
 use Rattle.message.specs.declared.checks.Check.the-variants.{Right, Wrong}
 use Rattle.table.specs.Table.{messageFrom}
+use Rattle.walk.specs.declared.End.{End}
+use Rattle.walk.specs.declared.End.the-variants.{At, Refused}
 use Rattle.walk.specs.declared.Walk.{Walk}
 
 -- how many messages an image says it has
 abbrev pub countIn : List ℕ → ℕ
 countIn b = logCount b + heldCount b
 
--- where the message at an offset ends, or 0 where nothing there passes 3 to 6
-abbrev pub endAt : List ℕ → ℕ → ℕ
-endAt b at = cond (passes (messageFrom b at)) (at + field b (at + lengthAt) 2) 0
+-- where the message at an offset ends, refused where nothing there passes 3 to 6
+abbrev pub Ends : List ℕ → ℕ → End → Type 0
+Ends b at (At end) = T (passes (messageFrom b at)) × (end ≡ at + field b (at + lengthAt) 2)
+Ends b at Refused = passes (messageFrom b at) ≡ false
 
 -- What holds where the loop of `walk_messages` tests: the value that it carries is the offset of the place.
 pub record Walking (b offsets : List ℕ) (at place : ℕ) : Type 0 where

@@ -8,23 +8,30 @@ use layout::LENGTH_AT;
 use layout::LOG_COUNT_AT;
 use layout::USED_AT;
 use message::checks::Check;
-use parse::checking::Verdict;
 use parse::checking::check_message;
 use table::start::messages_start;
 ghost use mathlib.Core.Path.{_≡_};
 ghost use Prim.Native.Nat.{_+_, _≤_};
 ghost use lib.ListN.{length};
 ghost use Rattle.model.specs.Bytes.{field};
-ghost use Rattle.model.specs.Layout.{lengthAt, headerSize, imageSize, setpointsOffsetAt, zerosAt};
+ghost use lib.Dec.{eqb, leb};
+ghost use Rattle.model.specs.Layout.{lengthAt, headerSize, imageSize, setpointsOffsetAt, zerosAt, capacity};
 ghost use Rattle.model.specs.Image.{usedCount};
 ghost use Rattle.message.specs.declared.checks.Check.the-variants.{Wrong};
-ghost use Rattle.walk.specs.Walk.{countIn, endAt, Walks};
+ghost use Rattle.message.specs.Check.{right};
+ghost use Rattle.walk.specs.Walk.{countIn, Ends, Walks};
 
 // Whether a buffer's messages can be those of an image, and the offsets of all of them, in its order.
 pub struct Walk {
     pub check: Check,
     pub offsets: [u16; CAPACITY],
     pub count: usize,
+}
+
+// Where a message ends, or that there is none: nothing at its offset passes 3 to 6.
+enum End {
+    At(usize),
+    Refused,
 }
 
 // How many messages an image says it has, in its log and held.
@@ -37,12 +44,25 @@ fn count_messages(b: &[u8]) -> usize
     log + held
 }
 
-// The bytes that an image says it uses.
-fn read_used(b: &[u8]) -> usize
-    requires { ⌜ zerosAt ≤ length (now b) ⌝ }
-    ensures { λ r. ⌜ r ≡ usedCount (now (b .entry)) ⌝ }
+// No image has more messages than a station may hold.
+fn check_count(total: usize) -> Check
+    ensures { λ r. ⌜ right r ≡ leb total capacity ⌝ }
 {
-    get_u16(b, USED_AT) as usize
+    if CAPACITY < total {
+        return Check::Wrong;
+    }
+    Check::Right
+}
+
+// The messages have to end where the bytes used do.
+fn check_used(b: &[u8], at: usize) -> Check
+    requires { ⌜ zerosAt ≤ length (now b) ⌝ }
+    ensures { λ r. ⌜ right r ≡ eqb at (usedCount (now (b .entry))) ⌝ }
+{
+    if at != get_u16(b, USED_AT) as usize {
+        return Check::Wrong;
+    }
+    Check::Right
 }
 
 // The length of the message at an offset, added to the offset: where it ends, and the next one starts.
@@ -54,24 +74,24 @@ fn add_length(b: &[u8], at: usize) -> usize
     at + size
 }
 
-// Where the message at an offset ends, cut by its length field and checked; 0 where nothing there passes 3 to 6.
-fn find_end(b: &[u8], at: usize) -> usize
+// Where the message at an offset ends, cut by its length field and checked.
+fn find_end(b: &[u8], at: usize) -> End
     requires { ⌜ (length (now b) ≡ imageSize) × (at ≤ length (now b)) ⌝ }
-    ensures { λ r. ⌜ r ≡ endAt (now (b .entry)) at ⌝ }
+    ensures { λ r. ⌜ Ends (now (b .entry)) at r ⌝ }
 {
     let limit = b.len();
     if limit - at < HEADER_SIZE {
-        return 0;
+        return End::Refused;
     }
     let end = add_length(b, at);
     if limit < end {
-        return 0;
+        return End::Refused;
     }
-    let verdict = check_message(&b[at..end]);
-    let Verdict::Passes = verdict else {
-        return 0;
+    let checked = check_message(&b[at..end]);
+    let Check::Right = checked else {
+        return End::Refused;
     };
-    end
+    End::At(end)
 }
 
 // No image can hold the messages.
@@ -85,32 +105,33 @@ fn refuse() -> Walk
     }
 }
 
-// Walks a buffer's messages; refused where no image can hold them. They have to end where the bytes used do.
+// Walks a buffer's messages; refused where no image can hold them.
 pub fn walk_messages(b: &[u8]) -> Walk
     requires { ⌜ length (now b) ≡ imageSize ⌝ }
     ensures { λ r. ⌜ Walks (now (b .entry)) r ⌝ }
 {
     let total = count_messages(b);
-    if CAPACITY < total {
+    let few = check_count(total);
+    let Check::Right = few else {
         return refuse();
-    }
+    };
     let mut offsets = [0u16; CAPACITY];
     let mut count = 0;
     let first = messages_start(b);
     let mut at = first;
     while count < total {
-        let end = find_end(b, at);
-        if end == 0 {
+        let found = find_end(b, at);
+        let End::At(end) = found else {
             return refuse();
-        }
+        };
         offsets[count] = at as u16;
         at = end;
         count += 1;
     }
-    let used = read_used(b);
-    if at != used {
+    let used = check_used(b, at);
+    let Check::Right = used else {
         return refuse();
-    }
+    };
     Walk {
         check: Check::Right,
         offsets,

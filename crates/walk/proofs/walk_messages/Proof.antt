@@ -1,17 +1,18 @@
 -- The invariant: `at` is the offset of the place `count`, and the first `count` offsets are written down.
-use mathlib.Core.Path.{_≡_, refl, sym, _∙_, subst}
+use mathlib.Core.Path.{_≡_, refl, sym, _∙_, ap, subst}
+use mathlib.Core.Bool.{true, false}
 use mathlib.Core.List.{List}
-use Prim.Native.Nat.{ℕ, _+_, _-_, _≤_}
+use Prim.Native.Nat.{ℕ, _+_, _-_, _≤_, _<_}
 use native.Mathlib.Omega.{arith}
 use borrow.Author.Needs.{needs}
 use lib.ListN.{length, set, length-set}
-use lib.Dec.{T}
+use lib.Dec.{eqb}
+use borrow.Author.Tests.{eqb-true, eqb-false, leb-true, leb-false}
 use Rattle.model.specs.Layout.{capacity}
-use Rattle.model.specs.Message.{passes}
-use Rattle.table.specs.Table.{messageFrom}
+use Rattle.message.specs.Check.{right}
 use Rattle.table.specs.TableLaws.{Lies, passes-lies}
-use Rattle.walk.specs.Walk.{countIn, Walking}
-use Rattle.walk.specs.EndLaws.{end-passes, no-end, some-end}
+use Rattle.walk.specs.declared.End.the-variants.{At}
+use Rattle.walk.specs.Walk.{countIn, Ends, Walking}
 use Rattle.walk.specs.WalkLaws.{walking-first, walking-refused, walking-next, walking-end, other-end, wrong-walks, too-many}
 use Rattle.walk.proofs.walk_messages.Statement.{statement}
 use Rattle.walk.proofs.walk_messages.Tie as tie
@@ -23,9 +24,12 @@ Inv-loop b total offsets₀ count₀ first at₀ offsets count at =
 abbrev μ-loop : tie.MeasureT-loop
 μ-loop b total offsets₀ count₀ first at₀ offsets count at = total - count
 
--- the call as it began, from where its messages start and from the head of the loop
+-- the call as it began, from where its messages are counted, from where they start, and from the head of the loop
+abbrev counted : tie.After-check-count Inv-loop μ-loop → tie.Start Inv-loop μ-loop
+counted c = c .before .before .before
+
 abbrev begun : tie.After-messages-start Inv-loop μ-loop → tie.Start Inv-loop μ-loop
-begun c = c .before .before .before .before
+begun c = counted (c .before .before .before)
 
 abbrev start : tie.At-loop Inv-loop μ-loop → tie.Start Inv-loop μ-loop
 start h = begun (h .before)
@@ -33,20 +37,43 @@ start h = begun (h .before)
 abbrev bytes : tie.At-loop Inv-loop μ-loop → List ℕ
 bytes h = start h .args .b .now
 
--- the head of the loop, from where the end of a message is known, and is not 0
+-- the head of the loop, from where a message's end is looked for; and that, from where its end is known
 abbrev head : tie.After-find-end Inv-loop μ-loop → tie.At-loop Inv-loop μ-loop
 head e = e .before .before
 
+abbrev sought : tie.After-known-told Inv-loop μ-loop → tie.After-find-end Inv-loop μ-loop
+sought k = k .before .before .before
+
+-- and from where the end of them all is held against the bytes used
+abbrev last : tie.After-check-used Inv-loop μ-loop → tie.At-loop Inv-loop μ-loop
+last u = u .before .before
+
+-- what the check of the count told
+few : (c : tie.After-messages-start Inv-loop μ-loop) → c .before .before .before .before .count-messages .result ≤ capacity
+few c = leb-true _ capacity (sym (sym (ap right (c .before .enum-told .given .1)) ∙ c .before .before .before .check-count .ensures))
+
 count-messages-requires : tie.Need-count-messages-requires Inv-loop μ-loop
 count-messages-requires c κs = omega arith
+
+check-count-requires : tie.Need-check-count-requires Inv-loop μ-loop
+check-count-requires c κs = search needs
+
+enum-told : tie.Need-enum-told Inv-loop μ-loop
+enum-told c = search needs
+
+enum-told-2 : tie.Need-enum-told-2 Inv-loop μ-loop
+enum-told-2 c = search needs
 
 refuse-requires : tie.Need-refuse-requires Inv-loop μ-loop
 refuse-requires c κs = search needs
 
 returns : tie.Need-returns Inv-loop μ-loop
 returns c =
-    let b = c .before .before .before .before .args .b .now in
-    wrong-walks b (c .refuse .result) (c .refuse .ensures) (too-many b (omega arith))
+    let n = c .before .before .before in
+    let b = counted n .args .b .now in
+    let total = n .before .count-messages .result in
+    let many : capacity < total = leb-false total capacity (sym (n .check-count .ensures) ∙ ap right (c .before .enum-told2 .given .1)) in
+    wrong-walks b (c .refuse .result) (c .refuse .ensures) (too-many b (omega (arith, n .before .count-messages .ensures)))
 
 messages-start-requires : tie.Need-messages-start-requires Inv-loop μ-loop
 messages-start-requires c κs = search needs
@@ -54,34 +81,37 @@ messages-start-requires c κs = search needs
 loop-holds : tie.Need-loop-holds Inv-loop μ-loop
 loop-holds c =
     let b = begun c .args .b .now in
-    (omega arith, c .before .before .count-messages .ensures, omega arith, refl, walking-first b _ (begun c .pre) (c .messages-start .ensures))
+    (omega arith, c .before .before .before .before .count-messages .ensures, few c, refl, walking-first b _ (begun c .pre) (c .messages-start .ensures))
 
 find-end-requires : tie.Need-find-end-requires Inv-loop μ-loop
 find-end-requires c κs = (start (c .before) .pre, c .before .loop .inv .4 .inside)
+
+enum-known-found : tie.Need-enum-known-found Inv-loop μ-loop
+enum-known-found c = search needs
+
+enum-told-3 : tie.Need-enum-told-3 Inv-loop μ-loop
+enum-told-3 c = search needs
 
 refuse-requires-2 : tie.Need-refuse-requires-2 Inv-loop μ-loop
 refuse-requires-2 c κs = search needs
 
 returns-2 : tie.Need-returns-2 Inv-loop μ-loop
 returns-2 c =
-    let e = c .before .before in
+    let e = c .before .before .before in
     let b = bytes (head e) in
     let l = head e .loop in
-    let none : e .find-end .result ≡ 0 = omega arith in
     wrong-walks b (c .refuse2 .result) (c .refuse2 .ensures)
-    (walking-refused b (l .offsets) (l .at) (l .count) (l .inv .4) (omega arith) (no-end b (l .at) (sym (e .find-end .ensures) ∙ none)))
+    (walking-refused b (l .offsets) (l .at) (l .count) (l .inv .4) (omega arith) (subst (Ends b (l .at)) (c .before .enum-told3 .given .1) (e .find-end .ensures)))
 
 -- the message whose end is known passes 3 to 6, and lies in the image
-passed : (e : tie.Else2 Inv-loop μ-loop) → let h = head (e .before) in T (passes (messageFrom (bytes h) (h .loop .at)))
-passed e =
-    let h = head (e .before) in
-    some-end (bytes h) (h .loop .at) (λ z. let q : e .before .find-end .result ≡ 0 = e .before .find-end .ensures ∙ z in omega arith)
+ended : (k : tie.After-known-told Inv-loop μ-loop) → let h = head (sought k) in Ends (bytes h) (h .loop .at) (At (k .before .found .given .0 .0))
+ended k = let h = head (sought k) in subst (Ends (bytes h) (h .loop .at)) (k .before .found .given .1) (sought k .find-end .ensures)
 
-lies : (e : tie.Else2 Inv-loop μ-loop) → let h = head (e .before) in Lies (bytes h) (h .loop .at)
-lies e = let h = head (e .before) in passes-lies (bytes h) (h .loop .at) (passed e)
+lies : (k : tie.After-known-told Inv-loop μ-loop) → let h = head (sought k) in Lies (bytes h) (h .loop .at)
+lies k = let h = head (sought k) in passes-lies (bytes h) (h .loop .at) (ended k .0)
 
 cast-offsets : tie.Need-cast-offsets Inv-loop μ-loop
-cast-offsets c = omega (arith, lies c, start (head (c .before)) .pre)
+cast-offsets c = omega (arith, lies c, start (head (sought c)) .pre)
 
 mul-offsets : tie.Need-mul-offsets Inv-loop μ-loop
 mul-offsets c = search needs
@@ -97,33 +127,40 @@ loop-less c = omega arith
 
 loop-again : tie.Need-loop-again Inv-loop μ-loop
 loop-again c =
-    let h = head (c .before) in
+    let h = head (sought c) in
     let b = bytes h in
     let l = h .loop in
-    let end = c .before .find-end .ensures ∙ end-passes b (l .at) (passed c) in
-    let w = walking-next b (l .offsets) (l .at) (l .count) (l .inv .4) (omega arith) (passed c) (omega arith) in
-    (omega arith, l .inv .1, l .inv .2, length-set (l .offsets) (l .count) (l .at) ∙ l .inv .3, subst (λ (n : ℕ). Walking b (set (l .offsets) (l .count) (l .at)) n (l .count + 1)) (sym end) w)
+    let w = walking-next b (l .offsets) (l .at) (l .count) (l .inv .4) (omega arith) (ended c .0) (omega arith) in
+    (omega arith, l .inv .1, l .inv .2, length-set (l .offsets) (l .count) (l .at) ∙ l .inv .3, subst (λ (n : ℕ). Walking b (set (l .offsets) (l .count) (l .at)) n (l .count + 1)) (sym (ended c .1)) w)
 
-read-used-requires : tie.Need-read-used-requires Inv-loop μ-loop
-read-used-requires c κs = omega (arith, start (c .before) .pre)
+check-used-requires : tie.Need-check-used-requires Inv-loop μ-loop
+check-used-requires c κs = omega (arith, start (c .before) .pre)
+
+enum-told-4 : tie.Need-enum-told-4 Inv-loop μ-loop
+enum-told-4 c = search needs
+
+enum-told-5 : tie.Need-enum-told-5 Inv-loop μ-loop
+enum-told-5 c = search needs
 
 refuse-requires-3 : tie.Need-refuse-requires-3 Inv-loop μ-loop
 refuse-requires-3 c κs = search needs
 
 returns-3 : tie.Need-returns-3 Inv-loop μ-loop
 returns-3 c =
-    let u = c .before .before in
-    let h = u .before .before in
+    let u = c .before .before .before in
+    let h = last u in
     let l = h .loop in
-    wrong-walks (bytes h) (c .refuse3 .result) (c .refuse3 .ensures) (other-end (bytes h) (l .offsets) (l .at) (l .count) (l .inv .4) (omega arith) (λ e. omega (arith, e, c .before .if3 .taken, u .read-used .ensures)))
+    let other : eqb (l .at) _ ≡ false = sym (u .check-used .ensures) ∙ ap right (c .before .enum-told5 .given .1) in
+    wrong-walks (bytes h) (c .refuse3 .result) (c .refuse3 .ensures) (other-end (bytes h) (l .offsets) (l .at) (l .count) (l .inv .4) (omega arith) (eqb-false (l .at) _ other))
 
 returns-4 : tie.Need-returns-4 Inv-loop μ-loop
 returns-4 c =
-    let u = c .before in
-    let h = u .before .before in
+    let u = c .before .before in
+    let h = last u in
     let l = h .loop in
     let all : l .count ≡ countIn (bytes h) = omega arith in
-    let r = walking-end (bytes h) (l .offsets) (l .at) (l .count) (l .inv .4) all (omega (arith, c .if3 .left, u .read-used .ensures)) (omega arith) (omega arith) in
+    let used : eqb (l .at) _ ≡ true = sym (u .check-used .ensures) ∙ ap right (c .enum-told4 .given .1) in
+    let r = walking-end (bytes h) (l .offsets) (l .at) (l .count) (l .inv .4) all (eqb-true (l .at) _ used) (omega arith) (omega arith) in
     (r .0, all, r .1)
 
 pub walk-messages-spec : {M : Type 1} → statement M
@@ -133,11 +170,16 @@ walk-messages-spec =
     Inv-loop
     μ-loop
     count-messages-requires
+    check-count-requires
+    enum-told
+    enum-told-2
     refuse-requires
     returns
     messages-start-requires
     loop-holds
     find-end-requires
+    enum-known-found
+    enum-told-3
     refuse-requires-2
     returns-2
     cast-offsets
@@ -146,7 +188,9 @@ walk-messages-spec =
     add-count
     loop-less
     loop-again
-    read-used-requires
+    check-used-requires
+    enum-told-4
+    enum-told-5
     refuse-requires-3
     returns-3
     returns-4)

@@ -1,71 +1,78 @@
 -- The checks run in the order of their codes, and each tells what the definitions' case asks for; what is left is taken in.
 use mathlib.Core.Path.{_≡_, refl, sym, _∙_, ap, subst}
-use mathlib.Core.Bool.{true, not, _||_}
-use lib.ListN.{length}
-use lib.Dec.{T, eqb}
-use borrow.Author.Tests.{eqb-true}
-use Prim.Native.Nat.{_+_}
+use mathlib.Core.Bool.{true}
+use Prim.Native.Nat.{_+_, _≤_}
 use native.Mathlib.Omega.{arith}
-use Rattle.model.specs.Layout.{imageSize, messageRoom}
-use Rattle.model.specs.Codes.{wrongSize, smallSteps}
-use Rattle.parse.specs.declared.Parsed.{Parsed}
-use Rattle.parse.specs.declared.Parsed.the-variants as parsed
+use lib.ListN.{length}
+use borrow.Author.Tests.{eqb-true}
+use Rattle.model.specs.Layout.{imageSize, messageRoom, stepRoom}
+use Rattle.model.specs.Message.{layoutRight, numbersRight, dependenciesRight, contentRight}
+use Rattle.order.specs.TestLaws.{true-T}
 use Rattle.message.specs.Check.{right}
-use Rattle.parse.specs.Parsed.{Parses}
-use Rattle.parse.specs.ParsedLaws.{parsed-accepted}
-use Rattle.parse.proofs.ParsedTags.{no-message}
+use Rattle.parse.specs.PassLaws.{sized, passes-by}
 use Rattle.judged.specs.Judging.{IsStation, Copies}
 use Rattle.judged.specs.JudgingLaws.{judges-wrong, judges-right}
-use Rattle.deliver.specs.declared.answer.Delivery.{Delivery}
-use Rattle.deliver.specs.Answer.{deliveredBy}
-use Rattle.deliver.specs.RefuseCases.{size-case, room-case, sizes-case, image-case, message-case, roomy-room}
+use Rattle.deliver.specs.DeliverCases.{size-case, room-case, roomy, image-case, layout-case, number-case, dependencies-case, content-case}
 use borrow.Author.Needs.{needs}
 use Rattle.deliver.proofs.delivery.deliver.Statement.{statement}
 use Rattle.deliver.proofs.delivery.deliver.Tie as tie
 
--- where the call began, from where the image's size is checked; and each check's state from the next one's
-abbrev began : tie.After-check-image-size → tie.Start
-began c = c .before .before .before .before
+-- ---- where the call began, from where each check was passed; and each of these from the next
+abbrev began : tie.After-enum-told → tie.Start
+began c = c .before .before .before .before .before .before
 
-abbrev measured : tie.After-check-step-room → tie.After-check-image-size
-measured c = c .before .before .before
-
-abbrev roomed : tie.After-read-and-copy → tie.After-check-step-room
-roomed c = c .before .before .before .before .before
-
-abbrev judged : tie.After-parse → tie.After-read-and-copy
-judged c = c .before .before .before .before
-
--- what the checks of the sizes told
-sized : (c : tie.After-enum-told) → true ≡ eqb (length (began (c .before .before) .args .image .now)) imageSize
-sized c = sym (ap right (c .enum-told .given .1)) ∙ c .before .before .check-image-size .ensures
-
--- where both are right
-abbrev told : tie.After-enum-told3 → tie.Start
-told c = began (measured (c .before .before))
-
-first : (c : tie.After-enum-told3) → true ≡ eqb (length (told c .args .image .now)) imageSize
-first c = sized (c .before .before .before)
-
-roomy : (c : tie.After-enum-told3) → true ≡ not (smallSteps (length (told c .args .steps .now)))
-roomy c = sym (ap right (c .enum-told3 .given .1)) ∙ c .before .before .check-step-room .ensures
-
-sizes : (c : tie.After-enum-told3) → T (not (wrongSize (told c .args .image .now) || smallSteps (length (told c .args .steps .now))))
-sizes c = let a = told c .args in sizes-case (a .image .now) (a .message .now) (a .steps .now) (first c) (roomy c)
-
--- where the sizes are right, from where the image is judged
-abbrev sizes-told : tie.After-read-and-copy → tie.After-enum-told3
+abbrev sizes-told : tie.After-enum-told3 → tie.After-enum-told
 sizes-told c = c .before .before .before
 
--- where the image is judged, from where it is known to be one; and what the judgement told
-abbrev read : tie.After-enum-told5 → tie.After-read-and-copy
+abbrev told : tie.After-enum-told3 → tie.Start
+told c = began (sizes-told c)
+
+abbrev judged : tie.After-enum-told5 → tie.After-read-and-copy
+judged c = c .before .before .before
+
+abbrev roomed : tie.After-enum-told5 → tie.After-enum-told3
+roomed c = judged c .before .before .before
+
+abbrev start : tie.After-enum-told5 → tie.Start
+start c = told (roomed c)
+
+abbrev read : tie.After-enum-told7 → tie.After-enum-told5
 read c = c .before .before .before
 
-station-is : (c : tie.After-enum-told5) → IsStation (told (sizes-told (read c)) .args .image .now) (read c .read-and-copy .result)
-station-is c =
-    let r = read c in
-    judges-right (told (sizes-told r) .args .image .now) (r .read-and-copy .result) (r .read-and-copy .ensures .0) (c .enum-told5 .given .1)
+abbrev laid : tie.After-enum-told9 → tie.After-enum-told7
+laid c = c .before .before .before
 
+abbrev numbered : tie.After-enum-told11 → tie.After-enum-told9
+numbered c = c .before .before .before
+
+abbrev ordered : tie.After-enum-told13 → tie.After-enum-told11
+ordered c = c .before .before .before
+
+-- ---- what each check told
+image-sized : (c : tie.After-enum-told) → length (began c .args .image .now) ≡ imageSize
+image-sized c = eqb-true _ imageSize (sym (c .before .before .check-image-size .ensures) ∙ ap right (c .enum-told .given .1))
+
+steps-roomy : (c : tie.After-enum-told3) → stepRoom ≤ length (told c .args .steps .now)
+steps-roomy c = roomy _ (sym (ap right (c .enum-told3 .given .1)) ∙ c .before .before .check-step-room .ensures)
+
+station-is : (c : tie.After-enum-told5) → IsStation (start c .args .image .now) (judged c .read-and-copy .result)
+station-is c =
+    let r = judged c in
+    judges-right (start c .args .image .now) (r .read-and-copy .result) (r .read-and-copy .ensures .0) (c .enum-told5 .given .1)
+
+layout-right : (c : tie.After-enum-told7) → true ≡ layoutRight (start (read c) .args .message .now)
+layout-right c = sym (ap right (c .enum-told7 .given .1)) ∙ c .before .before .check-layout .ensures
+
+numbers-right : (c : tie.After-enum-told9) → true ≡ numbersRight (start (read (laid c)) .args .message .now)
+numbers-right c = sym (ap right (c .enum-told9 .given .1)) ∙ c .before .before .check-numbers .ensures
+
+dependencies-right : (c : tie.After-enum-told11) → true ≡ dependenciesRight (start (read (laid (numbered c))) .args .message .now)
+dependencies-right c = sym (ap right (c .enum-told11 .given .1)) ∙ c .before .before .check-dependencies .ensures
+
+content-right : (c : tie.After-enum-told13) → true ≡ contentRight (start (read (laid (numbered (ordered c)))) .args .message .now)
+content-right c = sym (ap right (c .enum-told13 .given .1)) ∙ c .before .before .check-content .ensures
+
+-- ---- the needs
 check-image-size-requires : tie.Need-check-image-size-requires
 check-image-size-requires c κs = search needs
 
@@ -78,7 +85,7 @@ enum-told-2 c = search needs
 returns : tie.Need-returns
 returns c =
     let m = c .before .before in
-    let a = began m .args in
+    let a = m .before .before .before .before .args in
     size-case (a .image .now) (a .message .now) (a .steps .now) (sym (ap right (c .enum-told2 .given .1)) ∙ m .check-image-size .ensures)
 
 check-step-room-requires : tie.Need-check-step-room-requires
@@ -93,8 +100,8 @@ enum-told-4 c = search needs
 returns-2 : tie.Need-returns-2
 returns-2 c =
     let r = c .before .before in
-    let a = began (measured r) .args in
-    room-case (a .image .now) (a .message .now) (a .steps .now) (sized (r .before)) (sym (ap right (c .enum-told4 .given .1)) ∙ r .check-step-room .ensures)
+    let a = began (r .before) .args in
+    room-case (a .image .now) (a .message .now) (a .steps .now) (image-sized (r .before)) (sym (ap right (c .enum-told4 .given .1)) ∙ r .check-step-room .ensures)
 
 slice-aggregate-read-and-copy : tie.Need-slice-aggregate-read-and-copy
 slice-aggregate-read-and-copy c = search needs
@@ -102,7 +109,7 @@ slice-aggregate-read-and-copy c = search needs
 read-and-copy-requires : tie.Need-read-and-copy-requires
 read-and-copy-requires c κs =
     let t = c .before .before in
-    (eqb-true (length (told t .args .image .now)) imageSize (sym (first t)), record { count = imageSize + messageRoom; zeros = refl; room = omega arith })
+    (image-sized (sizes-told t), record { count = imageSize + messageRoom; zeros = refl; room = omega arith })
 
 enum-told-5 : tie.Need-enum-told-5
 enum-told-5 c = search needs
@@ -116,65 +123,130 @@ same-length c = search needs
 returns-3 : tie.Need-returns-3
 returns-3 c =
     let r = c .before .before .before in
-    let t = sizes-told r in
+    let t = r .before .before .before in
     let a = told t .args in
-    image-case (a .image .now) (a .message .now) (a .steps .now) (sizes t) (judges-wrong (a .image .now) (r .read-and-copy .result) (r .read-and-copy .ensures .0) (c .enum-told6 .given .1))
+    image-case (a .image .now) (a .message .now) (a .steps .now) (image-sized (sizes-told t)) (steps-roomy t)
+    (judges-wrong (a .image .now) (r .read-and-copy .result) (r .read-and-copy .ensures .0) (c .enum-told6 .given .1))
 
-parse-requires : tie.Need-parse-requires
-parse-requires c κs = search needs
+check-layout-requires : tie.Need-check-layout-requires
+check-layout-requires c κs = search needs
 
-enum-known-parsed : tie.Need-enum-known-parsed
-enum-known-parsed c = search needs
+enum-told-7 : tie.Need-enum-told-7
+enum-told-7 c = search needs
 
-refuse-requires : tie.Need-refuse-requires
-refuse-requires c κs = search needs
+enum-told-8 : tie.Need-enum-told-8
+enum-told-8 c = search needs
 
 same-length-2 : tie.Need-same-length-2
 same-length-2 c = search needs
 
 returns-4 : tie.Need-returns-4
 returns-4 c =
-    let p = c .before .before in
-    let t = sizes-told (judged p) in
-    let a = told t .args in
-    ap (λ (d : Delivery). deliveredBy d (a .image .now) (a .steps .now)) (c .refuse .ensures)
-    ∙ message-case (a .image .now) (a .message .now) (a .steps .now) (sizes t) (station-is (p .before) .image) (p .parse .result) (p .parse .ensures) (no-message (p .parse .result) (c .before .match4 .keys2))
+    let m = c .before .before in
+    let i = m .before in
+    let t = roomed i in
+    let a = start i .args in
+    layout-case (a .image .now) (a .message .now) (a .steps .now) (image-sized (sizes-told t)) (steps-roomy t) (station-is i .image)
+    (sym (ap right (c .enum-told8 .given .1)) ∙ m .check-layout .ensures)
 
--- where the message is known, from where it is taken in
-abbrev known : tie.After-take-in-arg2 → tie.After-parsed
-known c = c .before .before .before .before
+check-numbers-requires : tie.Need-check-numbers-requires
+check-numbers-requires c κs = let s = sized (layout-right c) in omega arith
 
-slice-aggregate-take-in : tie.Need-slice-aggregate-take-in
-slice-aggregate-take-in c = omega (arith, read (known (c .before) .before .before .before) .read-and-copy .kept .1 .0)
+enum-told-9 : tie.Need-enum-told-9
+enum-told-9 c = search needs
 
-take-in-requires : tie.Need-take-in-requires
-take-in-requires c κs =
-    let k = known (c .before) in
-    let p = k .before .before in
-    let r = read (p .before) in
-    let t = sizes-told (judged p) in
-    let a = told t .args in
-    let h = k .parsed .given .0 .0 in
-    let parses : Parses (a .message .now) (parsed.Message h) = subst (λ (r : Parsed). Parses (a .message .now) r) (k .parsed .given .1) (p .parse .ensures) in
-    let m = parsed-accepted (a .message .now) h parses in
-    record {
-      size = eqb-true (length (a .image .now)) imageSize (sym (first t));
-      steps-room = roomy-room (length (a .steps .now)) (roomy t);
-      judged = station-is (p .before);
-      right = m .pass;
-      sequence = m .sequence;
-      pool-size = r .read-and-copy .kept .1 .0;
-      pooled = subst (Copies (a .image .now) (r .read-and-copy .last .1 .0)) (p .before .enum-told5 .given .1) (r .read-and-copy .ensures .1);
-    }
+enum-told-10 : tie.Need-enum-told-10
+enum-told-10 c = search needs
 
 same-length-3 : tie.Need-same-length-3
 same-length-3 c = search needs
 
+returns-5 : tie.Need-returns-5
+returns-5 c =
+    let m = c .before .before in
+    let l = m .before in
+    let i = read l in
+    let t = roomed i in
+    let a = start i .args in
+    number-case (a .image .now) (a .message .now) (a .steps .now) (image-sized (sizes-told t)) (steps-roomy t) (station-is i .image) (layout-right l)
+    (sym (ap right (c .enum-told10 .given .1)) ∙ m .check-numbers .ensures)
+
+check-dependencies-requires : tie.Need-check-dependencies-requires
+check-dependencies-requires c κs = let s = sized (layout-right (laid c)) in omega arith
+
+enum-told-11 : tie.Need-enum-told-11
+enum-told-11 c = search needs
+
+enum-told-12 : tie.Need-enum-told-12
+enum-told-12 c = search needs
+
 same-length-4 : tie.Need-same-length-4
 same-length-4 c = search needs
 
-returns-5 : tie.Need-returns-5
-returns-5 c = search needs
+returns-6 : tie.Need-returns-6
+returns-6 c =
+    let m = c .before .before in
+    let n = m .before in
+    let l = laid n in
+    let i = read l in
+    let t = roomed i in
+    let a = start i .args in
+    dependencies-case (a .image .now) (a .message .now) (a .steps .now) (image-sized (sizes-told t)) (steps-roomy t) (station-is i .image) (layout-right l)
+    (numbers-right n) (sym (ap right (c .enum-told12 .given .1)) ∙ m .check-dependencies .ensures)
+
+check-content-requires : tie.Need-check-content-requires
+check-content-requires c κs = sized (layout-right (laid (numbered c))) .total
+
+enum-told-13 : tie.Need-enum-told-13
+enum-told-13 c = search needs
+
+enum-told-14 : tie.Need-enum-told-14
+enum-told-14 c = search needs
+
+same-length-5 : tie.Need-same-length-5
+same-length-5 c = search needs
+
+returns-7 : tie.Need-returns-7
+returns-7 c =
+    let m = c .before .before in
+    let d = m .before in
+    let n = numbered d in
+    let l = laid n in
+    let i = read l in
+    let t = roomed i in
+    let a = start i .args in
+    content-case (a .image .now) (a .message .now) (a .steps .now) (image-sized (sizes-told t)) (steps-roomy t) (station-is i .image) (layout-right l)
+    (numbers-right n) (dependencies-right d) (sym (ap right (c .enum-told14 .given .1)) ∙ m .check-content .ensures)
+
+slice-aggregate-take-in : tie.Need-slice-aggregate-take-in
+slice-aggregate-take-in c = search needs
+
+take-in-requires : tie.Need-take-in-requires
+take-in-requires c κs =
+    let p = c .before .before .before in
+    let d = ordered p in
+    let n = numbered d in
+    let l = laid n in
+    let i = read l in
+    let r = judged i in
+    let a = start i .args in
+    record {
+      size = image-sized (sizes-told (roomed i));
+      steps-room = steps-roomy (roomed i);
+      judged = station-is i;
+      right = true-T _ (sym (passes-by (a .message .now) (layout-right l) (numbers-right n) (dependencies-right d) (content-right p)));
+      pool-size = r .read-and-copy .kept .1 .0;
+      pooled = subst (Copies (a .image .now) (r .read-and-copy .last .1 .0)) (i .enum-told5 .given .1) (r .read-and-copy .ensures .1);
+    }
+
+same-length-6 : tie.Need-same-length-6
+same-length-6 c = search needs
+
+same-length-7 : tie.Need-same-length-7
+same-length-7 c = search needs
+
+returns-8 : tie.Need-returns-8
+returns-8 c = search needs
 
 pub deliver-spec : {M : Type 1} → statement M
 deliver-spec =
@@ -194,13 +266,28 @@ deliver-spec =
     enum-told-6
     same-length
     returns-3
-    parse-requires
-    enum-known-parsed
-    refuse-requires
+    check-layout-requires
+    enum-told-7
+    enum-told-8
     same-length-2
     returns-4
+    check-numbers-requires
+    enum-told-9
+    enum-told-10
+    same-length-3
+    returns-5
+    check-dependencies-requires
+    enum-told-11
+    enum-told-12
+    same-length-4
+    returns-6
+    check-content-requires
+    enum-told-13
+    enum-told-14
+    same-length-5
+    returns-7
     slice-aggregate-take-in
     take-in-requires
-    same-length-3
-    same-length-4
-    returns-5)
+    same-length-6
+    same-length-7
+    returns-8)

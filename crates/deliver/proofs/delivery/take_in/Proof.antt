@@ -1,172 +1,193 @@
--- A message whose sequence is there is compared with the one that is there; another is taken in at its place.
+-- The message's sequence is looked for; what is there under it is compared, and a new one is taken in at its place, where there is room.
 use mathlib.Core.Path.{_≡_, sym, _∙_, ap, subst}
 use Prim.Native.Nat.{ℕ, _≤_, _<_}
 use native.Mathlib.Omega.{arith}
-use lib.ListN.{length, getD}
-use lib.Seq.{length-take-le, getD-take}
-use Rattle.model.specs.Lists.{same}
+use lib.ListN.{length}
+use lib.Seq.{length-take-le}
+use borrow.Author.Tests.{ltb-true}
+use Rattle.model.specs.Layout.{capacity}
 use Rattle.model.specs.Message.{sequenceOf}
-use Rattle.table.specs.declared.places.Place.{Place}
-use Rattle.table.specs.Table.{startsOf, messageFrom}
-use Rattle.table.specs.TableLaws.{Lies}
-use Rattle.table.specs.Places.{IsPresent, IsAbsent, Finds}
-use Rattle.table.specs.PlaceLaws.{stands}
-use Rattle.deliver.specs.declared.answer.Delivery.{Delivery}
-use Rattle.deliver.specs.Answer.{deliveredBy, repeatOf}
-use Rattle.deliver.specs.PlaceCases.{present-case}
-use Rattle.model.specs.Layout.{imageSize, capacity}
+use Rattle.wire_laws.specs.MessageLaws.{passes-sized, sized-range}
+use Rattle.message.specs.Check.{right}
+use Rattle.table.specs.Table.{startsOf}
+use Rattle.table.specs.Places.{IsAbsent, Finds}
+use Rattle.deliver.specs.PlaceCases.{conflict, repeated, filled, joins}
 use borrow.Author.Needs.{needs}
 use Rattle.deliver.proofs.delivery.take_in.Statement.{statement}
 use Rattle.deliver.proofs.delivery.take_in.Tie as tie
 
--- the array's length
-starts-size : (c : tie.Start) → length (c .args .station .table .starts) ≡ capacity
-starts-size c = search needs
+-- the array's length, and the places in use, which are as many as the table says
+array : (s : tie.Start) → length (s .args .station .table .starts) ≡ capacity
+array s = search needs
 
--- the places in use are as many as the table says
-used : (c : tie.Start) → length (startsOf (c .args .station .table)) ≡ c .args .station .table .count
-used c =
-    let t = c .args .station .table in
-    let e : length (t .starts) ≡ capacity = starts-size c in
-    let f : t .count ≤ capacity = c .pre .judged .table .fits in
-    length-take-le (t .count) (t .starts) (omega arith)
+within : (s : tie.Start) → s .args .station .table .count ≤ length (s .args .station .table .starts)
+within s = let fits : s .args .station .table .count ≤ capacity = s .pre .judged .table .fits in omega (arith, array s)
 
--- the call as it began, from where the place is found; and what was found, from where its place is known
+used : (s : tie.Start) → s .args .station .table .count ≡ length (startsOf (s .args .station .table))
+used s = sym (length-take-le (s .args .station .table .count) (s .args .station .table .starts) (within s))
+
+-- the call as it began, from where the sequence is looked for; and that, from where a repeat is checked
 abbrev start : tie.After-find → tie.Start
-start f = f .before .before .before .before .before .before .before .before .before
+start f = f .before .before .before .before .before .before .before .before .before .before
 
-abbrev sought : tie.After-known-told → tie.After-find
-sought k = k .before .before .before
+abbrev sought : tie.After-check-repeat → tie.After-find
+sought r = r .before .before .before
+
+abbrev begun : tie.After-check-repeat → tie.Start
+begun r = start (sought r)
+
+-- where a repeat is checked, from where the sequence is known to be new; and the room, from where it is known
+abbrev checked : tie.After-known-told → tie.After-check-repeat
+checked k = k .before .before .before .before .before
+
+abbrev new : tie.After-check-room → tie.After-known-told
+new m = m .before
 
 -- what was found, of the message's own sequence
 found : (f : tie.After-find) → Finds (start f .args .image .now) (startsOf (start f .args .station .table)) (sequenceOf (start f .args .message .now)) (f .find .result)
 found f =
     let a = start f .args in
-    subst (λ (n : ℕ). Finds (a .image .now) (startsOf (a .station .table)) n (f .find .result)) (start f .pre .sequence) (f .find .ensures)
-
--- the sequence is there
-present : (k : tie.After-known-told) → IsPresent (start (sought k) .args .image .now) (startsOf (start (sought k) .args .station .table)) (sequenceOf (start (sought k) .args .message .now)) (k .before .place .given .0 .0)
-present k =
-    let a = start (sought k) .args in
-    subst (λ (r : Place). Finds (a .image .now) (startsOf (a .station .table)) (sequenceOf (a .message .now)) r) (k .before .place .given .1) (found (sought k))
-
--- the place is one of those in use
-below : (k : tie.After-known-told) → k .before .place .given .0 .0 < start (sought k) .args .station .table .count
-below k = omega (arith, present k .inside, used (start (sought k)))
-
--- so it is one of the array, and what starts there is the table's
-inside : (k : tie.After-known-told) → k .before .place .given .0 .0 < capacity
-inside k =
-    let s = start (sought k) in
-    let f : s .args .station .table .count ≤ capacity = s .pre .judged .table .fits in
-    omega (arith, below k)
-
-start-at : (k : tie.After-known-told) → getD (startsOf (start (sought k) .args .station .table)) (k .before .place .given .0 .0) 0 ≡ getD (start (sought k) .args .station .table .starts) (k .before .place .given .0 .0) 0
-start-at k =
-    let t = start (sought k) .args .station .table in
-    getD-take (t .count) (t .starts) (k .before .place .given .0 .0) 0 (below k)
-
--- the message that starts there lies inside the image
-lies : (k : tie.After-known-told) → Lies (start (sought k) .args .image .now) (getD (start (sought k) .args .station .table .starts) (k .before .place .given .0 .0) 0)
-lies k =
-    let s = start (sought k) in
-    let a = s .args in
-    subst (λ (n : ℕ). Lies (a .image .now) n) (start-at k)
-    (stands (a .image .now) (startsOf (a .station .table)) (s .pre .judged .table .holds) (k .before .place .given .0 .0) (present k .inside) .lies)
-
--- the call as it began, from where its starts are lent
-abbrev lent : tie.After-starts2 → tie.Start
-lent c = c .before .before .before .before .before .before .before .before
-
-array-share-prefix-starts : tie.Need-array-share-prefix-starts
-array-share-prefix-starts c =
-    let s = c .before .before .before .before .before .before .before in
-    let e : length (s .args .station .table .starts) ≡ capacity = starts-size s in
-    let f : s .args .station .table .count ≤ capacity = s .pre .judged .table .fits in
-    omega arith
-
-slice-aggregate-find : tie.Need-slice-aggregate-find
-slice-aggregate-find c = sym (used (lent c))
-
-find-requires : tie.Need-find-requires
-find-requires c κs = lent c .pre .judged .table .holds
-
-enum-known-place : tie.Need-enum-known-place
-enum-known-place c = search needs
-
-mul-judge-repeat : tie.Need-mul-judge-repeat
-mul-judge-repeat c = omega (arith, inside (c .before))
-
-array-read-judge-repeat : tie.Need-array-read-judge-repeat
-array-read-judge-repeat c = omega (arith, inside (c .before))
-
-cast-judge-repeat : tie.Need-cast-judge-repeat
-cast-judge-repeat c =
-    let s = start (sought (c .before)) in
-    let h : getD (s .args .station .table .starts) (c .before .before .place .given .0 .0) 0 ≤ imageSize = omega (arith, lies (c .before) .inside, s .pre .size) in
-    omega (arith, h)
-
-judge-repeat-requires : tie.Need-judge-repeat-requires
-judge-repeat-requires c κs = lies (c .before)
-
-enum-known-place-2 : tie.Need-enum-known-place-2
-enum-known-place-2 c = search needs
+    subst (λ (n : ℕ). Finds (a .image .now) (startsOf (a .station .table)) n (f .find .result)) (f .before .before .before .read-sequence .ensures) (f .find .ensures)
 
 -- the sequence is new
-absent : (k : tie.After-known-told2) → IsAbsent (start (k .before .before .before) .args .image .now) (startsOf (start (k .before .before .before) .args .station .table)) (sequenceOf (start (k .before .before .before) .args .message .now)) (k .before .place2 .given .0 .0)
+absent : (k : tie.After-known-told) → let a = begun (checked k) .args in IsAbsent (a .image .now) (startsOf (a .station .table)) (sequenceOf (a .message .now)) (k .before .place .given .0 .0)
 absent k =
-    let f = k .before .before .before in
-    let a = start f .args in
-    subst (λ (r : Place). Finds (a .image .now) (startsOf (a .station .table)) (sequenceOf (a .message .now)) r) (k .before .place2 .given .1) (found f)
+    let a = begun (checked k) .args in
+    subst (Finds (a .image .now) (startsOf (a .station .table)) (sequenceOf (a .message .now))) (k .before .place .given .1) (found (sought (checked k)))
 
-accept-new-requires : tie.Need-accept-new-requires
-accept-new-requires c κs =
-    let k = c .before .before .before in
-    let pre = start (k .before .before .before) .pre in
-    record { size = pre .size; steps-room = pre .steps-room; judged = pre .judged; right = pre .right; absent = absent k; pool-size = pre .pool-size; pooled = pre .pooled }
+read-sequence-requires : tie.Need-read-sequence-requires
+read-sequence-requires c κs =
+    let s = c .before .before .before .before .before .before in
+    let m = s .args .message .now in
+    omega (arith, sized-range m (passes-sized m (s .pre .right)))
+
+array-share-prefix-starts : tie.Need-array-share-prefix-starts
+array-share-prefix-starts c = within (c .before .before .before .before .before .before .before .before)
+
+slice-aggregate-find : tie.Need-slice-aggregate-find
+slice-aggregate-find c = used (c .before .before .before .before .before .before .before .before .before)
+
+find-requires : tie.Need-find-requires
+find-requires c κs = search needs
+
+array-share-prefix-starts-2 : tie.Need-array-share-prefix-starts-2
+array-share-prefix-starts-2 c = within (start (c .before))
+
+slice-aggregate-check-repeat : tie.Need-slice-aggregate-check-repeat
+slice-aggregate-check-repeat c = used (start (c .before .before))
+
+check-repeat-requires : tie.Need-check-repeat-requires
+check-repeat-requires c κs = let f = c .before .before in (start f .pre .judged .table .holds, found f)
+
+enum-told : tie.Need-enum-told
+enum-told c = search needs
+
+enum-told-2 : tie.Need-enum-told-2
+enum-told-2 c = search needs
 
 same-length : tie.Need-same-length
 same-length c = search needs
 
 returns : tie.Need-returns
 returns c =
-    let k = c .before .before in
-    let s = start (sought k) in
+    let r = c .before .before in
+    let s = begun r in
     let a = s .args in
-    let pre = s .pre in
-    ap (λ (d : Delivery). deliveredBy d (a .image .now) (a .steps .now)) (c .judge-repeat .ensures)
-    ∙ ap (λ (n : ℕ). deliveredBy (repeatOf (same (messageFrom (a .image .now) n) (a .message .now))) (a .image .now) (a .steps .now)) (sym (start-at k))
-    ∙ present-case (a .image .now) (a .message .now) (a .steps .now) (a .station) (pre .size) (pre .steps-room) (pre .judged) (pre .right) (k .before .place .given .0 .0) (present k)
+    conflict (a .image .now) (a .message .now) (a .steps .now) (a .pool .now) (a .station) (s .pre) (sym (ap right (c .enum-told2 .given .1)) ∙ r .check-repeat .ensures)
+
+enum-known-place : tie.Need-enum-known-place
+enum-known-place c = search needs
+
+enum-told-3 : tie.Need-enum-told-3
+enum-told-3 c = search needs
 
 same-length-2 : tie.Need-same-length-2
 same-length-2 c = search needs
 
+returns-2 : tie.Need-returns-2
+returns-2 c =
+    let t = c .before .before in
+    let r = t .before .before in
+    let s = begun r in
+    let a = s .args in
+    repeated (a .image .now) (a .message .now) (a .steps .now) (a .pool .now) (a .station) (s .pre)
+    (subst (Finds (a .image .now) (startsOf (a .station .table)) (sequenceOf (a .message .now))) (c .enum-told3 .given .1) (found (sought r)))
+    (sym (ap right (t .enum-told .given .1)) ∙ r .check-repeat .ensures)
+
+check-room-requires : tie.Need-check-room-requires
+check-room-requires c κs = search needs
+
+enum-told-4 : tie.Need-enum-told-4
+enum-told-4 c = search needs
+
+enum-told-5 : tie.Need-enum-told-5
+enum-told-5 c = search needs
+
 same-length-3 : tie.Need-same-length-3
 same-length-3 c = search needs
+
+returns-3 : tie.Need-returns-3
+returns-3 c =
+    let m = c .before .before in
+    let s = begun (checked (new m)) in
+    let a = s .args in
+    filled (a .image .now) (a .message .now) (a .steps .now) (a .pool .now) (a .station) (s .pre) (absent (new m)) (array s) (sym (ap right (c .enum-told5 .given .1)) ∙ m .check-room .ensures)
+
+-- there is room
+few : (c : tie.After-enum-told4) → begun (checked (new (c .before .before))) .args .station .table .count < capacity
+few c = ltb-true _ capacity (sym (c .before .before .check-room .ensures) ∙ ap right (c .enum-told4 .given .1))
+
+accept-requires : tie.Need-accept-requires
+accept-requires c κs =
+    let t = c .before .before .before in
+    let k = new (t .before .before) in
+    let pre = begun (checked k) .pre in
+    record { size = pre .size; steps-room = pre .steps-room; judged = pre .judged; few = few t; right = pre .right; absent = absent k; pool-size = pre .pool-size; pooled = pre .pooled }
 
 same-length-4 : tie.Need-same-length-4
 same-length-4 c = search needs
 
-returns-2 : tie.Need-returns-2
-returns-2 c = search needs
+same-length-5 : tie.Need-same-length-5
+same-length-5 c = search needs
+
+same-length-6 : tie.Need-same-length-6
+same-length-6 c = search needs
+
+returns-4 : tie.Need-returns-4
+returns-4 c =
+    let accepted = c .before .before .before .before .before .before in
+    let t = accepted .before .before .before .before in
+    let k = new (t .before .before) in
+    let s = begun (checked k) in
+    let a = s .args in
+    accepted .accept .ensures ∙ sym (joins (a .image .now) (a .message .now) (a .steps .now) (a .pool .now) (a .station) (s .pre) (absent k) (array s) (few t))
 
 pub take-in-spec : {M : Type 1} → statement M
 take-in-spec =
     tie.close
     (tie.spec
+    read-sequence-requires
     array-share-prefix-starts
     slice-aggregate-find
     find-requires
-    enum-known-place
-    mul-judge-repeat
-    array-read-judge-repeat
-    cast-judge-repeat
-    judge-repeat-requires
-    enum-known-place-2
-    accept-new-requires
+    array-share-prefix-starts-2
+    slice-aggregate-check-repeat
+    check-repeat-requires
+    enum-told
+    enum-told-2
     same-length
     returns
+    enum-known-place
+    enum-told-3
     same-length-2
+    returns-2
+    check-room-requires
+    enum-told-4
+    enum-told-5
     same-length-3
+    returns-3
+    accept-requires
     same-length-4
-    returns-2)
+    same-length-5
+    same-length-6
+    returns-4)

@@ -1,10 +1,10 @@
--- Each check that is failed is the lowest, for those before it were passed.
+-- Each check that is failed decides, and the last one where all before it were passed.
 use native.Mathlib.Omega.{arith}
 use mathlib.Core.Path.{_≡_, refl, sym, _∙_, ap}
 use mathlib.Core.Bool.{true}
-use Rattle.model.specs.Message.{Message, layoutRight, numbersRight, dependenciesRight, contentRight}
+use Rattle.model.specs.Message.{Message, layoutRight, numbersRight, dependenciesRight}
 use Rattle.message.specs.Check.{right}
-use Rattle.parse.specs.VerdictLaws.{sized, code-is}
+use Rattle.parse.specs.PassLaws.{sized, passes-by}
 use borrow.Author.Needs.{needs}
 use Rattle.parse.proofs.checking.check_message.Statement.{statement}
 use Rattle.parse.proofs.checking.check_message.Tie as tie
@@ -19,9 +19,6 @@ laid c = c .before .before .before
 abbrev numbered : tie.After-enum-told5 → tie.After-enum-told3
 numbered c = c .before .before .before
 
-abbrev ordered : tie.After-enum-told7 → tie.After-enum-told5
-ordered c = c .before .before .before
-
 layout-right : (c : tie.After-enum-told) → true ≡ layoutRight (bytes c)
 layout-right c = sym (ap right (c .enum-told .given .1)) ∙ c .before .before .check-layout .ensures
 
@@ -30,9 +27,6 @@ numbers-right c = sym (ap right (c .enum-told3 .given .1)) ∙ c .before .before
 
 dependencies-right : (c : tie.After-enum-told5) → true ≡ dependenciesRight (bytes (laid (numbered c)))
 dependencies-right c = sym (ap right (c .enum-told5 .given .1)) ∙ c .before .before .check-dependencies .ensures
-
-content-right : (c : tie.After-enum-told7) → true ≡ contentRight (bytes (laid (numbered (ordered c))))
-content-right c = sym (ap right (c .enum-told7 .given .1)) ∙ c .before .before .check-content .ensures
 
 -- ---- the needs
 check-layout-requires : tie.Need-check-layout-requires
@@ -45,7 +39,7 @@ enum-told-2 : tie.Need-enum-told-2
 enum-told-2 c = search needs
 
 returns : tie.Need-returns
-returns c = let checked = c .before .before in code-is _ (sym (ap right (c .enum-told2 .given .1)) ∙ checked .check-layout .ensures) refl refl refl
+returns c = let checked = c .before .before in passes-by _ (sym (ap right (c .enum-told2 .given .1)) ∙ checked .check-layout .ensures) refl refl refl
 
 check-numbers-requires : tie.Need-check-numbers-requires
 check-numbers-requires c κs = let s = sized (layout-right c) in omega arith
@@ -59,7 +53,7 @@ enum-told-4 c = search needs
 returns-2 : tie.Need-returns-2
 returns-2 c =
     let checked = c .before .before in
-    code-is _ (layout-right (checked .before)) (sym (ap right (c .enum-told4 .given .1)) ∙ checked .check-numbers .ensures) refl refl
+    passes-by _ (layout-right (checked .before)) (sym (ap right (c .enum-told4 .given .1)) ∙ checked .check-numbers .ensures) refl refl
 
 check-dependencies-requires : tie.Need-check-dependencies-requires
 check-dependencies-requires c κs = let s = sized (layout-right (laid c)) in omega arith
@@ -74,29 +68,16 @@ returns-3 : tie.Need-returns-3
 returns-3 c =
     let checked = c .before .before in
     let n = checked .before in
-    code-is _ (layout-right (laid n)) (numbers-right n) (sym (ap right (c .enum-told6 .given .1)) ∙ checked .check-dependencies .ensures) refl
+    passes-by _ (layout-right (laid n)) (numbers-right n) (sym (ap right (c .enum-told6 .given .1)) ∙ checked .check-dependencies .ensures) refl
 
 check-content-requires : tie.Need-check-content-requires
 check-content-requires c κs = sized (layout-right (laid (numbered c))) .total
 
-enum-told-7 : tie.Need-enum-told-7
-enum-told-7 c = search needs
-
-enum-told-8 : tie.Need-enum-told-8
-enum-told-8 c = search needs
-
 returns-4 : tie.Need-returns-4
 returns-4 c =
-    let checked = c .before .before in
-    let d = checked .before in
+    let d = c .before in
     let n = numbered d in
-    code-is _ (layout-right (laid n)) (numbers-right n) (dependencies-right d) (sym (ap right (c .enum-told8 .given .1)) ∙ checked .check-content .ensures)
-
-returns-5 : tie.Need-returns-5
-returns-5 c =
-    let d = ordered c in
-    let n = numbered d in
-    code-is _ (layout-right (laid n)) (numbers-right n) (dependencies-right d) (content-right c)
+    passes-by _ (layout-right (laid n)) (numbers-right n) (dependencies-right d) (c .check-content .ensures)
 
 pub check-message-spec : {M : Type 1} → statement M
 check-message-spec =
@@ -115,7 +96,4 @@ check-message-spec =
     enum-told-6
     returns-3
     check-content-requires
-    enum-told-7
-    enum-told-8
-    returns-4
-    returns-5)
+    returns-4)

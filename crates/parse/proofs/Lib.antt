@@ -1,2 +1,0 @@
-pub mod ParsedTags
-pub mod VerdictTags

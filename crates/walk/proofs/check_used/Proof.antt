@@ -1,0 +1,21 @@
+-- The test of the bytes used is the definition's.
+use mathlib.Core.Path.{sym, _∙_}
+use borrow.Author.Tests.{eq-eqb, ne-eqb}
+use borrow.Author.Needs.{needs}
+use Rattle.walk.proofs.check_used.Statement.{statement}
+use Rattle.walk.proofs.check_used.Tie as tie
+
+get-u16-requires : tie.Need-get-u16-requires
+get-u16-requires c κs = search needs
+
+cast-if1 : tie.Need-cast-if1
+cast-if1 c = search needs
+
+returns : tie.Need-returns
+returns c = sym (ne-eqb _ _ (λ e. c .if1 .taken (e ∙ sym (c .before .get-u16 .ensures .0))))
+
+returns-2 : tie.Need-returns-2
+returns-2 c = sym (eq-eqb _ _ (c .if1 .left ∙ c .before .get-u16 .ensures .0))
+
+pub check-used-spec : {M : Type 1} → statement M
+check-used-spec = tie.close (tie.spec get-u16-requires cast-if1 returns returns-2)
