@@ -1,6 +1,8 @@
 -- The test of the bytes used is the definition's.
-use mathlib.Core.Path.{sym, _∙_}
+use mathlib.Core.Path.{_≡_, sym}
+use native.Mathlib.Omega.{arith}
 use borrow.Author.Tests.{eq-eqb, ne-eqb}
+use Rattle.model.specs.Image.{usedCount}
 use borrow.Author.Needs.{needs}
 use Rattle.walk.proofs.check_used.Statement.{statement}
 use Rattle.walk.proofs.check_used.Tie as tie
@@ -12,10 +14,15 @@ cast-if1 : tie.Need-cast-if1
 cast-if1 c = search needs
 
 returns : tie.Need-returns
-returns c = sym (ne-eqb _ _ (λ e. c .if1 .taken (e ∙ sym (c .before .get-u16 .ensures .0))))
+returns c =
+    let a = c .before .before .before .args in
+    let other : ¬ (a .at ≡ usedCount (a .b .now)) = λ e. let z : ⊥ = omega (arith, e, c .if1 .taken, c .before .get-u16 .ensures .0) in z in
+    sym (ne-eqb (a .at) (usedCount (a .b .now)) other)
 
 returns-2 : tie.Need-returns-2
-returns-2 c = sym (eq-eqb _ _ (c .if1 .left ∙ c .before .get-u16 .ensures .0))
+returns-2 c =
+    let a = c .before .before .before .args in
+    sym (eq-eqb (a .at) (usedCount (a .b .now)) (omega (arith, c .if1 .left, c .before .get-u16 .ensures .0)))
 
 pub check-used-spec : {M : Type 1} → statement M
 check-used-spec = tie.close (tie.spec get-u16-requires cast-if1 returns returns-2)
