@@ -1,4 +1,5 @@
-// The listing program: reads messages end to end on standard input, and prints a line for each and a last line.
+// The listing program: reads messages end to end on standard input, and prints a line for each and a last line, in every case: where a
+// read fails, the listing is that of the bytes before it, and standard error says why.
 use libc::STDOUT_FILENO;
 use listing_whole::limits::INPUT_LIMIT;
 use listing_whole::limits::LISTING_ROOM;
@@ -20,12 +21,16 @@ fn print_listing(input: &[u8]) {
 fn main() {
     let mut buf = [0u8; INPUT_LIMIT];
     let input = read_input(&mut buf);
-    let Input::Bytes(n) = input else {
-        os::fail(b"standard input");
-        return;
-    };
-    print_listing(&buf[..n]);
-    if n == INPUT_LIMIT {
-        drop_rest();
+    match input {
+        Input::Bytes(n) => {
+            print_listing(&buf[..n]);
+            if n == INPUT_LIMIT {
+                drop_rest();
+            }
+        }
+        Input::Failed(n) => {
+            os::fail(b"standard input");
+            print_listing(&buf[..n]);
+        }
     }
 }

@@ -11,6 +11,7 @@ PieceFits at size (piece.Bytes n) = at + n ≤ size
 PieceFits at size piece.End = Unit {0}
 PieceFits at size piece.Failed = Unit {0}
 
+-- all pieces, also those before a read that failed
 abbrev pub InputFits : ℕ → Input → Type 0
 InputFits size (input.Bytes n) = n ≤ size
-InputFits size input.Failed = Unit {0}
+InputFits size (input.Failed n) = n ≤ size

@@ -12,10 +12,10 @@ enum Piece {
     Failed,
 }
 
-// What all reads brought: how many bytes, or that a read failed.
+// What all reads brought: how many bytes, and whether they are all that was to be read, or a read behind them failed.
 pub enum Input {
     Bytes(usize),
-    Failed,
+    Failed(usize),
 }
 
 // Reads once, behind the bytes that are there.
@@ -45,14 +45,14 @@ pub fn read_input(buf: &mut [u8]) -> Input
     let mut at = 0;
     while at < buf.len() {
         if tries == 0 {
-            return Input::Failed;
+            return Input::Failed(at);
         }
         tries -= 1;
         let piece = read_piece(buf, at);
         match piece {
             Piece::Bytes(n) => at += n,
             Piece::End => return Input::Bytes(at),
-            Piece::Failed => return Input::Failed,
+            Piece::Failed => return Input::Failed(at),
         }
     }
     Input::Bytes(at)

@@ -1,4 +1,4 @@
--- What is read lies within the buffer.
+-- What is read lies within the buffer, also before a read that failed.
 use mathlib.Core.Path.{sym, subst}
 use Prim.Native.Nat.{ℕ, _≤_}
 use lib.ListN.{length}
@@ -13,6 +13,11 @@ fits c =
     let read = c .before .before .before .read-input in
     subst (λ (n : ℕ). c .input .given .0 .0 ≤ n) (sym (read .kept .0)) (subst (InputFits _) (c .input .given .1) (read .ensures))
 
+fits-failed : (c : tie.After-input2) → c .input2 .given .0 .0 ≤ length (c .before .before .before .read-input .last .0)
+fits-failed c =
+    let read = c .before .before .before .read-input in
+    subst (λ (n : ℕ). c .input2 .given .0 .0 ≤ n) (sym (read .kept .0)) (subst (InputFits _) (c .input2 .given .1) (read .ensures))
+
 slice-aggregate-read-input : tie.Need-slice-aggregate-read-input
 slice-aggregate-read-input c = search needs
 
@@ -21,18 +26,6 @@ read-input-requires c κs = search needs
 
 enum-known-input : tie.Need-enum-known-input
 enum-known-input c = search needs
-
-enum-told : tie.Need-enum-told
-enum-told c = search needs
-
-slice-aggregate-fail : tie.Need-slice-aggregate-fail
-slice-aggregate-fail c = search needs
-
-fail-requires : tie.Need-fail-requires
-fail-requires c κs = search needs
-
-returns : tie.Need-returns
-returns c = search needs
 
 array-share-prefix-buf : tie.Need-array-share-prefix-buf
 array-share-prefix-buf c = fits (c .before)
@@ -45,6 +38,27 @@ print-listing-requires c κs = search needs
 
 drop-rest-requires : tie.Need-drop-rest-requires
 drop-rest-requires c κs = search needs
+
+enum-known-input-2 : tie.Need-enum-known-input-2
+enum-known-input-2 c = search needs
+
+slice-aggregate-fail : tie.Need-slice-aggregate-fail
+slice-aggregate-fail c = search needs
+
+fail-requires : tie.Need-fail-requires
+fail-requires c κs = search needs
+
+array-share-prefix-buf-2 : tie.Need-array-share-prefix-buf-2
+array-share-prefix-buf-2 c = fits-failed (c .before .before .before)
+
+slice-aggregate-print-listing-2 : tie.Need-slice-aggregate-print-listing-2
+slice-aggregate-print-listing-2 c = sym (length-take-le _ _ (fits-failed (c .before .before .before .before)))
+
+print-listing-requires-2 : tie.Need-print-listing-requires-2
+print-listing-requires-2 c κs = search needs
+
+returns : tie.Need-returns
+returns c = search needs
 
 returns-2 : tie.Need-returns-2
 returns-2 c = search needs
@@ -59,13 +73,16 @@ main-spec =
     slice-aggregate-read-input
     read-input-requires
     enum-known-input
-    enum-told
-    slice-aggregate-fail
-    fail-requires
-    returns
     array-share-prefix-buf
     slice-aggregate-print-listing
     print-listing-requires
     drop-rest-requires
+    enum-known-input-2
+    slice-aggregate-fail
+    fail-requires
+    array-share-prefix-buf-2
+    slice-aggregate-print-listing-2
+    print-listing-requires-2
+    returns
     returns-2
     returns-3)
