@@ -1,7 +1,8 @@
--- What empty leaves in a buffer of an image's size.
+-- What empty answers and leaves in a buffer of an image's size.
 use mathlib.Core.Path.{_≡_, refl, sym, _∙_, ap}
 use mathlib.Core.List.{List}
 use Prim.Native.Nat.{ℕ}
+use native.Mathlib.Omega.{arith}
 use lib.ListN.{length}
 use borrow.Author.Tests.{eq-eqb}
 use Rattle.model.specs.Layout.{imageSize}
@@ -12,11 +13,14 @@ use Rattle.emptying.specs.declared.Emptying.the-variants as emptying
 use Rattle.emptying.specs.EmptyAnswer.{emptiedBy}
 use Rattle.emptying.specs.EmptyCases.{empty-done}
 
--- the image is what the answer says, whichever it is
-image-is : (r : Emptying) (image : List ℕ) → image ≡ emptiedBy r image .image
-image-is emptying.Done image = refl
-image-is emptying.WrongSize image = refl
+module _ (entry exit : List ℕ) (r : Emptying) (size : length entry ≡ imageSize) (e : emptiedBy r exit ≡ empty entry) where
+  answer-is : {k : Emptying} → r ≡ k → emptiedBy k exit ≡ record { code = 0; image = imageOf emptyState }
+  answer-is k =
+      sym (ap (λ (x : Emptying). emptiedBy x exit) k) ∙ e
+      ∙ sym (empty-done entry (imageOf emptyState) (sym (eq-eqb (length entry) imageSize size)) refl)
 
-pub emptied : (entry exit : List ℕ) (r : Emptying) → length entry ≡ imageSize → emptiedBy r exit ≡ empty entry → exit ≡ imageOf emptyState
-emptied entry exit r h e =
-    image-is r exit ∙ ap (λ (x : Emptied). x .image) (e ∙ sym (empty-done entry (imageOf emptyState) (sym (eq-eqb (length entry) imageSize h)) refl))
+  pub emptied : r ≡ emptying.Done → exit ≡ imageOf emptyState
+  emptied k = ap (λ (x : Emptied). x .image) (answer-is k)
+
+  pub not-refused : r ≡ emptying.WrongSize → ⊥
+  not-refused k = let z : _≡_ {A = ℕ} 1 0 = ap (λ (x : Emptied). x .code) (answer-is k) in omega arith

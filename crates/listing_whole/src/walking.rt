@@ -1,6 +1,7 @@
 // The whole listing: the messages of the input one after the other, and the last line.
 use crate::limits::INPUT_LIMIT;
 use crate::limits::LISTING_ROOM;
+use emptying::Emptying;
 use emptying::empty;
 use layout::IMAGE_SIZE;
 use listing_lines::printing::put_last;
@@ -13,8 +14,6 @@ ghost use mathlib.Core.List.{_++_};
 ghost use Prim.Native.Nat.{_+_, _≤_};
 ghost use lib.ListN.{length, take};
 ghost use Rattle.model.specs.Layout.{imageSize, inputLimit};
-ghost use Rattle.model.specs.Image.{imageOf};
-ghost use Rattle.model.specs.Calls.{emptyState};
 ghost use Rattle.model.specs.Program.{printedLine, lastLine};
 ghost use Rattle.listing_lines.specs.Puts.{Puts, lineRoom, lastRoom};
 ghost use Rattle.listing_whole.specs.Lines.{lines, roomFor, Lists};
@@ -49,14 +48,6 @@ fn list_messages(input: &[u8], image: &mut [u8], out: &mut [u8]) -> usize
     put_last(out, at, image)
 }
 
-// Makes a buffer of an image's size the image of no deltas.
-fn begin(image: &mut [u8])
-    requires { ⌜ length (now image) ≡ imageSize ⌝ }
-    ensures { λ _. ⌜ now (image .exit) ≡ imageOf emptyState ⌝ }
-{
-    empty(image);
-}
-
 // The part of an input that is read: any bytes beyond the limit are dropped.
 fn read_part(input: &[u8]) -> &[u8]
     ensures { λ r. ⌜ now r ≡ take inputLimit (now (input .entry)) ⌝ }
@@ -72,7 +63,11 @@ pub fn list(input: &[u8], out: &mut [u8; LISTING_ROOM]) -> usize
     ensures { λ r. ⌜ Lists (now (input .entry)) (now (out .entry)) r (now (out .exit)) ⌝ }
 {
     let mut image = [0u8; IMAGE_SIZE];
-    begin(&mut image);
+    let emptying = empty(&mut image);
+    // never met: the buffer has an image's size
+    let Emptying::Done = emptying else {
+        return 0;
+    };
     let read = read_part(input);
     list_messages(read, &mut image, out)
 }
