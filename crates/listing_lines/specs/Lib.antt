@@ -1,4 +1,3 @@
-pub mod Puts
-pub mod PutsLaws
-pub mod DigitLaws
+pub mod Rooms
+pub mod LineLaws
 pub mod LineSizes

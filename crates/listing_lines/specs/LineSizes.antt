@@ -6,8 +6,9 @@ use native.Mathlib.Omega.{arith}
 use lib.ListN.{length, length-append}
 use Rattle.model.specs.Image.{logCount, heldCount}
 use Rattle.model.specs.Program.{printedLine, lastLine}
-use Rattle.listing_lines.specs.Puts.{lineRoom, lastRoom, numeral}
-use Rattle.listing_lines.specs.DigitLaws.{numeral-few}
+use Rattle.decimal.specs.Puts.{numeral}
+use Rattle.decimal.specs.DigitLaws.{numeral-few}
+use Rattle.listing_lines.specs.Rooms.{lineRoom, lastRoom}
 
 line-is : (number code undos executions : ℕ)
     → numeral number ++ 32 ∷ numeral code ++ 32 ∷ numeral undos ++ 32 ∷ numeral executions ++ 10 ∷ [] ≡ printedLine number code undos executions

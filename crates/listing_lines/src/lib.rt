@@ -1,5 +1,3 @@
-// What the listing program prints: numbers in decimal, the line of a message, the last line.
-pub mod digits;
+// What the listing program prints: the line of a message, and the last line.
 pub mod limits;
 pub mod printing;
-pub mod text;

@@ -1,8 +1,5 @@
-// What is printed: the digit 0, and the most bytes of a number, of a line and of the last line.
-pub const ZERO: usize = 48;
-
-// a number
-pub const DIGITS: usize = 5;
+// The most bytes of a line and of the last line.
+use decimal::limits::DIGITS;
 
 // the line of a message: four numbers, each with the byte behind it
 pub const LINE_ROOM: usize = 4 * (DIGITS + 1);

@@ -1,8 +1,8 @@
 // The lines: one for each message, and the last.
-use crate::digits::put_after;
-use crate::digits::put_decimal;
-use crate::text::put_text;
 use buffer::get_u16;
+use decimal::digits::put_after;
+use decimal::digits::put_decimal;
+use decimal::text::put_text;
 use layout::HELD_COUNT_AT;
 use layout::LOG_COUNT_AT;
 ghost use mathlib.Core.Path.{_≡_};
@@ -10,7 +10,8 @@ ghost use Prim.Native.Nat.{_+_, _≤_};
 ghost use lib.ListN.{length};
 ghost use Rattle.model.specs.Layout.{imageSize};
 ghost use Rattle.model.specs.Program.{printedLine, lastLine};
-ghost use Rattle.listing_lines.specs.Puts.{Puts, lineRoom, lastRoom};
+ghost use Rattle.decimal.specs.Puts.{Puts};
+ghost use Rattle.listing_lines.specs.Rooms.{lineRoom, lastRoom};
 
 // Writes the line of a message from a place on, and answers the place behind it.
 pub fn put_line(

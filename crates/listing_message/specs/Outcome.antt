@@ -4,7 +4,8 @@ use mathlib.Core.List.{List}
 use Prim.Native.Nat.{ℕ}
 use Rattle.model.specs.Calls.{Delivered, deliver}
 use Rattle.model.specs.Program.{printedLine, stepBuffer}
-use Rattle.listing_lines.specs.Puts.{lineRoom, Puts}
+use Rattle.decimal.specs.Puts.{Puts}
+use Rattle.listing_lines.specs.Rooms.{lineRoom}
 use Rattle.deliver.specs.declared.answer.Delivery.{Delivery}
 use Rattle.deliver.specs.Answer.{deliveredBy}
 use Rattle.listing_message.specs.declared.delivering.Outcome.{Outcome}

@@ -6,8 +6,9 @@ use Rattle.model.specs.Calls.{Delivered, deliver}
 use Rattle.model.specs.Program.{printedLine, stepBuffer}
 use Rattle.deliver.specs.declared.answer.Delivery.{Delivery}
 use Rattle.deliver.specs.Answer.{deliveredBy}
-use Rattle.listing_lines.specs.Puts.{lineRoom, Puts}
-use Rattle.listing_lines.specs.PutsLaws.{puts-as}
+use Rattle.decimal.specs.Puts.{Puts}
+use Rattle.decimal.specs.PutsLaws.{puts-as}
+use Rattle.listing_lines.specs.Rooms.{lineRoom}
 use Rattle.listing_lines.specs.LineSizes.{line-few}
 use Rattle.listing_message.specs.declared.delivering.Outcome.{Outcome}
 use Rattle.listing_message.specs.Outcome.{deliveredAs, Tells, answered, Answers, lineOf, Listed}

@@ -6,7 +6,7 @@ use listing_lines::printing::put_line;
 ghost use mathlib.Core.Path.{_≡_};
 ghost use Prim.Native.Nat.{_+_, _≤_};
 ghost use lib.ListN.{length};
-ghost use Rattle.listing_lines.specs.Puts.{lineRoom};
+ghost use Rattle.listing_lines.specs.Rooms.{lineRoom};
 ghost use Rattle.listing_message.specs.Outcome.{Tells, Answers, Listed};
 
 // The numbers of a message's line.

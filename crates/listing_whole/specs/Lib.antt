@@ -1,6 +1,5 @@
 pub mod EmptyLaws
 pub mod Lines
 pub mod LinesLaws
-pub mod Ahead
 pub mod Walked
 pub mod WalkLaws

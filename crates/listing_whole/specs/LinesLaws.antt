@@ -7,7 +7,7 @@ use native.Mathlib.Omega.{arith}
 use lib.ListN.{length, take, drop, length-append, length-drop}
 use Rattle.model.specs.Calls.{Delivered}
 use Rattle.model.specs.Program.{printedLine, lastLine, badCut, linesFrom}
-use Rattle.listing_lines.specs.Puts.{lineRoom}
+use Rattle.listing_lines.specs.Rooms.{lineRoom}
 use Rattle.listing_lines.specs.LineSizes.{line-few, last-few}
 use Rattle.listing_message.specs.Cut.{sizeOf}
 use Rattle.listing_message.specs.CutLaws.{cut-size}

@@ -4,18 +4,20 @@ use mathlib.Core.Bool.{true}
 use mathlib.Core.List.{List, _++_}
 use Prim.Native.Nat.{ℕ, suc, _+_, _-_, _≤_, _<_}
 use native.Mathlib.Omega.{arith}
-use lib.ListN.{length, take, drop, length-take, length-drop, drop-of-length-le}
-use lib.Seq.{drop-drop, take-length, take-all, take-append-seam}
+use lib.ListN.{length, take, drop, length-drop, drop-of-length-le}
+use lib.Seq.{drop-drop, take-all}
 use Rattle.model.specs.Layout.{imageSize, inputLimit}
 use Rattle.model.specs.Image.{imageOf}
-use Rattle.model.specs.Calls.{emptyState, written}
+use Rattle.model.specs.Calls.{emptyState}
 use Rattle.model.specs.Program.{printedLine, lastLine, badCut, listing}
-use Rattle.listing_lines.specs.Puts.{Puts, lineRoom, lastRoom}
+use Rattle.decimal.specs.Puts.{Puts}
+use Rattle.decimal.specs.Front.{Prints, puts-prints}
+use Rattle.decimal.specs.Ahead.{Ahead, ahead-all, ahead-next, ahead-done}
+use Rattle.listing_lines.specs.Rooms.{lineRoom, lastRoom}
 use Rattle.listing_message.specs.Cut.{RightCut}
 use Rattle.listing_message.specs.Outcome.{answered, lineOf, Listed}
-use Rattle.listing_whole.specs.Lines.{lines, roomFor, Lists}
+use Rattle.listing_whole.specs.Lines.{lines, roomFor}
 use Rattle.listing_whole.specs.LinesLaws.{lines-end, lines-wrong, lines-next, lines-few}
-use Rattle.listing_whole.specs.Ahead.{Ahead, ahead-next, ahead-done}
 use Rattle.listing_whole.specs.Walked.{Walked}
 
 -- the lines from a message on, in the code's terms
@@ -46,7 +48,7 @@ walk-begin input image out h k = record {
   room = omega arith;
   image-size = h;
   out-size = refl;
-  ahead = record { size = omega arith; bytes = refl };
+  ahead = ahead-all (lines 1 image input) out 0;
 }
 
 module _ {input begun entry image out : List ℕ} {number from at : ℕ} (w : Walked input begun entry image out number from at) where
@@ -60,9 +62,9 @@ module _ {input begun entry image out : List ℕ} {number from at : ℕ} (w : Wa
     image-size = same-image ∙ w .image-size;
     out-size = same-out ∙ w .out-size;
     ahead =
-        subst (λ (i : List ℕ). Ahead (lines 1 begun input) entry out-exit r (lines (number + 1) i (drop (from + size) input))) (sym (l .image-after))
+        subst (λ (i : List ℕ). Ahead (lines 1 begun input) entry 0 out-exit r (lines (number + 1) i (drop (from + size) input))) (sym (l .image-after))
         (ahead-next (omega (arith, w .room))
-        (subst (Ahead (lines 1 begun input) entry out at) (line-and-rest input image number from size h c) (w .ahead))
+        (subst (Ahead (lines 1 begun input) entry 0 out at) (line-and-rest input image number from size h c) (w .ahead))
         (l .line));
   }
 
@@ -70,37 +72,21 @@ module _ {input begun entry image out : List ℕ} {number from at : ℕ} (w : Wa
       → Puts out at (lineRoom + lastRoom) (printedLine number 3 0 0 ++ lastLine image) r exit → Puts entry 0 (roomFor (length input)) (lines 1 begun input) r exit
   walk-wrong h e p =
       ahead-done (lines-few 1 begun input)
-      (subst (Ahead (lines 1 begun input) entry out at) (lines-wrong number image (drop from input) (omega (arith, length-drop from input)) e) (w .ahead))
+      (subst (Ahead (lines 1 begun input) entry 0 out at) (lines-wrong number image (drop from input) (omega (arith, length-drop from input)) e) (w .ahead))
       p
 
   pub walk-end : {r : ℕ} {exit : List ℕ} → length input ≤ from → Puts out at lastRoom (lastLine image) r exit
       → Puts entry 0 (roomFor (length input)) (lines 1 begun input) r exit
   walk-end h p =
       ahead-done (lines-few 1 begun input)
-      (subst (Ahead (lines 1 begun input) entry out at) (ap (lines number image) (drop-of-length-le input {i = from} h) ∙ lines-end number image) (w .ahead))
+      (subst (Ahead (lines 1 begun input) entry 0 out at) (ap (lines number image) (drop-of-length-le input {i = from} h) ∙ lines-end number image) (w .ahead))
       p
 
 -- the lines of what is read of an input, from no deltas on, are its listing
-pub lists : {input read image entry exit : List ℕ} {k r : ℕ} → read ≡ take inputLimit input → image ≡ imageOf emptyState
-    → Puts entry 0 k (lines 1 image read) r exit → Lists input entry r exit
+pub lists : (input : List ℕ) {read image entry exit : List ℕ} {k r : ℕ} → read ≡ take inputLimit input → image ≡ imageOf emptyState
+    → Puts entry 0 k (lines 1 image read) r exit → Prints (listing input) entry r exit
 unfolding lines listing
-lists {input} {read} {image} {entry} {exit} {k} {r} e f p = record {
-  size = p .end ∙ omega (arith, ap length is);
-  printed = p .bytes ∙ ap₂ (λ (t d : List ℕ). t ++ d) (take-length text) (ap (λ (n : ℕ). drop n entry) {x = 0 + length text} {y = length text} (omega arith)) ∙ ap (λ (t : List ℕ). written t entry) is;
-}
+lists input {read} {image} {entry} {exit} {k} {r} e f p = subst (λ (t : List ℕ). Prints t entry r exit) is (puts-prints p)
   where
-    text : List ℕ
-    text = lines 1 image read
-
     is : lines 1 image read ≡ listing input
     is = ap₂ (λ (b l : List ℕ). lines 1 b l) f e
-
--- so the listing is what stands at the front of the buffer, and lies within it
-lists-front : {input entry exit : List ℕ} {r : ℕ} → Lists input entry r exit → take r exit ≡ listing input
-lists-front {input} {entry} {exit} {r} l =
-    ap₂ (λ (n : ℕ) (b : List ℕ). take n b) (l .size) (l .printed) ∙ take-append-seam (listing input) (drop (length (listing input)) entry)
-
-pub lists-counts : {input entry exit : List ℕ} {r : ℕ} → Lists input entry r exit → (r ≤ length exit) × (r ≡ length (take r exit))
-lists-counts {exit = exit} {r = r} l =
-    let counts : r ≡ length (take r exit) = l .size ∙ ap length (sym (lists-front l)) in
-    (omega (arith, length-take r exit), counts)

@@ -14,9 +14,11 @@ ghost use mathlib.Core.List.{_++_};
 ghost use Prim.Native.Nat.{_+_, _≤_};
 ghost use lib.ListN.{length, take};
 ghost use Rattle.model.specs.Layout.{imageSize, inputLimit};
-ghost use Rattle.model.specs.Program.{printedLine, lastLine};
-ghost use Rattle.listing_lines.specs.Puts.{Puts, lineRoom, lastRoom};
-ghost use Rattle.listing_whole.specs.Lines.{lines, roomFor, Lists};
+ghost use Rattle.model.specs.Program.{printedLine, lastLine, listing};
+ghost use Rattle.decimal.specs.Front.{Prints};
+ghost use Rattle.decimal.specs.Puts.{Puts};
+ghost use Rattle.listing_lines.specs.Rooms.{lineRoom, lastRoom};
+ghost use Rattle.listing_whole.specs.Lines.{lines, roomFor};
 
 // Writes the line of a wrong cut and the last line.
 fn put_wrong_cut(out: &mut [u8], at: usize, number: usize, image: &[u8]) -> usize
@@ -60,7 +62,7 @@ fn read_part(input: &[u8]) -> &[u8]
 
 // The listing of an input, at the front of a buffer that is proved to hold it; answers how long it is.
 pub fn list(input: &[u8], out: &mut [u8; LISTING_ROOM]) -> usize
-    ensures { λ r. ⌜ Lists (now (input .entry)) (now (out .entry)) r (now (out .exit)) ⌝ }
+    ensures { λ r. ⌜ Prints (listing (now (input .entry))) (now (out .entry)) r (now (out .exit)) ⌝ }
 {
     let mut image = [0u8; IMAGE_SIZE];
     let emptying = empty(&mut image);

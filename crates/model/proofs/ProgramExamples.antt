@@ -9,7 +9,7 @@ use Rattle.model.proofs.ExampleMessages.{a1, b1}
 
 -- ---- a number and its digits
 numbers : List (ℕ × List ℕ)
-numbers = (0, 48 ∷ []) ∷ (9, 57 ∷ []) ∷ (10, 49 ∷ 48 ∷ []) ∷ (1250, 49 ∷ 50 ∷ 53 ∷ 48 ∷ []) ∷ (60000, 54 ∷ 48 ∷ 48 ∷ 48 ∷ 48 ∷ []) ∷ []
+numbers = (0, 48 ∷ []) ∷ (9, 57 ∷ []) ∷ (10, 49 ∷ 48 ∷ []) ∷ (1250, 49 ∷ 50 ∷ 53 ∷ 48 ∷ []) ∷ (60000, 54 ∷ 48 ∷ 48 ∷ 48 ∷ 48 ∷ []) ∷ (1000000, 49 ∷ replicate 6 48) ∷ []
 
 numbers-hold : map (λ e. decimal (e .0)) numbers ≡ map (λ e. e .1) numbers
 unfolding numbers

@@ -12,13 +12,13 @@ use Rattle.model.specs.Text.{textOf, sequenceBytesIn}
 use Rattle.model.specs.Codes.{lowestCode, readSequencesConditions, writeSequencesConditions}
 use Rattle.model.specs.Calls.{emptyState, deliver}
 
--- A number in decimal: its last `n` digits, without zeros in front. No number that is printed has more than five.
+-- A number in decimal: its last `n` digits, without zeros in front. No number that is printed has more than seven.
 abbrev pub digits : ℕ → ℕ → List ℕ
 digits zero x = []
 digits (suc n) x = cond (ltb x 10) [] (digits n (x / 10)) ++ (48 + x % 10) ∷ []
 
 abbrev pub decimal : ℕ → List ℕ
-decimal x = digits 5 x
+decimal x = digits 7 x
 
 -- "Each line: message number from 1, code, undos, executions."
 unfoldable pub printedLine : ℕ → ℕ → ℕ → ℕ → List ℕ

@@ -1,5 +1,5 @@
 -- The listing lies within the buffer.
-use Rattle.listing_whole.specs.WalkLaws.{lists-counts}
+use Rattle.decimal.specs.Front.{prints-counts}
 use borrow.Author.Needs.{needs}
 use Rattle.listing.proofs.print_listing.Statement.{statement}
 use Rattle.listing.proofs.print_listing.Tie as tie
@@ -8,10 +8,10 @@ list-requires : tie.Need-list-requires
 list-requires c κs = search needs
 
 array-share-prefix-out : tie.Need-array-share-prefix-out
-array-share-prefix-out c = lists-counts (c .list .ensures) .0
+array-share-prefix-out c = prints-counts (c .list .ensures) .0
 
 slice-aggregate-write-all : tie.Need-slice-aggregate-write-all
-slice-aggregate-write-all c = lists-counts (c .before .list .ensures) .1
+slice-aggregate-write-all c = prints-counts (c .before .list .ensures) .1
 
 write-all-requires : tie.Need-write-all-requires
 write-all-requires c κs = search needs

@@ -1,5 +1,5 @@
 -- The words with the counts behind them are the last line.
-use Rattle.listing_lines.specs.PutsLaws.{last-puts}
+use Rattle.listing_lines.specs.LineLaws.{last-puts}
 use borrow.Author.Needs.{needs}
 use Rattle.listing_lines.proofs.printing.put_last.Statement.{statement}
 use Rattle.listing_lines.proofs.printing.put_last.Tie as tie

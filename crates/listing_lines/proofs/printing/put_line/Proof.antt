@@ -1,6 +1,6 @@
 -- The numbers with the bytes between them are the line.
 use native.Mathlib.Omega.{arith}
-use Rattle.listing_lines.specs.PutsLaws.{line-puts}
+use Rattle.listing_lines.specs.LineLaws.{line-puts}
 use borrow.Author.Needs.{needs}
 use Rattle.listing_lines.proofs.printing.put_line.Statement.{statement}
 use Rattle.listing_lines.proofs.printing.put_line.Tie as tie

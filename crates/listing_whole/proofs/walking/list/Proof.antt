@@ -45,7 +45,8 @@ returns-2 c =
     let read = put .before .before .before in
     let begun = read .before in
     let e = begun .before .before .before in
-    lists (read .read-part .ensures) (emptied _ (e .empty .last .0) (e .empty .result) refl (e .empty .ensures) (begun .enum-told .given .1)) (put .list-messages .ensures)
+    let start = e .before .before .before in
+    lists (start .args .input .now) (read .read-part .ensures) (emptied _ (e .empty .last .0) (e .empty .result) refl (e .empty .ensures) (begun .enum-told .given .1)) (put .list-messages .ensures)
 
 pub list-spec : {M : Type 1} → statement M
 list-spec =

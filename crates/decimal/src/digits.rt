@@ -6,7 +6,7 @@ ghost use mathlib.Core.Path.{_≡_};
 ghost use mathlib.Core.List.{_++_};
 ghost use Prim.Native.Nat.{_+_, _≤_};
 ghost use lib.ListN.{length, drop};
-ghost use Rattle.listing_lines.specs.Puts.{Puts, digitsRoom, numeral};
+ghost use Rattle.decimal.specs.Puts.{Puts, digitsRoom, numeral};
 
 // Writes the digits of a number to the end of a text, from the last to the first, and answers where the first stands.
 fn spell(text: &mut [u8], x: usize) -> usize

@@ -1,16 +1,16 @@
 -- The digits that stand from the first on are the number.
-use Rattle.listing_lines.specs.DigitLaws.{numeral-few}
-use Rattle.listing_lines.specs.PutsLaws.{puts-as}
+use Rattle.decimal.specs.DigitLaws.{numeral-few}
+use Rattle.decimal.specs.PutsLaws.{puts-as}
 use mathlib.Core.Path.{_∙_}
 use mathlib.Core.List.{List}
 use Prim.Native.Nat.{ℕ, _-_, _≤_}
 use native.Mathlib.Omega.{arith}
 use lib.ListN.{length, drop, length-drop}
 use lib.Seq.{take-all}
-use Rattle.listing_lines.specs.Puts.{digitsRoom}
+use Rattle.decimal.specs.Puts.{digitsRoom}
 use borrow.Author.Needs.{needs}
-use Rattle.listing_lines.proofs.digits.put_decimal.Statement.{statement}
-use Rattle.listing_lines.proofs.digits.put_decimal.Tie as tie
+use Rattle.decimal.proofs.digits.put_decimal.Statement.{statement}
+use Rattle.decimal.proofs.digits.put_decimal.Tie as tie
 
 slice-aggregate-spell : tie.Need-slice-aggregate-spell
 slice-aggregate-spell c = search needs

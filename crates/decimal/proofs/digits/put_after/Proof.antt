@@ -1,9 +1,9 @@
 -- The number stands behind the text.
 use native.Mathlib.Omega.{arith}
-use Rattle.listing_lines.specs.PutsLaws.{puts-puts}
+use Rattle.decimal.specs.PutsLaws.{puts-puts}
 use borrow.Author.Needs.{needs}
-use Rattle.listing_lines.proofs.digits.put_after.Statement.{statement}
-use Rattle.listing_lines.proofs.digits.put_after.Tie as tie
+use Rattle.decimal.proofs.digits.put_after.Statement.{statement}
+use Rattle.decimal.proofs.digits.put_after.Tie as tie
 
 put-text-requires : tie.Need-put-text-requires
 put-text-requires c κs = search needs

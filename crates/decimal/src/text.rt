@@ -2,7 +2,7 @@
 use buffer_writes::copy_at;
 ghost use Prim.Native.Nat.{_+_, _≤_};
 ghost use lib.ListN.{length};
-ghost use Rattle.listing_lines.specs.Puts.{Puts};
+ghost use Rattle.decimal.specs.Puts.{Puts};
 
 // Writes a text from a place on, and answers the place behind it.
 pub fn put_text(out: &mut [u8], at: usize, text: &[u8]) -> usize

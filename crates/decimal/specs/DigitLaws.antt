@@ -9,7 +9,7 @@ use lib.Seq.{drop-cons, lt-length-set, getD-set-same, drop-set-lt}
 use lib.Dec.{ltb}
 use borrow.Author.Tests.{lt-ltb, le-ltb}
 use Rattle.model.specs.Program.{digits}
-use Rattle.listing_lines.specs.Puts.{digitsRoom, numeral}
+use Rattle.decimal.specs.Puts.{digitsRoom, numeral}
 
 -- at most as many as are asked for
 digits-few : (n x : ℕ) → length (digits n x) ≤ n

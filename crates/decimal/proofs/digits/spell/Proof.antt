@@ -6,10 +6,10 @@ use native.Mathlib.Omega.{arith}
 use lib.ListN.{length, drop, length-set}
 use borrow.Author.Needs.{needs}
 use Rattle.model.specs.Program.{digits}
-use Rattle.listing_lines.specs.Puts.{digitsRoom, numeral}
-use Rattle.listing_lines.specs.DigitLaws.{spelled-none, spelled-first, spelled-next, spelled-all}
-use Rattle.listing_lines.proofs.digits.spell.Statement.{statement}
-use Rattle.listing_lines.proofs.digits.spell.Tie as tie
+use Rattle.decimal.specs.Puts.{digitsRoom, numeral}
+use Rattle.decimal.specs.DigitLaws.{spelled-none, spelled-first, spelled-next, spelled-all}
+use Rattle.decimal.proofs.digits.spell.Statement.{statement}
+use Rattle.decimal.proofs.digits.spell.Tie as tie
 
 abbrev Inv-loop : tie.InvT-loop
 Inv-loop text₀ x first₀ rest₀ text first rest = (first ≤ digitsRoom) × ((length text ≡ digitsRoom) × (digits first rest ++ drop first text ≡ numeral x))

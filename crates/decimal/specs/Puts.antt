@@ -6,15 +6,9 @@ use lib.ListN.{length}
 use lib.Seq.{paste}
 use Rattle.model.specs.Program.{decimal}
 
--- the most bytes of a number, of a message's line, and of the last line
+-- the most digits of a number
 abbrev pub digitsRoom : ℕ
-digitsRoom = 5
-
-abbrev pub lineRoom : ℕ
-lineRoom = 24
-
-abbrev pub lastRoom : ℕ
-lastRoom = 21
+digitsRoom = 7
 
 -- A number in decimal, under a name that stays shut.
 unfoldable pub numeral : ℕ → List ℕ
