@@ -13,11 +13,12 @@ use Rattle.model.specs.Layout.{imageSize, stepSize, stepRoom, messageRoom, line
 use Rattle.model.specs.Message.{Message, layoutRight, numbersRight, dependenciesRight, contentRight, commandRight, passes}
 use Rattle.model.specs.Order.{stateOf, needs, executablesOf, logOf, heldOf}
 use Rattle.model.specs.Setpoints.{startValues, stop, raise, operate, changeOf, apply, runCommand, runDelta, changesOf, setpointsOf}
-use Rattle.model.specs.Image.{messagesStart, messagesOf, valuesOf, headerOf, sectionsOf, usedOf, imageOf, messagesStartIn, setOf, isImage}
+use Rattle.model.specs.Image.{messagesStart, messagesOf, valuesOf, headerOf, sectionsOf, usedOf, imageOf, messagesStartIn, offsetOf, setOf, isImage}
 use Rattle.model.specs.Steps.{Step, undo, execute, executionOf, undoOf, recordsOf, recordBytes, readRecord, readSteps}
+use Rattle.model.specs.Text.{characterOf}
 use Rattle.model.specs.Compose.{messageOf, newDependencies, composed}
 use Rattle.model.specs.Calls.{emptyState, Emptied, empty, Delivered, deliver, deliverCode, Composed, compose, composeCode, logMessage, logMessageCode, Setpoint, setpoint, Reader, start, next}
-use Rattle.model.specs.Program.{printedLine, lastLine, badCut, linesFrom, listing}
+use Rattle.model.specs.Program.{printedLine, lastLine, badCut, linesFrom, listing, printedValue, printedCommand, logLine, printedLog}
 use Rattle.model.proofs.ExampleMessages.{A, B, C, command, plain, urgent, right, a1, a2, b1, c2, b1-5, a1-value, lines, lineA, lineC}
 
 -- ---- a buffer that is lent as an image
@@ -48,6 +49,7 @@ data Input : Type 0 where
   -- so many nexts from the start
   readLog : Buffer → ℕ → Input
   list : List ℕ → Input
+  printLog : Buffer → Input
 
 data Outcome : Type 0 where
   -- the code, and whether the buffer is as it was
@@ -97,6 +99,7 @@ onImage (logMessageOf at place) b = part (logMessage b place) (logMessageCode b 
 onImage (setpointOf at tag) b = showSetpoint (setpoint b tag)
 onImage (readLog at n) b = parts (start b .offset) (nexts n (start b))
 onImage (list input) b = printed (listing input)
+onImage (printLog at) b = printed (printedLog b)
 
 abbrev bufferOf : Input → Buffer
 bufferOf (emptyOn size) = none
@@ -106,6 +109,7 @@ bufferOf (logMessageOf b place) = b
 bufferOf (setpointOf b tag) = b
 bufferOf (readLog b n) = b
 bufferOf (list input) = none
+bufferOf (printLog b) = b
 
 abbrev outcomeOf : Input → Outcome
 outcomeOf i = onImage i (bytesOf (bufferOf i))
@@ -199,9 +203,19 @@ examples =
       printed (49 ∷ 32 ∷ 51 ∷ 32 ∷ 48 ∷ 32 ∷ 48 ∷ 10
           ∷ 108 ∷ 111 ∷ 103 ∷ 32 ∷ 48 ∷ 32 ∷ 104 ∷ 101 ∷ 108 ∷ 100 ∷ 32 ∷ 48 ∷ 10 ∷ []),
     )
+    -- ---- `print_log`. "0 272 48 00000000000A000000010001 3 1500", "1 320 48 00000000000B000000010001 3 -20", and C2, held, is not printed.
+    ∷ (
+      printLog station,
+      printed (48 ∷ 32 ∷ 50 ∷ 55 ∷ 50 ∷ 32 ∷ 52 ∷ 56 ∷ 32 ∷ replicate 11 48 ++ 65 ∷ replicate 7 48 ++ 49 ∷ 48 ∷ 48 ∷ 48 ∷ 49 ∷ 32 ∷ 51 ∷ 32 ∷ 49 ∷ 53 ∷ 48 ∷ 48 ∷ 10
+          ∷ 49 ∷ 32 ∷ 51 ∷ 50 ∷ 48 ∷ 32 ∷ 52 ∷ 56 ∷ 32 ∷ replicate 11 48 ++ 66 ∷ replicate 7 48 ++ 49 ∷ 48 ∷ 48 ∷ 48 ∷ 49 ∷ 32 ∷ 51 ∷ 32 ∷ 45 ∷ 50 ∷ 48 ∷ 10 ∷ []),
+    )
+    -- an empty log, and the two refusals
+    ∷ (printLog none, printed [])
+    ∷ (printLog short, printed (49 ∷ 10 ∷ []))
+    ∷ (printLog noMessage, printed (50 ∷ 10 ∷ []))
     ∷ []
 
 -- Every example has the outcome that stands beside it.
 examples-hold : map (λ e. outcomeOf (e .0)) examples ≡ map (λ e. e .1) examples
-unfolding examples empty deliver deliverCode compose composeCode logMessage logMessageCode setpoint start next listing linesFrom badCut printedLine lastLine composed newDependencies isImage imageOf usedOf sectionsOf headerOf valuesOf messagesOf messagesStart messagesStartIn setpointsOf startValues logOf heldOf executablesOf needs readRecord recordBytes recordsOf executionOf undoOf changesOf runDelta runCommand apply changeOf operate raise stop passes layoutRight numbersRight dependenciesRight contentRight commandRight
+unfolding examples empty deliver deliverCode compose composeCode logMessage logMessageCode setpoint start next listing linesFrom badCut printedLine lastLine printedLog logLine printedCommand printedValue characterOf offsetOf composed newDependencies isImage imageOf usedOf sectionsOf headerOf valuesOf messagesOf messagesStart messagesStartIn setpointsOf startValues logOf heldOf executablesOf needs readRecord recordBytes recordsOf executionOf undoOf changesOf runDelta runCommand apply changeOf operate raise stop passes layoutRight numbersRight dependenciesRight contentRight commandRight
 examples-hold = refl

@@ -1,15 +1,17 @@
--- The programs, each as a function from the bytes of its input to the bytes that it prints: the listing, and `sequences`.
+-- The programs, each as a function from the bytes of its input to the bytes that it prints: the listing, `sequences`, and `print_log`.
 use mathlib.Core.Bool.{Bool, cond, _&&_, _||_}
-use mathlib.Core.List.{List, [], _∷_, _++_}
+use mathlib.Core.List.{List, [], _∷_, _++_, map}
 use Prim.Native.Nat.{ℕ, zero, suc, _+_, _-_, _/_, _%_}
 use lib.ListN.{length, take, drop, getD, replicate}
 use lib.Dec.{eqb, ltb, leb}
+use lib.IntN.{ℤ, pos, negsuc}
 use Rattle.model.specs.Lists.{every}
-use Rattle.model.specs.Bytes.{field}
-use Rattle.model.specs.Layout.{lengthAt, stepRoom, inputLimit, shortestCut, longestCut, sequencesRoom, textRoom}
-use Rattle.model.specs.Image.{imageOf, logCount, heldCount}
-use Rattle.model.specs.Text.{textOf, sequenceBytesIn}
-use Rattle.model.specs.Codes.{lowestCode, readSequencesConditions, writeSequencesConditions}
+use Rattle.model.specs.Bytes.{field, join}
+use Rattle.model.specs.Layout.{lengthAt, sequenceAt, sequenceSize, tagAt, stepRoom, inputLimit, shortestCut, longestCut, sequencesRoom, textRoom}
+use Rattle.model.specs.Message.{Message, commandsOf, valueOf}
+use Rattle.model.specs.Image.{imageOf, logCount, heldCount, logIn, messageOffset}
+use Rattle.model.specs.Text.{charactersOf, textOf, sequenceBytesIn}
+use Rattle.model.specs.Codes.{lowestCode, readConditions, readSequencesConditions, writeSequencesConditions}
 use Rattle.model.specs.Calls.{emptyState, deliver}
 
 -- A number in decimal: its last `n` digits, without zeros in front. No number that is printed has more than seven.
@@ -82,3 +84,35 @@ unfoldable pub otherForm : List ℕ → Printed
 otherForm input =
     let text = withoutLineFeed input in
     cond (every printable text) (printedSequences text) (printedText input)
+
+-- ---- the program `print_log`: the log that stands in an image
+-- "a negative value has `-` before its digits"
+unfoldable pub printedValue : ℤ → List ℕ
+printedValue (pos n) = decimal n
+printedValue (negsuc n) = 45 ∷ decimal (suc n)
+
+-- "for each of its commands, in order, the tag and the value"
+unfoldable pub printedCommand : List ℕ → List ℕ
+printedCommand c = 32 ∷ decimal (field c tagAt 1) ++ 32 ∷ printedValue (valueOf c)
+
+abbrev pub printedCommands : List (List ℕ) → List ℕ
+printedCommands l = join (map printedCommand l)
+
+-- "the place in the log, from 0; the offset in the image at which the message starts; the message's length; its sequence"
+unfoldable pub logLine : ℕ → ℕ → Message → List ℕ
+logLine place offset m =
+    decimal place ++ 32 ∷ decimal offset ++ 32 ∷ decimal (length m) ++ 32 ∷ charactersOf (take sequenceSize (drop sequenceAt m))
+    ++ printedCommands (commandsOf m) ++ 10 ∷ []
+
+-- "one line for each message of the log, from first to last": those from a place on.
+abbrev pub logLines : List ℕ → ℕ → List Message → List ℕ
+logLines b place [] = []
+logLines b place (m ∷ l) = logLine place (messageOffset b place) m ++ logLines b (suc place) l
+
+-- "Refused: standard output has the code in decimal and a line feed"
+abbrev pub logAnswer : ℕ → List ℕ → List ℕ
+logAnswer zero b = logLines b 0 (logIn b)
+logAnswer (suc n) b = decimal (suc n) ++ 10 ∷ []
+
+unfoldable pub printedLog : List ℕ → List ℕ
+printedLog input = logAnswer (lowestCode (readConditions input)) input
