@@ -88,20 +88,20 @@ take-min n l = ⊎-elim within past (decide (leb n (length l)))
 
 -- ---- one call of next on a reader at a place of the log
 -- (over the log's messages alone: past the last of them nothing is added, and the reader stays)
-abbrev logOffset : List ℕ → ℕ → ℕ
+abbrev pub logOffset : List ℕ → ℕ → ℕ
 logOffset b k = offsetOf (messagesStartIn b) (logIn b) k
 
-abbrev readerAt : List ℕ → ℕ → model.Reader
+abbrev pub readerAt : List ℕ → ℕ → model.Reader
 readerAt b k = record { image = b; offset = logOffset b k }
 
 module _ (b : List ℕ) (accepted : lowestCode (readConditions b) ≡ 0) where
   full : (m : Message) → m ∈ logIn b → 0 < length m
   full = log-full b (code-image b accepted .1)
 
-  abbrev message : ℕ → Message
+  abbrev pub message : ℕ → Message
   message k = getD (logIn b) k []
 
-  next-at : (k : ℕ) → model.next (readerAt b k) ≡ readOf (message k) (readerAt b (suc k))
+  pub next-at : (k : ℕ) → model.next (readerAt b k) ≡ readOf (message k) (readerAt b (suc k))
   unfolding model.next
   next-at k =
       let m : nextMessage (lowestCode (readConditions b)) b (logOffset b k) ≡ message k =
