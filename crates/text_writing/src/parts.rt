@@ -13,7 +13,7 @@ ghost use Rattle.model.specs.Text.{charactersOf};
 ghost use Rattle.text_writing.specs.Parts.{PartWritable, TextWritable, TextPut};
 
 // The characters of the sequence that starts at a place.
-fn put_characters(text: &mut [u8], at: usize, sequences: &[u8], from: usize)
+pub fn put_characters(text: &mut [u8], at: usize, sequences: &[u8], from: usize)
     requires { ⌜ PartWritable (now text) at (now sequences) from ⌝ }
     ensures { λ _. ⌜ now (text .exit) ≡ paste (now (text .entry)) at (charactersOf (take sequenceSize (drop from (now (sequences .entry))))) charactersSize ⌝ }
 {

@@ -1,0 +1,60 @@
+-- The invariant: the commands that are printed, with those that are left, are all.
+use Prim.Native.Nat.{_-_}
+use native.Mathlib.Omega.{arith}
+use lib.ListN.{length}
+use Rattle.print_log_line.specs.Commands.{Putting}
+use Rattle.print_log_line.specs.CommandLaws.{putting-first, putting-next, putting-end}
+use Rattle.print_log_line.proofs.commands.put_commands.Statement.{statement}
+use Rattle.print_log_line.proofs.commands.put_commands.Tie as tie
+
+abbrev Inv-loop : tie.InvT-loop
+Inv-loop out₀ at commands next₀ from₀ out next from = Putting commands out₀ at out next from
+
+abbrev μ-loop : tie.MeasureT-loop
+μ-loop out₀ at commands next₀ from₀ out next from = length commands - from
+
+loop-holds : tie.Need-loop-holds Inv-loop μ-loop
+loop-holds c = putting-first (c .before .before .pre .1)
+
+sub-loop : tie.Need-sub-loop Inv-loop μ-loop
+sub-loop c = c .loop .inv .inside
+
+put-command-requires : tie.Need-put-command-requires Inv-loop μ-loop
+put-command-requires c κs =
+    let l = c .before .before in
+    let start = l .before .before .before in
+    (omega (arith, l .loop .inv .room, l .loop .inv .size), omega (arith, c .before .loop-test .taken, l .loop .inv .inside))
+
+add-from : tie.Need-add-from Inv-loop μ-loop
+add-from c = omega (arith, c .before .before .before .before .loop-test .taken, c .before .before .before .before .before .loop .inv .inside)
+
+loop-less : tie.Need-loop-less Inv-loop μ-loop
+loop-less c = omega (arith, c .before .before .before .before .loop-test .taken)
+
+loop-again : tie.Need-loop-again Inv-loop μ-loop
+loop-again c =
+    let put = c .before .before in
+    let l = put .before .before .before in
+    let start = l .before .before .before in
+    putting-next (l .loop .inv) (start .pre .0) (omega (arith, put .before .before .loop-test .taken, l .loop .inv .inside)) (put .put-command .ensures) (put .put-command .kept .0)
+
+same-length : tie.Need-same-length Inv-loop μ-loop
+same-length c = c .before .loop .inv .size
+
+returns : tie.Need-returns Inv-loop μ-loop
+returns c = putting-end (c .before .loop .inv) (c .loop-test .left)
+
+pub put-commands-spec : {M : Type 1} → statement M
+put-commands-spec =
+    tie.close
+    (tie.spec
+    Inv-loop
+    μ-loop
+    loop-holds
+    sub-loop
+    put-command-requires
+    add-from
+    loop-less
+    loop-again
+    same-length
+    returns)

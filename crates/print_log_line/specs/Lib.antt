@@ -1,0 +1,6 @@
+pub mod Rooms
+pub mod ValueLaws
+pub mod Commands
+pub mod CommandLaws
+pub mod Lines
+pub mod LineLaws
