@@ -1,0 +1,49 @@
+-- Log message finds a message exactly where its code is 0.
+use mathlib.Core.Path.{sym, _∙_, ap}
+use Prim.Native.Nat.{ℕ}
+use lib.Dec.{eqb}
+use Rattle.reading.specs.Answers.{lookupBy}
+use borrow.Author.Needs.{needs}
+use Rattle.print_log_whole.proofs.printing.is_logged.Statement.{statement}
+use Rattle.print_log_whole.proofs.printing.is_logged.Tie as tie
+
+log-message-code-requires : tie.Need-log-message-code-requires
+log-message-code-requires c κs = search needs
+
+enum-told : tie.Need-enum-told
+enum-told c = search needs
+
+enum-told-2 : tie.Need-enum-told-2
+enum-told-2 c = search needs
+
+enum-told-3 : tie.Need-enum-told-3
+enum-told-3 c = search needs
+
+enum-told-4 : tie.Need-enum-told-4
+enum-told-4 c = search needs
+
+returns : tie.Need-returns
+returns c = ap (λ (n : ℕ). eqb n 0) (sym (ap lookupBy (c .enum-told .given .1)) ∙ c .before .before .log-message-code .ensures)
+
+returns-2 : tie.Need-returns-2
+returns-2 c = ap (λ (n : ℕ). eqb n 0) (sym (ap lookupBy (c .enum-told2 .given .1)) ∙ c .before .before .log-message-code .ensures)
+
+returns-3 : tie.Need-returns-3
+returns-3 c = ap (λ (n : ℕ). eqb n 0) (sym (ap lookupBy (c .enum-told3 .given .1)) ∙ c .before .before .log-message-code .ensures)
+
+returns-4 : tie.Need-returns-4
+returns-4 c = ap (λ (n : ℕ). eqb n 0) (sym (ap lookupBy (c .enum-told4 .given .1)) ∙ c .before .before .log-message-code .ensures)
+
+pub is-logged-spec : {M : Type 1} → statement M
+is-logged-spec =
+    tie.close
+    (tie.spec
+    log-message-code-requires
+    enum-told
+    enum-told-2
+    enum-told-3
+    enum-told-4
+    returns
+    returns-2
+    returns-3
+    returns-4)

@@ -1,0 +1,4 @@
+pub mod Printing
+pub mod CodeLaws
+pub mod PrintingLaws
+pub mod InputLaws
