@@ -1,5 +1,6 @@
 -- What is promised of the calls, over what they were proved to leave behind, their own postconditions: each promise at its full type,
--- under the words of documents 01 and 02. A buffer is a list of bytes. The proofs stand in the crates below.
+-- under the words of documents 01 and 02. A buffer is a list of bytes; `×` is and, `⊎` or, `¬` not, `↔` exactly if, `∈` that a list has it.
+-- The proofs stand in the crates below.
 use mathlib.Core.Path.{_≡_}
 use mathlib.Core.Logic.{_↔_, _⊎_}
 use mathlib.Core.Bool.{true}
@@ -66,8 +67,7 @@ reader-refuses t buffer a c = refuses (read-sequences-codes t buffer a c)
 writer-refuses : (b buffer : List ℕ) (a : Converted) → WrittenFrom b buffer a → Refuses (writeSequencesConditions b (length buffer)) (a .code) ((a .size ≡ 0) × (a .buffer ≡ buffer))
 writer-refuses b buffer a c = refuses (write-sequences-codes b buffer a c)
 
--- ---- DEMANDS 3 AND 2, as the host sees them: `bivamolune_empty` answered 0 and wrote the image b, and then `bivamolune_deliver` was called,
--- each time on the image as the last call left it. In a list of calls the latest stands first.
+-- ---- DEMANDS 3 AND 2, as the host sees them: `bivamolune_empty` wrote the image b, and each `bivamolune_deliver` got it as the last call left it. The latest call stands first.
 module _ (given : Given) (b : List ℕ) (begun : Began HostEmptied given b) where
   module _ (call : Event) (earlier : List Event) (run : Run (Answered HostDelivered) b (call ∷ earlier)) where
     -- "Deliver answers 0 exactly where the plain station accepts, and otherwise the lowest number that applies."
