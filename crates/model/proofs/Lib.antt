@@ -3,6 +3,7 @@ pub mod ExampleEvents
 pub mod MessageExamples
 pub mod GroundExamples
 pub mod ListingExamples
+pub mod RingExamples
 pub mod StationExamples
 pub mod SetpointExamples
 pub mod ImageExamples
