@@ -1,7 +1,7 @@
 -- A command's tag and value, one behind the other, are what is printed of it; and from one command to the next.
 use mathlib.Core.Path.{_≡_, refl, sym, _∙_, ap, ap₂, subst}
 use mathlib.Core.List.{List, [], _∷_, _++_}
-use Prim.Native.Nat.{ℕ, _+_, _*_, _-_, _≤_, _<_}
+use Prim.Native.Nat.{ℕ, _+_, _*_, _/_, _≤_, _<_}
 use native.Mathlib.Omega.{arith}
 use lib.ListN.{length, take, drop}
 use Rattle.model.specs.Bytes.{field, integer}
@@ -39,23 +39,22 @@ command-puts commands from {tag} {word} e f {entry} {first} {exit = exit} {at} {
 -- ---- all of them
 module _ {commands entry : List ℕ} {at : ℕ} where
   pub putting-first : length commands ≤ commandSize * mostCommands → Putting commands entry at entry at 0
-  putting-first h = record { inside = omega arith; room = omega arith; size = refl; ahead = ahead-all (printedCommands (commandsIn commands)) entry at }
+  putting-first h = record { room = omega arith; size = refl; ahead = ahead-all (printedCommands (commandsIn commands)) entry at }
 
-  module _ {out : List ℕ} {next from : ℕ} (p : Putting commands entry at out next from) where
-    pub putting-next : {r : ℕ} {exit : List ℕ} → at + commandsRoom ≤ length entry → from + commandSize ≤ length commands
-        → Puts out next commandRoom (printedCommand (take commandSize (drop from commands))) r exit → length exit ≡ length out
-        → Putting commands entry at exit r (from + commandSize)
+  module _ {out : List ℕ} {next k : ℕ} (p : Putting commands entry at out next k) where
+    pub putting-next : {r : ℕ} {exit : List ℕ} → at + commandsRoom ≤ length entry → k < length commands / commandSize
+        → Puts out next commandRoom (printedCommand (take commandSize (drop (commandSize * k) commands))) r exit → length exit ≡ length out
+        → Putting commands entry at exit r (k + 1)
     putting-next h g q same = record {
-      inside = g;
       room = omega (arith, p .room, q .end, q .few);
       size = same ∙ p .size;
       ahead =
           ahead-next (omega (arith, p .room, p .size))
-          (subst (Ahead (printedCommands (commandsIn commands)) entry at out next) (ap printedCommands (commands-next commands from g)) (p .ahead))
+          (subst (Ahead (printedCommands (commandsIn commands)) entry at out next) (ap printedCommands (commands-next commands k g)) (p .ahead))
           q;
     }
 
-    pub putting-end : length commands - from < commandSize → Puts entry at commandsRoom (printedCommands (commandsIn commands)) next out
+    pub putting-end : length commands / commandSize ≤ k → Puts entry at commandsRoom (printedCommands (commandsIn commands)) next out
     putting-end h =
         ahead-none (omega (arith, p .room))
-        (subst (Ahead (printedCommands (commandsIn commands)) entry at out next) (ap printedCommands (commands-end commands from h)) (p .ahead))
+        (subst (Ahead (printedCommands (commandsIn commands)) entry at out next) (ap printedCommands (commands-end commands k h)) (p .ahead))

@@ -9,9 +9,8 @@ use Rattle.setpoints.specs.Commands.{commandsIn}
 use Rattle.decimal.specs.Ahead.{Ahead}
 use Rattle.print_log_line.specs.Rooms.{commandRoom, commandsRoom}
 
--- The commands before `from` stand before `next`: with the others behind them, that is all.
-pub record Putting (commands entry : List ℕ) (at : ℕ) (out : List ℕ) (next from : ℕ) : Type 0 where
-  pub inside : from ≤ length commands
-  pub room : next + commandRoom * ((length commands - from) / commandSize) ≤ at + commandsRoom
+-- The first k commands stand before `next`: with the others behind them, that is all.
+pub record Putting (commands entry : List ℕ) (at : ℕ) (out : List ℕ) (next k : ℕ) : Type 0 where
+  pub room : next + commandRoom * (length commands / commandSize - k) ≤ at + commandsRoom
   pub size : length out ≡ length entry
-  pub ahead : Ahead (printedCommands (commandsIn commands)) entry at out next (printedCommands (commandsIn (drop from commands)))
+  pub ahead : Ahead (printedCommands (commandsIn commands)) entry at out next (printedCommands (commandsIn (drop (commandSize * k) commands)))

@@ -11,7 +11,7 @@ use Rattle.model.specs.Message.{Message, dependencyCount, commandsStart, comman
 use Rattle.model.specs.Text.{charactersOf}
 use Rattle.model.specs.Program.{printedCommands, logLine}
 use Rattle.setpoints.specs.Commands.{commandsIn}
-use Rattle.setpoints.specs.CommandLaws.{commandsIn-message}
+use Rattle.setpoints.specs.DeltaLaws.{commands-own}
 use Rattle.text_writing.specs.CharacterLaws.{characters-sized}
 use Rattle.decimal.specs.Puts.{numeral, Puts}
 use Rattle.decimal.specs.PutsLaws.{puts-puts}
@@ -43,4 +43,4 @@ line-puts m t place offset {start} e {entry} {first} {second} {exit} {at} {a} {b
     own : commandsIn (take (length m - start) (drop start m)) ≡ commandsOf m
     own =
         ap commandsIn (take-all (length m - start) (drop start m) (omega (arith, length-drop start m)))
-        ∙ ap (λ (n : ℕ). commandsIn (drop n m)) e ∙ commandsIn-message m t
+        ∙ ap (λ (n : ℕ). commandsIn (drop n m)) e ∙ commands-own m t

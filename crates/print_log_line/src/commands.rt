@@ -33,10 +33,10 @@ pub fn put_commands(out: &mut [u8], at: usize, commands: &[u8]) -> usize
     ensures { λ r. ⌜ Puts (now (out .entry)) at commandsRoom (printedCommands (commandsIn (now (commands .entry)))) r (now (out .exit)) ⌝ }
 {
     let mut next = at;
-    let mut from = 0;
-    while COMMAND_SIZE <= commands.len() - from {
-        next = put_command(out, next, commands, from);
-        from += COMMAND_SIZE;
+    let mut k = 0;
+    while k < commands.len() / COMMAND_SIZE {
+        next = put_command(out, next, commands, COMMAND_SIZE * k);
+        k += 1;
     }
     next
 }

@@ -1,42 +1,44 @@
 -- The invariant: the commands that are printed, with those that are left, are all.
-use Prim.Native.Nat.{_-_}
+use Prim.Native.Nat.{_-_, _/_}
 use native.Mathlib.Omega.{arith}
 use lib.ListN.{length}
+use Rattle.model.specs.Layout.{commandSize}
 use Rattle.print_log_line.specs.Commands.{Putting}
 use Rattle.print_log_line.specs.CommandLaws.{putting-first, putting-next, putting-end}
 use Rattle.print_log_line.proofs.commands.put_commands.Statement.{statement}
 use Rattle.print_log_line.proofs.commands.put_commands.Tie as tie
 
 abbrev Inv-loop : tie.InvT-loop
-Inv-loop out₀ at commands next₀ from₀ out next from = Putting commands out₀ at out next from
+Inv-loop out₀ at commands next₀ k₀ out next k = Putting commands out₀ at out next k
 
 abbrev μ-loop : tie.MeasureT-loop
-μ-loop out₀ at commands next₀ from₀ out next from = length commands - from
+μ-loop out₀ at commands next₀ k₀ out next k = length commands / commandSize - k
 
 loop-holds : tie.Need-loop-holds Inv-loop μ-loop
 loop-holds c = putting-first (c .before .before .pre .1)
 
-sub-loop : tie.Need-sub-loop Inv-loop μ-loop
-sub-loop c = c .loop .inv .inside
+mul-put-command : tie.Need-mul-put-command Inv-loop μ-loop
+mul-put-command c = omega arith
 
 put-command-requires : tie.Need-put-command-requires Inv-loop μ-loop
 put-command-requires c κs =
     let l = c .before .before in
     let start = l .before .before .before in
-    (omega (arith, l .loop .inv .room, l .loop .inv .size), omega (arith, c .before .loop-test .taken, l .loop .inv .inside))
+    let more = c .before .loop-test .taken in
+    (omega (arith, more, l .loop .inv .room, l .loop .inv .size, start .pre .0), omega (arith, more))
 
-add-from : tie.Need-add-from Inv-loop μ-loop
-add-from c = omega (arith, c .before .before .before .before .loop-test .taken, c .before .before .before .before .before .loop .inv .inside)
+add-k : tie.Need-add-k Inv-loop μ-loop
+add-k c = omega arith
 
 loop-less : tie.Need-loop-less Inv-loop μ-loop
-loop-less c = omega (arith, c .before .before .before .before .loop-test .taken)
+loop-less c = omega arith
 
 loop-again : tie.Need-loop-again Inv-loop μ-loop
 loop-again c =
     let put = c .before .before in
     let l = put .before .before .before in
     let start = l .before .before .before in
-    putting-next (l .loop .inv) (start .pre .0) (omega (arith, put .before .before .loop-test .taken, l .loop .inv .inside)) (put .put-command .ensures) (put .put-command .kept .0)
+    putting-next (l .loop .inv) (start .pre .0) (omega (arith, put .before .before .loop-test .taken)) (put .put-command .ensures) (put .put-command .kept .0)
 
 same-length : tie.Need-same-length Inv-loop μ-loop
 same-length c = c .before .loop .inv .size
@@ -51,9 +53,9 @@ put-commands-spec =
     Inv-loop
     μ-loop
     loop-holds
-    sub-loop
+    mul-put-command
     put-command-requires
-    add-from
+    add-k
     loop-less
     loop-again
     same-length
