@@ -15,10 +15,10 @@ use Rattle.table.specs.Places.{IsAbsent}
 use Rattle.judged.specs.declared.judging.Station.{Station}
 use Rattle.judged.specs.Judging.{IsStation}
 use Rattle.steps.specs.PlacedLogs.{IsLogOf}
-use Rattle.accepting.specs.declared.Change.{Change}
+use Rattle.accepting.specs.declared.Counts.{Counts}
 
 -- An accepted delivery that made a change, beside the buffers afterwards.
-abbrev pub acceptedBy : Change → List ℕ → List ℕ → Delivered
+abbrev pub acceptedBy : Counts → List ℕ → List ℕ → Delivered
 acceptedBy c image steps = record { code = 0; undos = c .undos; executions = c .executions; image = image; steps = steps }
 
 -- An image and a step buffer can be written for a table, from an old log that lacks one delta at least, and over the image of a set

@@ -17,7 +17,7 @@ ghost use Rattle.model.specs.Calls.{acceptedAnswer};
 ghost use Rattle.accepting.specs.Accepting.{acceptedBy, Updatable, Updates, Acceptable};
 
 // How many deltas of the old log are undone, and how many of the new one executed.
-pub struct Change {
+pub struct Counts {
     pub undos: usize,
     pub executions: usize,
 }
@@ -31,7 +31,7 @@ fn update(
     table: Table,
     old: [u8; CAPACITY],
     logged: usize,
-) -> Change
+) -> Counts
     requires { ⌜ Updatable (now image) (length (now steps)) (now pool) table old logged ⌝ }
     ensures { λ r. ⌜ Updates (now (steps .entry)) (now (pool .entry)) table old logged (acceptedBy r (now (image .exit)) (now (steps .exit))) ⌝ }
 {
@@ -40,7 +40,7 @@ fn update(
     let count = order.count;
     write_table(image, pool, table, places, count);
     write_change(steps, pool, table, order);
-    Change {
+    Counts {
         undos: order.undos(),
         executions: order.executions(),
     }
@@ -55,7 +55,7 @@ pub fn accept(
     pool: &mut [u8],
     station: Station,
     p: usize,
-) -> Change
+) -> Counts
     requires { ⌜ Acceptable (now image) (now message) (length (now steps)) (now pool) station p ⌝ }
     ensures { λ r. ⌜ acceptedBy r (now (image .exit)) (now (steps .exit)) ≡ acceptedAnswer (stateIn (now (image .entry))) (add (now (message .entry)) (stateIn (now (image .entry)))) (now (steps .entry)) ⌝ }
 {

@@ -17,7 +17,7 @@ use Rattle.compose_laws.specs.ComposeLaws.{Promised, compose-promise, messageBy
 use Rattle.compose.specs.declared.answer.Composition.{Composition}
 use Rattle.compose.specs.declared.answer.Composition.the-variants as composition
 use Rattle.compose.specs.Answer.{composedBy}
-use Rattle.bivamolune.specs.Packing.{numberOf, LengthUnpacks}
+use Rattle.bivamolune.specs.Packing.{packedLength, LengthUnpacks}
 use Rattle.bivamolune.specs.PackingLaws.{length-unpacked}
 use Rattle.bivamolune.specs.ComposeAnswers.{Composes, numberBy, Short}
 
@@ -36,7 +36,7 @@ compose-short b line commands flag priority buffer = go (composeCode b line comm
     go (suc n) f = omega arith
 
 -- ---- the number of an answer is that of its parts
-number-is : (c : Composition) (message : List ℕ) → numberBy c ≡ numberOf (composedBy c message .code) (composedBy c message .size)
+number-is : (c : Composition) (message : List ℕ) → numberBy c ≡ packedLength (composedBy c message .code) (composedBy c message .size)
 number-is (composition.Written size) message = refl
 number-is composition.WrongSize message = refl
 number-is composition.NoImage message = refl
@@ -91,5 +91,5 @@ module _ (image line commands : List ℕ) (flag priority : ℕ) (message : List 
     message-after = message-is c exit ∙ ap (λ (y : Composed). y .message) e;
   }
     where
-      is : r ≡ numberOf (x .code) (x .size)
-      is = p ∙ number-is c exit ∙ ap (λ (y : Composed). numberOf (y .code) (y .size)) e
+      is : r ≡ packedLength (x .code) (x .size)
+      is = p ∙ number-is c exit ∙ ap (λ (y : Composed). packedLength (y .code) (y .size)) e

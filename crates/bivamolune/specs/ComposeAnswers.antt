@@ -6,17 +6,17 @@ use Rattle.model.specs.Layout.{messageRoom}
 use Rattle.model.specs.Calls.{compose}
 use Rattle.compose.specs.declared.answer.Composition.{Composition}
 use Rattle.compose.specs.declared.answer.Composition.the-variants as composition
-use Rattle.bivamolune.specs.Packing.{numberOf, LengthUnpacks}
+use Rattle.bivamolune.specs.Packing.{packedLength, LengthUnpacks}
 
 -- code + 256 × length, and the header gives the two back
 pub record Composes (image line commands : List ℕ) (flag priority : ℕ) (message : List ℕ) (r : ℕ) (message-exit : List ℕ) : Type 0 where
-  pub answer : r ≡ numberOf (compose image line commands flag priority message .code) (compose image line commands flag priority message .size)
+  pub answer : r ≡ packedLength (compose image line commands flag priority message .code) (compose image line commands flag priority message .size)
   pub parts : LengthUnpacks r (compose image line commands flag priority message .code) (compose image line commands flag priority message .size)
   pub message-after : message-exit ≡ compose image line commands flag priority message .message
 
 -- the number of each answer
 abbrev pub numberBy : Composition → ℕ
-numberBy (composition.Written size) = numberOf 0 size
+numberBy (composition.Written size) = packedLength 0 size
 numberBy composition.WrongSize = 1
 numberBy composition.NoImage = 2
 numberBy composition.WrongLayout = 3

@@ -29,8 +29,8 @@ pub record Unpacks (answer code undos executions : ℕ) : Type 0 where
 
 -- ---- compose, and the reader and the writer of sequences
 -- A code and a length in one number: a byte for the code.
-abbrev pub numberOf : ℕ → ℕ → ℕ
-numberOf code size = code + 256 * size
+abbrev pub packedLength : ℕ → ℕ → ℕ
+packedLength code size = code + 256 * size
 
 -- bivamolune_composed_length and bivamolune_written_length of include/bivamolune.h
 abbrev pub lengthIn : ℕ → ℕ

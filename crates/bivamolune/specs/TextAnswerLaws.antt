@@ -8,12 +8,12 @@ use Rattle.model.specs.Calls.{Converted}
 use Rattle.text_checks.specs.declared.answer.Conversion.{Conversion}
 use Rattle.text_checks.specs.declared.answer.Conversion.the-variants as conversion
 use Rattle.text_checks.specs.Answer.{convertedBy, buffer-is}
-use Rattle.bivamolune.specs.Packing.{numberOf, LengthUnpacks}
+use Rattle.bivamolune.specs.Packing.{packedLength, LengthUnpacks}
 use Rattle.bivamolune.specs.PackingLaws.{length-unpacked}
 use Rattle.bivamolune.specs.TextAnswers.{Converts, numberBy, Short}
 
 -- ---- the number of an answer is that of its parts
-number-is : (c : Conversion) (buffer : List ℕ) → numberBy c ≡ numberOf (convertedBy c buffer .code) (convertedBy c buffer .size)
+number-is : (c : Conversion) (buffer : List ℕ) → numberBy c ≡ packedLength (convertedBy c buffer .code) (convertedBy c buffer .size)
 number-is (conversion.Written size) buffer = refl
 number-is conversion.WrongSize buffer = refl
 number-is conversion.WrongForm buffer = refl
@@ -43,5 +43,5 @@ module _ (x : Converted) (c : Conversion) (exit : List ℕ) (e : convertedBy c e
     buffer-after = buffer-is c exit ∙ ap (λ (y : Converted). y .buffer) e;
   }
     where
-      is : r ≡ numberOf (x .code) (x .size)
-      is = p ∙ number-is c exit ∙ ap (λ (y : Converted). numberOf (y .code) (y .size)) e
+      is : r ≡ packedLength (x .code) (x .size)
+      is = p ∙ number-is c exit ∙ ap (λ (y : Converted). packedLength (y .code) (y .size)) e

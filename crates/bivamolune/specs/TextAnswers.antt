@@ -6,11 +6,11 @@ use Rattle.model.specs.Layout.{textRoom}
 use Rattle.model.specs.Calls.{Converted, readSequences, writeSequences}
 use Rattle.text_checks.specs.declared.answer.Conversion.{Conversion}
 use Rattle.text_checks.specs.declared.answer.Conversion.the-variants as conversion
-use Rattle.bivamolune.specs.Packing.{numberOf, LengthUnpacks}
+use Rattle.bivamolune.specs.Packing.{packedLength, LengthUnpacks}
 
 -- code + 256 × length, and the header gives the two back
 pub record Converts (answer : Converted) (r : ℕ) (exit : List ℕ) : Type 0 where
-  pub packed : r ≡ numberOf (answer .code) (answer .size)
+  pub packed : r ≡ packedLength (answer .code) (answer .size)
   pub parts : LengthUnpacks r (answer .code) (answer .size)
   pub buffer-after : exit ≡ answer .buffer
 
@@ -22,7 +22,7 @@ WritesSequences sequences entry r exit = Converts (writeSequences sequences entr
 
 -- the number of each answer
 abbrev pub numberBy : Conversion → ℕ
-numberBy (conversion.Written size) = numberOf 0 size
+numberBy (conversion.Written size) = packedLength 0 size
 numberBy conversion.WrongSize = 1
 numberBy conversion.WrongForm = 13
 numberBy conversion.ZeroNumber = 14

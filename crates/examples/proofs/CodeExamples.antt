@@ -19,7 +19,7 @@ use Rattle.model.specs.Text.{characterOf}
 use Rattle.model.specs.Compose.{messageOf, newDependencies, composed}
 use Rattle.model.specs.Calls.{emptyState, Emptied, empty, Delivered, deliver, deliverCode, Composed, compose, composeCode, logMessage, logMessageCode, Setpoint, setpoint, Reader, start, next}
 use Rattle.model.specs.Program.{printedLine, lastLine, badCut, linesFrom, listing, printedValue, printedCommand, logLine, printedLog}
-use Rattle.model.proofs.ExampleMessages.{A, B, C, command, plain, urgent, right, a1, a2, b1, c2, b1-5, a1-value, lines, lineA, lineC}
+use Rattle.model.proofs.ExampleMessages.{A, B, C, command, plain, urgent, rightCommands, a1, a2, b1, c2, b1-5, a1-value, lines, lineA, lineC}
 
 -- ---- a buffer that is lent as an image
 data Buffer : Type 0 where
@@ -126,7 +126,7 @@ abbrev composePlain : Buffer → ℕ → List ℕ → Input
 composePlain b line commands = composeOn b line lineSize commands 0 0 messageRoom
 
 abbrev composeUrgent : Buffer → ℕ → ℕ → Input
-composeUrgent b line priority = composeOn b line lineSize right 1 priority messageRoom
+composeUrgent b line priority = composeOn b line lineSize rightCommands 1 priority messageRoom
 
 -- log A1, B1, and C2 held
 abbrev station : Buffer
@@ -140,48 +140,48 @@ examples =
     ∷ (emptyOn imageSize, emptied 0 false)
     ∷ (deliverTo short a1 stepRoom, refusedDelivery 1)
     ∷ (deliverTo none a1 10159, refusedDelivery 1)
-    ∷ (composePlain short lineA right, refusedCompose 1)
-    ∷ (composeOn none lineA lineSize right 0 0 199, refusedCompose 1)
-    ∷ (composeOn none lineA 9 right 0 0 messageRoom, refusedCompose 1)
+    ∷ (composePlain short lineA rightCommands, refusedCompose 1)
+    ∷ (composeOn none lineA lineSize rightCommands 0 0 199, refusedCompose 1)
+    ∷ (composeOn none lineA 9 rightCommands 0 0 messageRoom, refusedCompose 1)
     ∷ (logMessageOf short 0, part [] 1)
     ∷ (setpointOf short 3, value 1 (pos 0))
     -- 2: L = 1, no message
     ∷ (deliverTo noMessage a1 stepRoom, refusedDelivery 2)
-    ∷ (composePlain noMessage lineA right, refusedCompose 2)
+    ∷ (composePlain noMessage lineA rightCommands, refusedCompose 2)
     ∷ (logMessageOf noMessage 0, part [] 2)
     ∷ (setpointOf noMessage 3, value 2 (pos 0))
     ∷ (setpointOf endNotZero 3, value 2 (pos 0))
     -- 3: 47-byte message; to compose, commands of 15 bytes and of none
     ∷ (deliverTo none (take 47 a1) stepRoom, refusedDelivery 3)
-    ∷ (composePlain none lineA (take 15 (right ++ right)), refusedCompose 3)
+    ∷ (composePlain none lineA (take 15 (rightCommands ++ rightCommands)), refusedCompose 3)
     ∷ (composePlain none lineA [], refusedCompose 3)
     -- 4: A0
-    ∷ (deliverTo none (plain (A 0) [] right) stepRoom, refusedDelivery 4)
+    ∷ (deliverTo none (plain (A 0) [] rightCommands) stepRoom, refusedDelivery 4)
     -- 5: A2 naming A1
-    ∷ (deliverTo none (plain (A 2) (A 1 ∷ []) right) stepRoom, refusedDelivery 5)
+    ∷ (deliverTo none (plain (A 2) (A 1 ∷ []) rightCommands) stepRoom, refusedDelivery 5)
     -- 6: tag 64; to compose also a flag of 2, and a priority without the flag
     ∷ (deliverTo none (plain (A 1) [] (command 1 64 (pos 5))) stepRoom, refusedDelivery 6)
     ∷ (composePlain none lineA (command 1 64 (pos 5)), refusedCompose 6)
-    ∷ (composeOn none lineA lineSize right 2 0 messageRoom, refusedCompose 6)
-    ∷ (composeOn none lineA lineSize right 0 7 messageRoom, refusedCompose 6)
+    ∷ (composeOn none lineA lineSize rightCommands 2 0 messageRoom, refusedCompose 6)
+    ∷ (composeOn none lineA lineSize rightCommands 0 7 messageRoom, refusedCompose 6)
     -- 7: A1 twice, values 1 and 2
     ∷ (deliverTo (holding (a1-value 1 ∷ [])) (a1-value 2) stepRoom, refusedDelivery 7)
     -- 8: a 65th delta
     ∷ (deliverTo (holding (lines 2 64)) a2 stepRoom, refusedDelivery 8)
     -- 9: A3 alone, compose on A
-    ∷ (composePlain (holding (plain (A 3) [] right ∷ [])) lineA right, refusedCompose 9)
+    ∷ (composePlain (holding (plain (A 3) [] rightCommands ∷ [])) lineA rightCommands, refusedCompose 9)
     -- 10: with priority, after block 2147483647
-    ∷ (composeUrgent (holding (urgent (B 1) fieldLimit 5 right ∷ [])) lineC 7, refusedCompose 10)
+    ∷ (composeUrgent (holding (urgent (B 1) fieldLimit 5 rightCommands ∷ [])) lineC 7, refusedCompose 10)
     -- 11: nine lone lines, a tenth composes
-    ∷ (composePlain (holding (lines 1 9)) lineA right, refusedCompose 11)
+    ∷ (composePlain (holding (lines 1 9)) lineA rightCommands, refusedCompose 11)
     -- 12: place 0 of an empty log; tag 64
     ∷ (logMessageOf none 0, part [] 12)
     ∷ (setpointOf none 64, value 12 (pos 0))
     -- ---- deliver: undos and executions apart, and every byte past the steps as it was, the 10,161st too
     ∷ (deliverTo (holding (b1 ∷ [])) a1 10161, delivered 0 1 2 (some (undo (B 1) ∷ execute (A 1) ∷ execute (B 1) ∷ [])) false true)
     -- ---- compose with the flag: block 1 on an empty log, 2 after block 1
-    ∷ (composeUrgent none lineA 0, composes 0 48 (messageOf true (A 1) 1 1 0 [] right) true)
-    ∷ (composeUrgent (holding (b1-5 ∷ [])) lineC 7, composes 0 60 (messageOf true (C 1) 1 2 7 (B 1 ∷ []) right) true)
+    ∷ (composeUrgent none lineA 0, composes 0 48 (messageOf true (A 1) 1 1 0 [] rightCommands) true)
+    ∷ (composeUrgent (holding (b1-5 ∷ [])) lineC 7, composes 0 60 (messageOf true (C 1) 1 2 7 (B 1 ∷ []) rightCommands) true)
     -- ---- log message and its second call: place 1 of the log A1, B1
     ∷ (logMessageOf station 1, part b1 0)
     -- ---- setpoint: 1500 - 20 at tag 3

@@ -1,7 +1,7 @@
 // The image of a set of deltas, written from the places of its log: its used bytes, and that of no deltas whole.
 
 use buffer_writes::clear_from;
-use image_header::put_header;
+use image_header::put_image_header;
 use image_sections::held::held_places;
 use image_sections::messages::put_messages;
 use image_sections::running::run_log;
@@ -29,7 +29,7 @@ pub fn write_used(out: &mut [u8], pool: &[u8], starts: &[u16], places: &[u8]) ->
     let count = held.count;
     let start = messages_start(pool);
     let used = put_messages(out, pool, starts, places, &others[0..count], start);
-    put_header(
+    put_image_header(
         out,
         places.len() as u32,
         count as u32,

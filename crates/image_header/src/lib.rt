@@ -36,7 +36,7 @@ fn put_offsets(out: &mut [u8], start: u32, used: u32)
 }
 
 // Writes the header: the messages start at `start` and end at `used`.
-pub fn put_header(out: &mut [u8], log: u32, held: u32, start: u32, used: u32)
+pub fn put_image_header(out: &mut [u8], log: u32, held: u32, start: u32, used: u32)
     requires { ⌜ setpointsStart ≤ length (now out) ⌝ }
     ensures { λ _. ⌜ now (out .exit) ≡ pasted (now (out .entry)) 0 (headerBytes log held start used) ⌝ }
 {

@@ -13,7 +13,7 @@ use Rattle.message.specs.declared.checks.Check.{Check}
 use Rattle.message.specs.declared.checks.Check.the-variants.{Right, Wrong}
 use Rattle.table.specs.declared.Table.{Table}
 use Rattle.table.specs.Table.{startsOf, deltasOf, deltasAt, setIn, Holds}
-use Rattle.table_reading.specs.Reading.{IsTable}
+use Rattle.table_reading.specs.TableReading.{IsTable}
 use Rattle.walk.specs.Walk.{LogOffsets}
 use Rattle.judged.specs.declared.judging.Station.{Station}
 use Rattle.image_log.specs.LogRead.{ReadsLog}

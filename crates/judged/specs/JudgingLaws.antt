@@ -17,7 +17,7 @@ use Rattle.order.specs.TestLaws.{is-true, false-of, ∈-every}
 use Rattle.laws.specs.ImageLaws.{own-log}
 use Rattle.table.specs.Table.{startsOf, deltasOf, deltasAt, setIn}
 use Rattle.table.specs.declared.Table.{Table}
-use Rattle.table_reading.specs.Reading.{IsTable, ReadsTable}
+use Rattle.table_reading.specs.TableReading.{IsTable, ReadsTable}
 use Rattle.message.specs.Check.{right}
 use Rattle.message.specs.declared.checks.Check.{Check}
 use Rattle.message.specs.declared.checks.Check.the-variants.{Right, Wrong}

@@ -19,7 +19,7 @@ ghost use lib.ListN.{length};
 ghost use Rattle.model.specs.Layout.{imageSize};
 ghost use Rattle.message.specs.declared.checks.Check.the-variants.{Wrong};
 ghost use Rattle.table.specs.Table.{startsOf, setIn};
-ghost use Rattle.table_reading.specs.Reading.{IsTable};
+ghost use Rattle.table_reading.specs.TableReading.{IsTable};
 ghost use Rattle.image_header.specs.Pieces.{UsedWritten};
 ghost use Rattle.log_check.specs.Checking.{ChecksLog};
 ghost use Rattle.judged.specs.Judging.{FrontOffsets, ListsLog, Rewritable, placesIn, Blank, Judges, Copies};

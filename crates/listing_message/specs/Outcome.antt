@@ -29,9 +29,9 @@ pub record Answers (image message : List ℕ) (r : Outcome) (exit : List ℕ) : 
   pub image-after : exit ≡ answered image message .image
 
 -- The line of an answer.
-unfoldable pub lineOf : ℕ → Delivered → List ℕ
-lineOf number a = printedLine number (a .code) (a .undos) (a .executions)
+unfoldable pub answerLine : ℕ → Delivered → List ℕ
+answerLine number a = printedLine number (a .code) (a .undos) (a .executions)
 
 pub record Listed (image message out : List ℕ) (at number r : ℕ) (image-exit out-exit : List ℕ) : Type 0 where
-  pub line : Puts out at lineRoom (lineOf number (answered image message)) r out-exit
+  pub line : Puts out at lineRoom (answerLine number (answered image message)) r out-exit
   pub image-after : image-exit ≡ answered image message .image

@@ -11,7 +11,7 @@ use Rattle.decimal.specs.PutsLaws.{puts-as}
 use Rattle.listing_lines.specs.Rooms.{lineRoom}
 use Rattle.listing_lines.specs.LineSizes.{line-few}
 use Rattle.listing_message.specs.declared.delivering.Outcome.{Outcome}
-use Rattle.listing_message.specs.Outcome.{deliveredAs, Tells, answered, Answers, lineOf, Listed}
+use Rattle.listing_message.specs.Outcome.{deliveredAs, Tells, answered, Answers, answerLine, Listed}
 
 pub tells : {d e : Delivery} {r o : Outcome} → d ≡ e → r ≡ o → Tells e o → Tells d r
 tells p q t image steps =
@@ -31,7 +31,7 @@ answers image message exit steps d {r} e t = record {
 
 pub listed : {image message image-exit out out-exit : List ℕ} {at number r : ℕ} {o : Outcome} → Answers image message o image-exit
     → Puts out at lineRoom (printedLine number (o .code) (o .undos) (o .executions)) r out-exit → Listed image message out at number r image-exit out-exit
-unfolding lineOf
+unfolding answerLine
 listed {image} {message} {number = number} {o = o} a p = record {
   line =
       puts-as

@@ -11,7 +11,7 @@ use Rattle.listing_lines.specs.Rooms.{lineRoom}
 use Rattle.listing_lines.specs.LineSizes.{line-few, last-few}
 use Rattle.listing_message.specs.Cut.{sizeOf}
 use Rattle.listing_message.specs.CutLaws.{cut-size}
-use Rattle.listing_message.specs.Outcome.{answered, lineOf}
+use Rattle.listing_message.specs.Outcome.{answered, answerLine}
 use Rattle.listing_whole.specs.Lines.{lines, roomFor}
 
 -- ---- the next line, by whether the cut is wrong
@@ -24,8 +24,8 @@ behind rest = drop (sizeOf rest) rest
 
 -- the lines of `most` messages: one, and those behind it
 one : (most n : ℕ) (image rest : List ℕ) → 0 < length rest → linesFrom (suc most) n image rest
-    ≡ cond (badCut rest) (printedLine n 3 0 0 ++ lastLine image) (lineOf n (next image rest) ++ linesFrom most (suc n) (next image rest .image) (behind rest))
-unfolding linesFrom answered lineOf
+    ≡ cond (badCut rest) (printedLine n 3 0 0 ++ lastLine image) (answerLine n (next image rest) ++ linesFrom most (suc n) (next image rest .image) (behind rest))
+unfolding linesFrom answered answerLine
 one most n image [] h = let z : ⊥ = omega arith in absurd z
 one most n image (x ∷ rest) h = refl
 
@@ -40,10 +40,10 @@ module _ (n : ℕ) (image rest : List ℕ) where
   step m k h more = one m n image rest h ∙ go (badCut rest) refl ∙ sym (one k n image rest h)
     where
       go : (t : Bool) → badCut rest ≡ t
-          → cond t (printedLine n 3 0 0 ++ lastLine image) (lineOf n (next image rest) ++ linesFrom m (suc n) (next image rest .image) (behind rest))
-          ≡ cond t (printedLine n 3 0 0 ++ lastLine image) (lineOf n (next image rest) ++ linesFrom k (suc n) (next image rest .image) (behind rest))
+          → cond t (printedLine n 3 0 0 ++ lastLine image) (answerLine n (next image rest) ++ linesFrom m (suc n) (next image rest .image) (behind rest))
+          ≡ cond t (printedLine n 3 0 0 ++ lastLine image) (answerLine n (next image rest) ++ linesFrom k (suc n) (next image rest .image) (behind rest))
       go true e = refl
-      go false e = ap (λ (l : List ℕ). lineOf n (next image rest) ++ l) (more e)
+      go false e = ap (λ (l : List ℕ). answerLine n (next image rest) ++ l) (more e)
 
 enough : (m k n : ℕ) (image rest : List ℕ) → length rest ≤ m → length rest ≤ k → linesFrom m n image rest ≡ linesFrom k n image rest
 unfolding linesFrom
@@ -64,26 +64,26 @@ module _ (n : ℕ) (image : List ℕ) where
 
   module _ (rest : List ℕ) (h : 0 < length rest) where
     -- the lines of what is left, by whether its cut is wrong
-    by-cut : lines n image rest ≡ cond (badCut rest) (printedLine n 3 0 0 ++ lastLine image) (lineOf n (next image rest) ++ linesFrom (length rest) (suc n) (next image rest .image) (behind rest))
+    by-cut : lines n image rest ≡ cond (badCut rest) (printedLine n 3 0 0 ++ lastLine image) (answerLine n (next image rest) ++ linesFrom (length rest) (suc n) (next image rest .image) (behind rest))
     unfolding lines
     by-cut = enough (length rest) (suc (length rest)) n image rest (omega arith) (omega arith) ∙ one (length rest) n image rest h
 
     pub lines-wrong : badCut rest ≡ true → lines n image rest ≡ printedLine n 3 0 0 ++ lastLine image
     lines-wrong e =
         by-cut
-        ∙ ap (λ (t : Bool). cond t (printedLine n 3 0 0 ++ lastLine image) (lineOf n (next image rest) ++ linesFrom (length rest) (suc n) (next image rest .image) (behind rest))) e
+        ∙ ap (λ (t : Bool). cond t (printedLine n 3 0 0 ++ lastLine image) (answerLine n (next image rest) ++ linesFrom (length rest) (suc n) (next image rest .image) (behind rest))) e
 
-    pub lines-next : badCut rest ≡ false → lines n image rest ≡ lineOf n (next image rest) ++ lines (suc n) (next image rest .image) (behind rest)
+    pub lines-next : badCut rest ≡ false → lines n image rest ≡ answerLine n (next image rest) ++ lines (suc n) (next image rest .image) (behind rest)
     unfolding lines
     lines-next e =
         by-cut
-        ∙ ap (λ (t : Bool). cond t (printedLine n 3 0 0 ++ lastLine image) (lineOf n (next image rest) ++ linesFrom (length rest) (suc n) (next image rest .image) (behind rest))) e
-        ∙ ap (λ (l : List ℕ). lineOf n (next image rest) ++ l)
+        ∙ ap (λ (t : Bool). cond t (printedLine n 3 0 0 ++ lastLine image) (answerLine n (next image rest) ++ linesFrom (length rest) (suc n) (next image rest .image) (behind rest))) e
+        ∙ ap (λ (l : List ℕ). answerLine n (next image rest) ++ l)
         (enough (length rest) (length (behind rest)) (suc n) (next image rest .image) (behind rest) (omega (arith, shorter rest e)) (omega arith))
 
 -- ---- how long they are
-line-of-few : (n : ℕ) (a : Delivered) → length (lineOf n a) ≤ lineRoom
-unfolding lineOf
+line-of-few : (n : ℕ) (a : Delivered) → length (answerLine n a) ≤ lineRoom
+unfolding answerLine
 line-of-few n a = line-few n (a .code) (a .undos) (a .executions)
 
 from-few : (most n : ℕ) (image rest : List ℕ) → length (linesFrom most n image rest) ≤ roomFor (length rest)
@@ -101,9 +101,9 @@ from-few (suc most) n image (x ∷ rest) =
     more = linesFrom most (suc n) (next image left .image) (behind left)
 
     go : (t : Bool) → badCut left ≡ t → length more ≤ roomFor (length (behind left))
-        → length (cond t (printedLine n 3 0 0 ++ lastLine image) (lineOf n (next image left) ++ more)) ≤ roomFor (length left)
+        → length (cond t (printedLine n 3 0 0 ++ lastLine image) (answerLine n (next image left) ++ more)) ≤ roomFor (length left)
     go true e h = omega (arith, length-append (printedLine n 3 0 0) (lastLine image), line-few n 3 0 0, last-few image)
-    go false e h = omega (arith, length-append (lineOf n (next image left)) more, line-of-few n (next image left), shorter left e)
+    go false e h = omega (arith, length-append (answerLine n (next image left)) more, line-of-few n (next image left), shorter left e)
 
 pub lines-few : (n : ℕ) (image rest : List ℕ) → length (lines n image rest) ≤ roomFor (length rest)
 unfolding lines

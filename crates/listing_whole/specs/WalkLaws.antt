@@ -15,7 +15,7 @@ use Rattle.decimal.specs.Front.{Prints, puts-prints}
 use Rattle.decimal.specs.Ahead.{Ahead, ahead-all, ahead-next, ahead-done}
 use Rattle.listing_lines.specs.Rooms.{lineRoom, lastRoom}
 use Rattle.listing_message.specs.Cut.{RightCut}
-use Rattle.listing_message.specs.Outcome.{answered, lineOf, Listed}
+use Rattle.listing_message.specs.Outcome.{answered, answerLine, Listed}
 use Rattle.listing_whole.specs.Lines.{lines, roomFor}
 use Rattle.listing_whole.specs.LinesLaws.{lines-end, lines-wrong, lines-next, lines-few}
 use Rattle.listing_whole.specs.Walked.{Walked}
@@ -23,7 +23,7 @@ use Rattle.listing_whole.specs.Walked.{Walked}
 -- the lines from a message on, in the code's terms
 line-and-rest : (input image : List ℕ) (number from size : ℕ) → from < length input → RightCut (drop from input) size
     → lines number image (drop from input)
-    ≡ lineOf number (answered image (take (from + size - from) (drop from input)))
+    ≡ answerLine number (answered image (take (from + size - from) (drop from input)))
     ++ lines (number + 1) (answered image (take (from + size - from) (drop from input)) .image) (drop (from + size) input)
 line-and-rest input image number from size h c =
     lines-next number image rest (omega (arith, length-drop from input)) (c .right)
@@ -35,7 +35,7 @@ line-and-rest input image number from size h c =
     rest = drop from input
 
     first : ℕ → List ℕ
-    first s = lineOf number (answered image (take s rest))
+    first s = answerLine number (answered image (take s rest))
 
 -- the rest of the input as the code lends it
 pub rest-is : (input : List ℕ) (from : ℕ) → take (length input - from) (drop from input) ≡ drop from input

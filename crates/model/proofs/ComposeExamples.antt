@@ -6,7 +6,7 @@ use Prim.Native.Nat.{ℕ}
 use Rattle.model.specs.Message.{Message}
 use Rattle.model.specs.Order.{needs, logOf}
 use Rattle.model.specs.Compose.{messageOf, newNumber, newDependencies, newGroup, newBlock, composed}
-use Rattle.model.proofs.ExampleMessages.{A, B, C, plain, urgent, right, a1, a2, b1, c2, b1-5, a1-group-2, a1-naming-b1, b1-naming-a1, holding, lineA, lineB, lineC}
+use Rattle.model.proofs.ExampleMessages.{A, B, C, plain, urgent, rightCommands, a1, a2, b1, c2, b1-5, a1-group-2, a1-naming-b1, b1-naming-a1, holding, lineA, lineB, lineC}
 
 -- ---- "Number is one more than the line's greatest in the log, or 0001": a log and a line
 numbers : List ((List Message × ℕ) × ℕ)
@@ -16,7 +16,7 @@ numbers =
     ∷ ((a1 ∷ b1 ∷ a2 ∷ [], lineA), 3)
     ∷ ((a1 ∷ b1 ∷ a2 ∷ [], lineB), 2)
     -- the number past the limit
-    ∷ ((plain (A 0xFFFF) [] right ∷ [], lineA), 65536)
+    ∷ ((plain (A 0xFFFF) [] rightCommands ∷ [], lineA), 65536)
     ∷ []
 
 numbers-hold : map (λ e. newNumber (e .0 .0) (e .0 .1)) numbers ≡ map (λ e. e .1) numbers
@@ -50,9 +50,9 @@ blocks =
     ∷ ((a1 ∷ [], true), 1)
     ∷ ((b1-5 ∷ [], true), 2)
     ∷ ((b1-5 ∷ [], false), 0)
-    ∷ ((urgent (B 1) 3 5 right ∷ plain (B 2) [] right ∷ a1 ∷ [], true), 4)
+    ∷ ((urgent (B 1) 3 5 rightCommands ∷ plain (B 2) [] rightCommands ∷ a1 ∷ [], true), 4)
     -- a held one does not count
-    ∷ ((b1-5 ∷ urgent (C 2) 7 5 right ∷ [], true), 2)
+    ∷ ((b1-5 ∷ urgent (C 2) 7 5 rightCommands ∷ [], true), 2)
     ∷ []
 
 blocks-hold : map (λ e. newBlock (holding (e .0 .0)) (e .0 .1)) blocks ≡ map (λ e. e .1) blocks
@@ -73,7 +73,7 @@ dependencies =
     ∷ ((a1 ∷ [], A 2), [])
     ∷ ((a1 ∷ b1 ∷ [], A 2), B 1 ∷ [])
     -- a held one is not named; nor does what it names count as needed: C2, which names B1, is held
-    ∷ ((b1 ∷ plain (C 2) (B 1 ∷ []) right ∷ [], A 1), B 1 ∷ [])
+    ∷ ((b1 ∷ plain (C 2) (B 1 ∷ []) rightCommands ∷ [], A 1), B 1 ∷ [])
     ∷ ((a1-naming-b1 ∷ b1-naming-a1 ∷ [], C 1), [])
     ∷ []
 
@@ -85,16 +85,16 @@ dependencies-hold = refl
 messages : List ((List Message × ℕ × Bool × ℕ) × Message)
 messages =
     -- Compose on A, log B1: A1, group 2, names B1.
-    ((b1 ∷ [], lineA, false, 0), messageOf false (A 1) 2 0 0 (B 1 ∷ []) right)
+    ((b1 ∷ [], lineA, false, 0), messageOf false (A 1) 2 0 0 (B 1 ∷ []) rightCommands)
     -- Compose on B, log A1: B1, group 1, names A1.
-    ∷ ((a1 ∷ [], lineB, false, 0), messageOf false (B 1) 1 0 0 (A 1 ∷ []) right)
+    ∷ ((a1 ∷ [], lineB, false, 0), messageOf false (B 1) 1 0 0 (A 1 ∷ []) rightCommands)
     -- Compose on A, log A1: A2, group 1, which names nothing.
-    ∷ ((a1 ∷ [], lineA, false, 0), messageOf false (A 2) 1 0 0 [] right)
+    ∷ ((a1 ∷ [], lineA, false, 0), messageOf false (A 2) 1 0 0 [] rightCommands)
     -- with priority: block 1 on an empty log, 2 after block 1
-    ∷ (([], lineA, true, 0), messageOf true (A 1) 1 1 0 [] right)
-    ∷ ((b1-5 ∷ [], lineC, true, 7), messageOf true (C 1) 1 2 7 (B 1 ∷ []) right)
+    ∷ (([], lineA, true, 0), messageOf true (A 1) 1 1 0 [] rightCommands)
+    ∷ ((b1-5 ∷ [], lineC, true, 7), messageOf true (C 1) 1 2 7 (B 1 ∷ []) rightCommands)
     ∷ []
 
-messages-hold : map (λ e. composed (holding (e .0 .0)) (e .0 .1) right (e .0 .2) (e .0 .3)) messages ≡ map (λ e. e .1) messages
+messages-hold : map (λ e. composed (holding (e .0 .0)) (e .0 .1) rightCommands (e .0 .2) (e .0 .3)) messages ≡ map (λ e. e .1) messages
 unfolding messages composed newDependencies logOf needs
 messages-hold = refl

@@ -13,7 +13,7 @@ use Rattle.model.specs.Message.{Message, commandRight}
 use Rattle.model.specs.Order.{stateOf, needs, executablesOf, logOf, heldOf}
 use Rattle.model.specs.Compose.{messageOf, newDependencies}
 use Rattle.model.specs.Codes.{Conditions, lowestCode, wrongSize, smallSteps, conflicts, full, commandsSized, composeContent, heldOn, pastLimit, manyDependencies, logMessageConditions, setpointConditions}
-use Rattle.model.proofs.ExampleMessages.{lineNumber, A, B, command, plain, urgent, right, a1, a2, b1, c2, a1-value, lines, holding, lineA, lineC}
+use Rattle.model.proofs.ExampleMessages.{lineNumber, A, B, command, plain, urgent, rightCommands, a1, a2, b1, c2, a1-value, lines, holding, lineA, lineC}
 
 -- Whether the condition of a number of a call's list holds.
 abbrev applies : ℕ → Conditions → Bool
@@ -54,9 +54,9 @@ stepSizes-hold = refl
 commandSizes : List (List ℕ × Bool)
 commandSizes =
     ([], false)
-    ∷ (take 7 right, false)
-    ∷ (right, true)
-    ∷ (take 15 (right ++ right), false)
+    ∷ (take 7 rightCommands, false)
+    ∷ (rightCommands, true)
+    ∷ (take 15 (rightCommands ++ rightCommands), false)
     ∷ (replicate 64 0, true)
     ∷ (replicate 72 0, false)
     ∷ []
@@ -68,17 +68,17 @@ commandSizes-hold = refl
 -- ---- 6, of compose: commands, flag and priority; true is right
 contents : List ((List ℕ × ℕ × ℕ) × Bool)
 contents =
-    ((right, 0, 0), true)
-    ∷ ((right, 1, 0), true)
+    ((rightCommands, 0, 0), true)
+    ∷ ((rightCommands, 1, 0), true)
     -- a flag of 2; a priority without the flag, at its limit, past its limit
-    ∷ ((right, 2, 0), false)
-    ∷ ((right, 0, 7), false)
-    ∷ ((right, 1, fieldLimit), true)
-    ∷ ((right, 1, fieldLimit + 1), false)
+    ∷ ((rightCommands, 2, 0), false)
+    ∷ ((rightCommands, 0, 7), false)
+    ∷ ((rightCommands, 1, fieldLimit), true)
+    ∷ ((rightCommands, 1, fieldLimit + 1), false)
     -- tag 63, and "tag 64", in the second command too
     ∷ ((command 1 63 (pos 5), 0, 0), true)
     ∷ ((command 1 64 (pos 5), 0, 0), false)
-    ∷ ((right ++ command 1 64 (pos 5), 0, 0), false)
+    ∷ ((rightCommands ++ command 1 64 (pos 5), 0, 0), false)
     ∷ []
 
 contents-hold : map (λ e. composeContent (e .0 .0) (e .0 .1) (e .0 .2)) contents ≡ map (λ e. e .1) contents
@@ -115,8 +115,8 @@ filled-holds = refl
 heldLines : List ((List Message × ℕ) × Bool)
 heldLines =
     -- "A3 alone, compose on A"; on C
-    ((plain (A 3) [] right ∷ [], lineA), true)
-    ∷ ((plain (A 3) [] right ∷ [], lineC), false)
+    ((plain (A 3) [] rightCommands ∷ [], lineA), true)
+    ∷ ((plain (A 3) [] rightCommands ∷ [], lineC), false)
     -- A1 in the log, C2 held
     ∷ ((a1 ∷ c2 ∷ [], lineA), false)
     ∷ ((a1 ∷ c2 ∷ [], lineC), true)
@@ -128,14 +128,14 @@ heldLines-hold = refl
 
 -- ---- 10: a set, a line and the flag
 abbrev b1-group : ℕ → Message
-b1-group group = messageOf false (B 1) group 0 0 [] right
+b1-group group = messageOf false (B 1) group 0 0 [] rightCommands
 
 limits : List ((List Message × ℕ × Bool) × Bool)
 limits =
     -- "with priority, after block 2147483647"; without; after one less
-    ((urgent (B 1) fieldLimit 5 right ∷ [], lineC, true), true)
-    ∷ ((urgent (B 1) fieldLimit 5 right ∷ [], lineC, false), false)
-    ∷ ((urgent (B 1) (fieldLimit - 1) 5 right ∷ [], lineC, true), false)
+    ((urgent (B 1) fieldLimit 5 rightCommands ∷ [], lineC, true), true)
+    ∷ ((urgent (B 1) fieldLimit 5 rightCommands ∷ [], lineC, false), false)
+    ∷ ((urgent (B 1) (fieldLimit - 1) 5 rightCommands ∷ [], lineC, true), false)
     -- the group, which is one more than B1's on A and the same on C
     ∷ ((b1-group fieldLimit ∷ [], lineA, false), true)
     ∷ ((b1-group fieldLimit ∷ [], lineC, false), false)

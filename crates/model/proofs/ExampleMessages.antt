@@ -35,8 +35,8 @@ abbrev pub command : ℕ → ℕ → ℤ → List ℕ
 command operation tag v = operation ∷ tag ∷ 0 ∷ 0 ∷ bytes 4 (word v)
 
 -- commands that are right
-abbrev pub right : List ℕ
-right = command 1 3 (pos 5)
+abbrev pub rightCommands : List ℕ
+rightCommands = command 1 3 (pos 5)
 
 -- "Group 1 and no dependency unless said."
 abbrev pub plain : ℕ → List ℕ → List ℕ → Message
@@ -90,7 +90,7 @@ a1-value v = plain (A 1) [] (command 1 3 (pos v))
 -- deltas of this number, each of a line of its own: of number 1 "lone lines", of number 2 held, since the predecessor is missing
 abbrev pub lines : ℕ → ℕ → List Message
 lines number zero = []
-lines number (suc n) = plain (lineNumber (100 - n) * 65536 + number) [] right ∷ lines number n
+lines number (suc n) = plain (lineNumber (100 - n) * 65536 + number) [] rightCommands ∷ lines number n
 
 -- ---- the station that received these, in whichever order
 abbrev pub holding : List Message → State

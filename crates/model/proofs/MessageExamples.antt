@@ -10,7 +10,7 @@ use Rattle.model.specs.Layout.{fieldLimit}
 use Rattle.model.specs.Message.{Message, commandsOf, needsOf, layoutRight, numbersRight, dependenciesRight, contentRight, commandRight}
 use Rattle.model.specs.Compose.{messageOf}
 use Rattle.model.specs.Codes.{messageConditions, lowestCode}
-use Rattle.model.proofs.ExampleMessages.{A, B, C, command, plain, right, a1, a2, b1-naming-a1}
+use Rattle.model.proofs.ExampleMessages.{A, B, C, command, plain, rightCommands, a1, a2, b1-naming-a1}
 
 -- ---- "A delta needs its dependencies and its predecessor."
 needed : List (Message × List ℕ)
@@ -18,7 +18,7 @@ needed =
     (a1, [])
     ∷ (a2, A 1 ∷ [])
     ∷ (b1-naming-a1, A 1 ∷ [])
-    ∷ (plain (C 2) (A 1 ∷ B 1 ∷ []) right, C 1 ∷ A 1 ∷ B 1 ∷ [])
+    ∷ (plain (C 2) (A 1 ∷ B 1 ∷ []) rightCommands, C 1 ∷ A 1 ∷ B 1 ∷ [])
     ∷ []
 
 needed-holds : map (λ e. needsOf (e .0)) needed ≡ map (λ e. e .1) needed
@@ -30,7 +30,7 @@ commanded : List (Message × List (List ℕ))
 commanded =
     (a1, command 1 3 (pos 1500) ∷ [])
     ∷ (b1-naming-a1, command 2 3 (negsuc 19) ∷ [])
-    ∷ (plain (C 2) (A 1 ∷ B 1 ∷ []) (right ++ command 3 4 (pos 6)), right ∷ command 3 4 (pos 6) ∷ [])
+    ∷ (plain (C 2) (A 1 ∷ B 1 ∷ []) (rightCommands ++ command 3 4 (pos 6)), rightCommands ∷ command 3 4 (pos 6) ∷ [])
     ∷ []
 
 commanded-holds : map (λ e. commandsOf (e .0)) commanded ≡ map (λ e. e .1) commanded
@@ -48,7 +48,7 @@ dependencies (suc n) = dependencies n ++ B (suc n) ∷ []
 
 abbrev commands : ℕ → List ℕ
 commands zero = []
-commands (suc n) = right ++ commands n
+commands (suc n) = rightCommands ++ commands n
 
 -- 3: kind, byte 1, counts, T, offsets and zeros
 layouts : List (Message × ℕ)
@@ -69,8 +69,8 @@ layouts =
     ∷ (set a1 36 1, 3)
     ∷ (set a1 39 1, 3)
     -- "D dependencies 0..8; C commands 1..8"
-    ∷ (plain (A 1) (dependencies 8) right, 0)
-    ∷ (plain (A 1) (dependencies 9) right, 3)
+    ∷ (plain (A 1) (dependencies 8) rightCommands, 0)
+    ∷ (plain (A 1) (dependencies 9) rightCommands, 3)
     ∷ (plain (A 1) [] [], 3)
     ∷ (plain (A 1) [] (commands 8), 0)
     ∷ (plain (A 1) [] (commands 9), 3)
@@ -83,13 +83,13 @@ layouts-hold = refl
 -- 4: "A0"; a dependency of number 0000. 5: "A2 naming A1"; dependencies out of order, equal, own.
 named : List (Message × ℕ)
 named =
-    (plain (A 0) [] right, 4)
-    ∷ (plain (A 1) (B 0 ∷ []) right, 4)
-    ∷ (plain (A 2) (A 1 ∷ []) right, 5)
-    ∷ (plain (A 1) (C 1 ∷ B 1 ∷ []) right, 5)
-    ∷ (plain (A 1) (B 1 ∷ B 1 ∷ []) right, 5)
-    ∷ (plain (A 1) (A 1 ∷ []) right, 5)
-    ∷ (plain (A 3) (A 1 ∷ B 1 ∷ C 1 ∷ []) right, 0)
+    (plain (A 0) [] rightCommands, 4)
+    ∷ (plain (A 1) (B 0 ∷ []) rightCommands, 4)
+    ∷ (plain (A 2) (A 1 ∷ []) rightCommands, 5)
+    ∷ (plain (A 1) (C 1 ∷ B 1 ∷ []) rightCommands, 5)
+    ∷ (plain (A 1) (B 1 ∷ B 1 ∷ []) rightCommands, 5)
+    ∷ (plain (A 1) (A 1 ∷ []) rightCommands, 5)
+    ∷ (plain (A 3) (A 1 ∷ B 1 ∷ C 1 ∷ []) rightCommands, 0)
     ∷ []
 
 named-holds : map (λ e. codeOf (e .0)) named ≡ map (λ e. e .1) named
@@ -112,7 +112,7 @@ headed =
     ∷ ((true, 1, 1, fieldLimit + 1), 6)
     ∷ []
 
-headed-holds : map (λ e. codeOf (messageOf (e .0 .0) (A 1) (e .0 .1) (e .0 .2) (e .0 .3) [] right)) headed ≡ map (λ e. e .1) headed
+headed-holds : map (λ e. codeOf (messageOf (e .0 .0) (A 1) (e .0 .1) (e .0 .2) (e .0 .3) [] rightCommands)) headed ≡ map (λ e. e .1) headed
 unfolding headed layoutRight numbersRight dependenciesRight contentRight commandRight
 headed-holds = refl
 
@@ -123,15 +123,15 @@ content =
     ∷ (command 3 63 (pos 5), 0)
     ∷ (command 4 3 (pos 5), 6)
     ∷ (command 1 64 (pos 5), 6)
-    ∷ (set right 2 1, 6)
-    ∷ (set right 3 1, 6)
+    ∷ (set rightCommands 2 1, 6)
+    ∷ (set rightCommands 3 1, 6)
     ∷ (command 1 3 (pos 1000000), 0)
     ∷ (command 1 3 (pos 1000001), 6)
     ∷ (command 1 3 (negsuc 999999), 0)
     ∷ (command 1 3 (negsuc 1000000), 6)
     -- the second command
-    ∷ (right ++ right, 0)
-    ∷ (right ++ command 1 64 (pos 5), 6)
+    ∷ (rightCommands ++ rightCommands, 0)
+    ∷ (rightCommands ++ command 1 64 (pos 5), 6)
     ∷ []
 
 content-holds : map (λ e. codeOf (plain (A 1) (B 1 ∷ []) (e .0))) content ≡ map (λ e. e .1) content

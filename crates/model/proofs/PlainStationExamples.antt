@@ -8,7 +8,7 @@ use lib.IntN.{pos}
 use Rattle.model.specs.Message.{Message, layoutRight, numbersRight, dependenciesRight, contentRight, commandRight, passes}
 use Rattle.model.specs.Order.{State, stateOf}
 use Rattle.model.specs.PlainStation.{accepts, receive}
-use Rattle.model.proofs.ExampleMessages.{A, command, plain, right, a1, a2, a1-value, lines, holding}
+use Rattle.model.proofs.ExampleMessages.{A, command, plain, rightCommands, a1, a2, a1-value, lines, holding}
 
 pub record Delivery : Type 0 where
   pub set : State
@@ -24,8 +24,8 @@ deliveries =
     -- "refused if its step buffer is refused by 1, else if the message fails 3 to 6"
     ∷ (to (holding []) a1 10159, (false, 0))
     ∷ (to (holding []) (take 47 a1) 10160, (false, 0))
-    ∷ (to (holding []) (plain (A 0) [] right) 10160, (false, 0))
-    ∷ (to (holding []) (plain (A 2) (A 1 ∷ []) right) 10160, (false, 0))
+    ∷ (to (holding []) (plain (A 0) [] rightCommands) 10160, (false, 0))
+    ∷ (to (holding []) (plain (A 2) (A 1 ∷ []) rightCommands) 10160, (false, 0))
     ∷ (to (holding []) (plain (A 1) [] (command 1 64 (pos 5))) 10160, (false, 0))
     -- "else if the set has its sequence under other bytes"; under the same it "may be already" there
     ∷ (to (holding (a1-value 1 ∷ [])) (a1-value 2) 10160, (false, 1))

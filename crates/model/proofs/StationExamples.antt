@@ -8,7 +8,7 @@ use lib.IntN.{ℤ, pos}
 use Rattle.model.specs.Message.{Message}
 use Rattle.model.specs.Order.{State, sequencesOf, needs, executablesOf, logOf, heldOf, effectiveBlock}
 use Rattle.model.specs.Setpoints.{startValues, stop, raise, operate, changeOf, apply, runCommand, runDelta, setpointsOf}
-use Rattle.model.proofs.ExampleMessages.{A, B, C, plain, urgent, right, a1, a2, b1, c2, stopped, b1-5, c1-7, raised, a1-group-2, a1-naming-b1, b1-naming-a1, holding}
+use Rattle.model.proofs.ExampleMessages.{A, B, C, plain, urgent, rightCommands, a1, a2, b1, c2, stopped, b1-5, c1-7, raised, a1-group-2, a1-naming-b1, b1-naming-a1, holding}
 
 -- ---- what runs: the deltas received; the log, and the held ones
 abbrev logAndHeld : State → List ℕ × List ℕ
@@ -27,9 +27,9 @@ received =
     -- A1 and B1 each naming the other: L 0, H 2, by ascending sequence.
     ∷ (b1-naming-a1 ∷ a1-naming-b1 ∷ [], ([], A 1 ∷ B 1 ∷ []))
     -- What needs one of the ring is held too; what does not runs.
-    ∷ (b1-naming-a1 ∷ a1-naming-b1 ∷ a2 ∷ plain (C 1) [] right ∷ [], (C 1 ∷ [], A 1 ∷ A 2 ∷ B 1 ∷ []))
+    ∷ (b1-naming-a1 ∷ a1-naming-b1 ∷ a2 ∷ plain (C 1) [] rightCommands ∷ [], (C 1 ∷ [], A 1 ∷ A 2 ∷ B 1 ∷ []))
     -- Unrelated deltas do not wait behind a held one: A2 is held, B1 runs, and B2 after it.
-    ∷ (a2 ∷ b1 ∷ plain (B 2) [] right ∷ [], (B 1 ∷ B 2 ∷ [], A 2 ∷ []))
+    ∷ (a2 ∷ b1 ∷ plain (B 2) [] rightCommands ∷ [], (B 1 ∷ B 2 ∷ [], A 2 ∷ []))
     ∷ []
 
 received-holds : map (λ e. logAndHeld (holding (e .0))) received ≡ map (λ e. e .1) received
@@ -46,9 +46,9 @@ ordered =
     -- With plain C2 too: A1, C1, B1, C2.
     ∷ (c2 ∷ a1 ∷ b1-5 ∷ c1-7 ∷ [], A 1 ∷ C 1 ∷ B 1 ∷ C 2 ∷ [])
     -- The lower block first, whatever the priority.
-    ∷ (urgent (A 1) 2 9 right ∷ b1-5 ∷ [], B 1 ∷ A 1 ∷ [])
+    ∷ (urgent (A 1) 2 9 rightCommands ∷ b1-5 ∷ [], B 1 ∷ A 1 ∷ [])
     -- Explicit priority, of 0 too, before none: B2 has the effective block of B1.
-    ∷ (b1-5 ∷ plain (B 2) [] right ∷ urgent (C 1) 1 0 right ∷ [], B 1 ∷ C 1 ∷ B 2 ∷ [])
+    ∷ (b1-5 ∷ plain (B 2) [] rightCommands ∷ urgent (C 1) 1 0 rightCommands ∷ [], B 1 ∷ C 1 ∷ B 2 ∷ [])
     -- Group before sequence. A1 of group 2 and B1 of group 1: log B1, A1.
     ∷ (a1-group-2 ∷ b1 ∷ [], B 1 ∷ A 1 ∷ [])
     -- A need before its user, whatever the keys: A1 names B1.
@@ -92,7 +92,7 @@ effective =
     -- A1, C1 of block 1, B1 of block 1, and plain C2 after C1
     ∷ (a1 ∷ b1-5 ∷ c1-7 ∷ c2 ∷ [], 0 ∷ 1 ∷ 1 ∷ 1 ∷ [])
     -- B1 of block 3; C1 names it; C2 after C1, of block 2; C3 after C2, of block 4
-    ∷ (urgent (B 1) 3 5 right ∷ plain (C 1) (B 1 ∷ []) right ∷ urgent (C 2) 2 5 right ∷ urgent (C 3) 4 5 right ∷ [], 3 ∷ 3 ∷ 3 ∷ 4 ∷ [])
+    ∷ (urgent (B 1) 3 5 rightCommands ∷ plain (C 1) (B 1 ∷ []) rightCommands ∷ urgent (C 2) 2 5 rightCommands ∷ urgent (C 3) 4 5 rightCommands ∷ [], 3 ∷ 3 ∷ 3 ∷ 4 ∷ [])
     ∷ []
 
 abbrev blocksOf : State → List ℕ

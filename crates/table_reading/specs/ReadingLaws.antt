@@ -19,8 +19,8 @@ use Rattle.laws.specs.ImageSetLaws.{image-messages, distinct-places}
 use Rattle.laws.specs.OffsetLaws.{count-messages}
 use Rattle.message.specs.declared.checks.Check.{Check}
 use Rattle.message.specs.declared.checks.Check.the-variants.{Wrong}
-use Rattle.table_reading.specs.declared.Reading.{Reading}
-use Rattle.table_reading.specs.Reading.{ReadsTable}
+use Rattle.table_reading.specs.declared.TableReading.{TableReading}
+use Rattle.table_reading.specs.TableReading.{ReadsTable}
 use Rattle.table.specs.Table.{messageFrom, deltasOf, setIn, Holds}
 use Rattle.walk.specs.Walk.{countIn}
 
@@ -89,5 +89,5 @@ module _ (b : List ℕ) (i : ℕ) (starts : List ℕ) (g : Gathered b i starts) 
     }
 
 -- ---- the answers by their checks
-pub wrong-reads : (b : List ℕ) (r : Reading) → r .check ≡ Wrong → isImage b ≡ false → ReadsTable b r
+pub wrong-reads : (b : List ℕ) (r : TableReading) → r .check ≡ Wrong → isImage b ≡ false → ReadsTable b r
 wrong-reads b r e h = subst (λ (k : Check). ReadsTable b (record { check = k; table = r .table })) (sym e) h

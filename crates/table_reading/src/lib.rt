@@ -15,10 +15,10 @@ ghost use Rattle.model.specs.Layout.{capacity, imageSize};
 ghost use Rattle.message.specs.declared.checks.Check.the-variants.{Wrong};
 ghost use Rattle.table.specs.Table.{Holds};
 ghost use Rattle.walk.specs.Walk.{countIn, Walkable, Offsets};
-ghost use Rattle.table_reading.specs.Reading.{IsMessage, TakesIn, ReadsTable};
+ghost use Rattle.table_reading.specs.TableReading.{IsMessage, TakesIn, ReadsTable};
 
 // Whether an image's messages were read, and their table.
-pub struct Reading {
+pub struct TableReading {
     pub check: Check,
     pub table: Table,
 }
@@ -37,17 +37,17 @@ fn take_in(b: &[u8], starts: &mut [u16], count: usize, at: u16, s: Sequence) -> 
 }
 
 // A sequence is there twice: there is no table.
-fn refuse() -> Reading
+fn refuse() -> TableReading
     ensures { λ r. ⌜ r .check ≡ Wrong ⌝ }
 {
-    Reading {
+    TableReading {
         check: Check::Wrong,
         table: Table::new(),
     }
 }
 
 // The table of the messages at the offsets of a walk; refused where a sequence is there twice, which no image has.
-pub fn read_table(b: &[u8], offsets: &[u16]) -> Reading
+pub fn read_table(b: &[u8], offsets: &[u16]) -> TableReading
     requires { ⌜ (length (now b) ≡ imageSize) × Walkable (now b) × Offsets (now b) (countIn (now b)) (now offsets) ⌝ }
     ensures { λ r. ⌜ ReadsTable (now (b .entry)) r ⌝ }
 {
@@ -62,7 +62,7 @@ pub fn read_table(b: &[u8], offsets: &[u16]) -> Reading
         };
         count += 1;
     }
-    Reading {
+    TableReading {
         check: Check::Right,
         table: Table { starts, count },
     }

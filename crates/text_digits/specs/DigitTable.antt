@@ -13,8 +13,8 @@ pub record HasDigits (table : List ℕ) : Type 0 where
   pub rule : (c : ℕ) → c < 256 → getD table c 0 ≡ digitOf c
 
 -- the test of one character
-abbrev pub right : ℕ → ℕ → Bool
-right c x = eqb x (digitOf c)
+abbrev pub digitRight : ℕ → ℕ → Bool
+digitRight c x = eqb x (digitOf c)
 
-pub has-digits : (table : List ℕ) → length table ≡ 256 → T (everyPlace right 0 table) → HasDigits table
-has-digits table e t = record { rule = λ c h. eqb→eq (getD table c 0) (digitOf c) (at-place right table t c (omega arith)) }
+pub has-digits : (table : List ℕ) → length table ≡ 256 → T (everyPlace digitRight 0 table) → HasDigits table
+has-digits table e t = record { rule = λ c h. eqb→eq (getD table c 0) (digitOf c) (at-place digitRight table t c (omega arith)) }

@@ -1,6 +1,6 @@
 // The table of digits: for each character the digit that it stands for, or 255. Those of 0-9 and A-F have one.
 
-pub const DIGITS: [u8; 256] = [
+pub const DIGIT_TABLE: [u8; 256] = [
     255,
     255,
     255,

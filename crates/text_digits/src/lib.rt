@@ -1,7 +1,7 @@
 // The characters of a text: hexadecimal digits, and the comma.
 mod entries;
 
-use crate::entries::DIGITS;
+use crate::entries::DIGIT_TABLE;
 ghost use mathlib.Core.Path.{_≡_};
 ghost use Prim.Native.Nat.{_<_};
 ghost use Rattle.model.specs.Text.{digitOf, characterOf};
@@ -20,7 +20,7 @@ pub const NO_DIGIT: u8 = 255;
 pub fn digits() -> [u8; CHARACTER_COUNT]
     ensures { λ r. ⌜ HasDigits r ⌝ }
 {
-    DIGITS
+    DIGIT_TABLE
 }
 
 // The digit of a character, or 255.

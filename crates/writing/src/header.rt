@@ -85,7 +85,7 @@ fn put_parts(message: &mut [u8], h: Header, flag: u32, block: u32, priority: u32
 }
 
 // Writes a header: byte 1, block and priority are zero where it has no priority.
-pub fn put_header(message: &mut [u8], h: Header)
+pub fn put_message_header(message: &mut [u8], h: Header)
     requires { ⌜ (headerSize ≤ length (now message)) × FewParts (h .dependencies) (h .commands) ⌝ }
     ensures { λ _. ⌜ now (message .exit) ≡ pasted (now (message .entry)) 0 (headerFor h) ⌝ }
 {

@@ -2,7 +2,7 @@
 pub mod header;
 pub mod sequences;
 
-use crate::header::put_header;
+use crate::header::put_message_header;
 use crate::sequences::put_sequences;
 use buffer_writes::copy_at;
 use layout::HEADER_SIZE;
@@ -23,7 +23,7 @@ pub fn write_message(
     requires { ⌜ Writable (now message) h (now pool) (now starts) (now places) (now commands) ⌝ }
     ensures { λ r. ⌜ Writes (now (message .entry)) h (now (pool .entry)) (now (starts .entry)) (now (places .entry)) (now (commands .entry)) (now (message .exit)) r ⌝ }
 {
-    put_header(message, h);
+    put_message_header(message, h);
     put_sequences(message, pool, starts, places, HEADER_SIZE);
     let start = HEADER_SIZE + SEQUENCE_SIZE * places.len();
     copy_at(message, start, commands, commands.len());

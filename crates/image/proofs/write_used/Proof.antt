@@ -29,7 +29,7 @@ found m = m .before .before
 abbrev started : tie.After-put-messages → tie.After-messages-start
 started u = u .before .before .before .before
 
-abbrev copied : tie.After-put-header-arg → tie.After-put-messages
+abbrev copied : tie.After-put-image-header-arg → tie.After-put-messages
 copied c = c .before .before .before
 
 abbrev set : tie.After-held-places → State
@@ -95,22 +95,22 @@ put-messages-requires c κs =
     let size = begun h .pre .room in
     (record { logged = logged h; held = others-are h }, omega (arith, room m))
 
-cast-put-header : tie.Need-cast-put-header
-cast-put-header c =
+cast-put-image-header : tie.Need-cast-put-image-header
+cast-put-image-header c =
     let s = begun (found (started (copied c))) in
     omega (arith, log-fits (s .args .pool .now) (s .args .starts .now) (s .args .places .now) (s .pre .logged))
 
-cast-put-header-2 : tie.Need-cast-put-header-2
-cast-put-header-2 c = omega (arith, held-count (found (started (copied c))))
+cast-put-image-header-2 : tie.Need-cast-put-image-header-2
+cast-put-image-header-2 c = omega (arith, held-count (found (started (copied c))))
 
-cast-put-header-3 : tie.Need-cast-put-header-3
-cast-put-header-3 c = omega (arith, room (started (copied c)))
+cast-put-image-header-3 : tie.Need-cast-put-image-header-3
+cast-put-image-header-3 c = omega (arith, room (started (copied c)))
 
-cast-put-header-4 : tie.Need-cast-put-header-4
-cast-put-header-4 c = omega (arith, used-fits (copied c))
+cast-put-image-header-4 : tie.Need-cast-put-image-header-4
+cast-put-image-header-4 c = omega (arith, used-fits (copied c))
 
-put-header-requires : tie.Need-put-header-requires
-put-header-requires c κs = search needs
+put-image-header-requires : tie.Need-put-image-header-requires
+put-image-header-requires c κs = search needs
 
 put-values-requires : tie.Need-put-values-requires
 put-values-requires c κs = search needs
@@ -129,11 +129,11 @@ returns c =
     let S = set h in
     used-written S (logged h .holds) (begun h .pre .room)
     (subst (λ (n : ℕ). Copied (a .out .now) n (messagesOf S) (u .put-messages .last .0) (u .put-messages .result)) (start-is m) (u .put-messages .ensures))
-    (headed .put-header .ensures
+    (headed .put-image-header .ensures
     ∙ ap (pasted (u .put-messages .last .0) 0)
     (header-is S (log-count (a .pool .now) (a .starts .now) (a .places .now) (logged h))
     (h .held-places .ensures .size ∙ others-count (a .pool .now) (a .starts .now) (a .places .now) (logged h)) (start-is m) (u .put-messages .ensures .end)))
-    (valued .put-values .ensures ∙ values-are S (headed .put-header .last .0) setpointsStart
+    (valued .put-values .ensures ∙ values-are S (headed .put-image-header .last .0) setpointsStart
     (log-values (a .pool .now) (a .starts .now) (a .places .now) (h .before .run-log .result) (logged h) (h .before .run-log .ensures)))
 
 pub write-used-spec : {M : Type 1} → statement M
@@ -147,11 +147,11 @@ write-used-spec =
     part-put-messages-start
     part-put-messages-end
     put-messages-requires
-    cast-put-header
-    cast-put-header-2
-    cast-put-header-3
-    cast-put-header-4
-    put-header-requires
+    cast-put-image-header
+    cast-put-image-header-2
+    cast-put-image-header-3
+    cast-put-image-header-4
+    put-image-header-requires
     put-values-requires
     same-length
     returns)

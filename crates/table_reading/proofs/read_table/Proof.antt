@@ -12,7 +12,7 @@ use Rattle.table.specs.Table.{messageFrom}
 use Rattle.table.specs.TableLaws.{Lies}
 use Rattle.walk.specs.Walk.{countIn}
 use Rattle.walk.specs.WalkLaws.{walked-message, walked-passes, walked-lies}
-use Rattle.table_reading.specs.Reading.{TakesIn}
+use Rattle.table_reading.specs.TableReading.{TakesIn}
 use Rattle.table_reading.specs.ReadingLaws.{Gathered, gathered-none, gathered-all, gathered-set, gathered-twice, gathered-next, wrong-reads}
 use Rattle.table_reading.proofs.read_table.Statement.{statement}
 use Rattle.table_reading.proofs.read_table.Tie as tie

@@ -13,8 +13,8 @@ use borrow.Author.Needs.{needs}
 use Rattle.writing.proofs.write_message.Statement.{statement}
 use Rattle.writing.proofs.write_message.Tie as tie
 
-put-header-requires : tie.Need-put-header-requires
-put-header-requires c κs = search needs
+put-message-header-requires : tie.Need-put-message-header-requires
+put-message-header-requires c κs = search needs
 
 put-sequences-requires : tie.Need-put-sequences-requires
 put-sequences-requires c κs = search needs
@@ -48,7 +48,7 @@ returns c =
     record {
       message = copied .copy-at .ensures
           ∙ ap (λ (b : List ℕ). pasted b start (a .commands .now))
-          (listed .put-sequences .ensures ∙ ap (λ (b : List ℕ). pasted b headerSize (sequencesBytes names)) (headed .put-header .ensures))
+          (listed .put-sequences .ensures ∙ ap (λ (b : List ℕ). pasted b headerSize (sequencesBytes names)) (headed .put-message-header .ensures))
           ∙ message-written (a .message .now) (a .h) names (a .commands .now) start counted (s .pre .commands-counted) (omega (arith, length-sequences names))
           (omega (arith, s .pre .room, s .pre .eights, s .pre .few .dependencies-fit, s .pre .few .commands-fit, s .pre .dependencies-counted));
       length-is = ap (λ (n : ℕ). headerSize + sequenceSize * n + length (a .commands .now)) (sym count) ∙ sym (message-length (a .h) names (a .commands .now) counted (s .pre .commands-counted));
@@ -58,7 +58,7 @@ pub write-message-spec : {M : Type 1} → statement M
 write-message-spec =
     tie.close
     (tie.spec
-    put-header-requires
+    put-message-header-requires
     put-sequences-requires
     mul-start
     add-start

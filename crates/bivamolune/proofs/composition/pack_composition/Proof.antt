@@ -3,7 +3,7 @@ use mathlib.Core.Path.{_≡_, sym, _∙_, ap, subst}
 use Prim.Native.Nat.{ℕ, _*_, _≤_}
 use native.Mathlib.Omega.{arith}
 use Rattle.model.specs.Layout.{messageRoom}
-use Rattle.bivamolune.specs.Packing.{numberOf}
+use Rattle.bivamolune.specs.Packing.{packedLength}
 use Rattle.bivamolune.specs.ComposeAnswers.{numberBy, Short}
 use borrow.Author.Needs.{needs}
 use Rattle.bivamolune.proofs.composition.pack_composition.Statement.{statement}
@@ -47,7 +47,7 @@ enum-told-7 : tie.Need-enum-told-7
 enum-told-7 c = search needs
 
 returns : tie.Need-returns
-returns c = let e : 256 * size c ≡ numberOf 0 (size c) = omega arith in e ∙ ap numberBy (sym (c .before .c .given .1))
+returns c = let e : 256 * size c ≡ packedLength 0 (size c) = omega arith in e ∙ ap numberBy (sym (c .before .c .given .1))
 
 returns-2 : tie.Need-returns-2
 returns-2 c = search needs

@@ -20,7 +20,7 @@ use Rattle.message.specs.declared.checks.Check.the-variants.{Right}
 use Rattle.table.specs.declared.Table.{Table}
 use Rattle.table.specs.Table.{startsOf, deltasOf, deltasAt, setIn}
 use Rattle.walk.specs.Walk.{LogOffsets}
-use Rattle.table_reading.specs.Reading.{IsTable}
+use Rattle.table_reading.specs.TableReading.{IsTable}
 use Rattle.log_check.specs.Checking.{ChecksLog}
 use Rattle.image_log.specs.LogRead.{ReadsLog}
 use Rattle.judged.specs.Judging.{placesIn}

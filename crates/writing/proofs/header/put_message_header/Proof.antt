@@ -4,8 +4,8 @@ use Rattle.message.specs.declared.header.Priority.{Priority}
 use Rattle.image_header.specs.Pieces.{pasted}
 use Rattle.writing.specs.Writing.{headerWith}
 use borrow.Author.Needs.{needs}
-use Rattle.writing.proofs.header.put_header.Statement.{statement}
-use Rattle.writing.proofs.header.put_header.Tie as tie
+use Rattle.writing.proofs.header.put_message_header.Statement.{statement}
+use Rattle.writing.proofs.header.put_message_header.Tie as tie
 
 enum-told : tie.Need-enum-told
 enum-told c = search needs
@@ -39,8 +39,8 @@ returns-2 c =
     let a = given .before .before .before .args in
     put .put-parts2 .ensures ∙ ap (λ (p : Priority). pasted (a .message .now) 0 (headerWith (a .h) p)) (sym (given .given .given .1))
 
-pub put-header-spec : {M : Type 1} → statement M
-put-header-spec =
+pub put-message-header-spec : {M : Type 1} → statement M
+put-message-header-spec =
     tie.close
     (tie.spec
     enum-told

@@ -15,7 +15,7 @@ use Rattle.message.specs.declared.checks.Check.the-variants.{Right, Wrong}
 use Rattle.sequence.specs.declared.Sequence.{Sequence}
 use Rattle.sequence.specs.Sequence.{sequenceNumber}
 use Rattle.table.specs.declared.Table.{Table}
-use Rattle.table_reading.specs.declared.Reading.{Reading}
+use Rattle.table_reading.specs.declared.TableReading.{TableReading}
 use Rattle.table.specs.Table.{startsOf, messageFrom, deltasOf, setIn, Holds}
 
 -- ---- one message
@@ -48,5 +48,5 @@ abbrev readBy : List ℕ → Check → Table → Type 0
 readBy b Right t = IsTable b t
 readBy b Wrong t = isImage b ≡ false
 
-abbrev pub ReadsTable : List ℕ → Reading → Type 0
+abbrev pub ReadsTable : List ℕ → TableReading → Type 0
 ReadsTable b r = readBy b (r .check) (r .table)

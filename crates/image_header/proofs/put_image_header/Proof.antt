@@ -7,8 +7,8 @@ use Rattle.model.specs.Layout.{setpointsOffsetAt}
 use Rattle.image_header.specs.Pieces.{pasted, countsBytes, offsetsBytes}
 use Rattle.image_header.specs.PieceLaws.{pasted-pasted}
 use borrow.Author.Needs.{needs}
-use Rattle.image_header.proofs.put_header.Statement.{statement}
-use Rattle.image_header.proofs.put_header.Tie as tie
+use Rattle.image_header.proofs.put_image_header.Statement.{statement}
+use Rattle.image_header.proofs.put_image_header.Tie as tie
 
 put-counts-requires : tie.Need-put-counts-requires
 put-counts-requires c κs = search needs
@@ -30,5 +30,5 @@ returns c =
     ∙ ap (λ (b : List ℕ). pasted b setpointsOffsetAt (offsetsBytes (a .start) (a .used))) (counts .put-counts .ensures)
     ∙ pasted-pasted (a .out .now) 0 (countsBytes (a .log) (a .held)) (offsetsBytes (a .start) (a .used)) (omega arith)
 
-pub put-header-spec : {M : Type 1} → statement M
-put-header-spec = tie.close (tie.spec put-counts-requires put-offsets-requires same-length returns)
+pub put-image-header-spec : {M : Type 1} → statement M
+put-image-header-spec = tie.close (tie.spec put-counts-requires put-offsets-requires same-length returns)
