@@ -1,6 +1,5 @@
--- What is promised of the calls, over what they were proved to leave behind, their own postconditions: each promise at its full type,
--- under the words of documents 01 and 02. A buffer is a list of bytes; `×` is and, `⊎` or, `¬` not, `↔` exactly if, `∈` that a list has it.
--- The proofs stand in the crates below.
+-- What is promised of the calls as the host sees them, over what the functions for C were proved to leave behind: each promise at its full type, under the
+-- words of the three demands and of documents 01 and 02. A buffer is a list of bytes; `×` is and, `⊎` or, `¬` not, `↔` exactly if, `∈` that a list has it.
 use mathlib.Core.Path.{_≡_}
 use mathlib.Core.Logic.{_↔_, _⊎_}
 use mathlib.Core.Bool.{true}
@@ -16,85 +15,86 @@ use Rattle.model.specs.Layout.{capacity, stepRoom, priorityFlagAt, sequencesRoo
 use Rattle.model.specs.Message.{Message, dependencyCount, commandsStart, sequenceOf, groupOf, blockOf, priorityOf, dependenciesOf, lineOf, numberOf, predecessorOf, passes}
 use Rattle.model.specs.Order.{Ascending, sequencesOf, effectiveBlock, MeetsRing, Executable, Grounded, IsLog, logOf}
 use Rattle.model.specs.Image.{imageOf, valuesIn, logIn, heldIn, stateIn, isImage, messagesIn, messagesStartIn, offsetOf, walk, messageOffset, usedCount}
-use Rattle.model.specs.Steps.{Step, undosOf, executionsOf, Plays, Standing, execute, readSteps}
+use Rattle.model.specs.Steps.{Step, undosOf, executionsOf, recordsBetween, Plays, Standing, execute, readSteps}
 use Rattle.model.specs.Compose.{newNumber, lastSequence}
 use Rattle.model.specs.Codes.{Conditions, lowestCode, emptyConditions, deliverConditions, composeConditions, readConditions, logMessageConditions, setpointConditions, readSequencesConditions, writeSequencesConditions}
-use Rattle.model.specs.Calls.{Emptied, Delivered, Composed, Setpoint, Converted, start, convertedAnswer, front}
-use Rattle.model.specs.Run.{Given, Event, imageAfter, Run, stateAfter, logAfter, oldLog, accepts?, codeFor, acceptedIn, Played, PairsPlayed}
+use Rattle.model.specs.Calls.{Emptied, empty, Delivered, deliver, Composed, compose, logMessageCode, logMessage, Setpoint, setpoint, start, Converted, convertedAnswer, front, readSequences, writeSequences}
+use Rattle.model.specs.Run.{Given, Event, imageAfter, Run, stateAfter, logAfter, oldLog, accepts?, codeFor, acceptedIn, Played, recordsRead, PairsPlayed}
 use Rattle.model.specs.RunOrder.{receivedIn}
 use Rattle.run_laws.specs.CalledRuns.{Began, Answered}
 use Rattle.compose_laws.specs.ComposeLaws.{messageBy}
 use Rattle.compose_laws.specs.ComposedFields.{NeededByNone}
 use Rattle.theorems.specs.Theorems.{CodeLaw, offset-law}
-use Rattle.runs.specs.Runs.{EmptiedFrom, DeliveredTo}
-use Rattle.runs.specs.Composes.{ComposedOn}
-use Rattle.refusals.specs.Refusals.{LogMessageOf, SetpointOf, empty-codes, deliver-codes, compose-codes, log-message-codes, setpoint-codes, read-sequences-codes, write-sequences-codes}
+use Rattle.refusals.specs.Refusals.{empty-codes, deliver-codes, compose-codes, log-message-codes, setpoint-codes, read-sequences-codes, write-sequences-codes}
 use Rattle.round_trips.specs.Texts.{ReadFrom, WrittenFrom, written-read, read-written}
 use Rattle.log_reader.specs.declared.reader.LogReader.{LogReader}
 use Rattle.log_reader.specs.Reader.{readerOf, Starts}
 use Rattle.log_reader.specs.Readings.{NextCalls, calls-read}
-use Rattle.host_runs.specs.HostRuns.{HostEmptied, HostDelivered, host-agreement, host-order-kept}
-use Rattle.host_runs.specs.HostComposes.{HostComposed, host-composed-keeps}
+use Rattle.host_runs.specs.HostRuns.{HostEmptied, host-emptied-as, HostDelivered, host-delivered-as, host-agreement, host-order-kept}
+use Rattle.host_runs.specs.HostComposes.{HostComposed, host-composed-as, host-composed-keeps}
+use Rattle.host_runs.specs.HostReads.{HostLogMessage, host-log-message-as, HostSetpoint, host-setpoint-as, HostRead, host-read-as, HostWritten, host-written-as}
 
--- ---- DEMAND 1: "The lowest number that applies to the call is answered, and never when its condition fails. A refusal writes nothing, and
--- its counts and length are 0." A call's conditions are its numbers, each with whether it applies.
+-- ---- DEMAND 1: "No call may leave its result open": each answers what its definition does, code, counts, values and every byte. "The lowest number that
+-- applies to the call is answered, and never when its condition fails. A refusal writes nothing, and its counts and length are 0."
 abbrev Refuses : Conditions → ℕ → Type 0 → Type 0
 Refuses conditions code nothing = ((code ≡ 0) ⊎ ((code, true) ∈ conditions)) × ((n : ℕ) → (n, true) ∈ conditions → (0 < code) × (code ≤ n)) × (¬ (code ≡ 0) → nothing)
 
 refuses : {conditions : Conditions} {code : ℕ} {nothing : Type 0} → CodeLaw conditions code nothing → Refuses conditions code nothing
 refuses l = (l .lowest .holds, l .lowest .least, l .refused)
 
-empty-refuses : (buffer : List ℕ) (a : Emptied) → EmptiedFrom buffer a → Refuses (emptyConditions buffer) (a .code) (a .image ≡ buffer)
-empty-refuses buffer a c = refuses (empty-codes buffer a c)
+empty-answers : (buffer : List ℕ) (a : Emptied) → HostEmptied buffer a → (a ≡ empty buffer) × Refuses (emptyConditions buffer) (a .code) (a .image ≡ buffer)
+empty-answers buffer a c = (host-emptied-as buffer a c, refuses (empty-codes buffer a c))
 
-deliver-refuses : (b : List ℕ) (m : Message) (steps : List ℕ) (a : Delivered) → DeliveredTo b m steps a
-    → Refuses (deliverConditions b m (length steps)) (a .code) ((a .undos ≡ 0) × (a .executions ≡ 0) × (a .image ≡ b) × (a .steps ≡ steps))
-deliver-refuses b m steps a c = refuses (deliver-codes b m steps a c)
+deliver-answers : (b : List ℕ) (m : Message) (steps : List ℕ) (a : Delivered) → HostDelivered b m steps a → (a ≡ deliver b m steps)
+    × Refuses (deliverConditions b m (length steps)) (a .code) ((a .undos ≡ 0) × (a .executions ≡ 0) × (a .image ≡ b) × (a .steps ≡ steps))
+deliver-answers b m steps a c = (host-delivered-as b m steps a c, refuses (deliver-codes b m steps a c))
 
-compose-refuses : (b line commands : List ℕ) (flag priority : ℕ) (buffer : List ℕ) (a : Composed) → ComposedOn b line commands flag priority buffer a
-    → Refuses (composeConditions b line commands flag priority (length buffer)) (a .code) ((a .size ≡ 0) × (a .message ≡ buffer))
-compose-refuses b line commands flag priority buffer a c = refuses (compose-codes b line commands flag priority buffer a c)
+compose-answers : (b line commands : List ℕ) (flag priority : ℕ) (buffer : List ℕ) (a : Composed) → HostComposed b line commands flag priority buffer a
+    → (a ≡ compose b line commands flag priority buffer) × Refuses (composeConditions b line commands flag priority (length buffer)) (a .code) ((a .size ≡ 0) × (a .message ≡ buffer))
+compose-answers b line commands flag priority buffer a c = (host-composed-as b line commands flag priority buffer a c, refuses (compose-codes b line commands flag priority buffer a c))
 
-log-message-refuses : (b : List ℕ) (place : ℕ) (part : List ℕ) (code : ℕ) → LogMessageOf b place part code → Refuses (logMessageConditions b place) code (part ≡ [])
-log-message-refuses b place part code c = refuses (log-message-codes b place part code c)
+log-message-answers : (b : List ℕ) (place : ℕ) (part : List ℕ) (code : ℕ) → HostLogMessage b place part code
+    → ((part ≡ logMessage b place) × (code ≡ logMessageCode b place)) × Refuses (logMessageConditions b place) code (part ≡ [])
+log-message-answers b place part code c = (host-log-message-as b place part code c, refuses (log-message-codes b place part code c))
 
-setpoint-refuses : (b : List ℕ) (tag : ℕ) (a : Setpoint) → SetpointOf b tag a → Refuses (setpointConditions b tag) (a .code) (a .value ≡ pos 0)
-setpoint-refuses b tag a c = refuses (setpoint-codes b tag a c)
+setpoint-answers : (b : List ℕ) (tag : ℕ) (a : Setpoint) → HostSetpoint b tag a → (a ≡ setpoint b tag) × Refuses (setpointConditions b tag) (a .code) (a .value ≡ pos 0)
+setpoint-answers b tag a c = (host-setpoint-as b tag a c, refuses (setpoint-codes b tag a c))
 
-reader-refuses : (t buffer : List ℕ) (a : Converted) → ReadFrom t buffer a → Refuses (readSequencesConditions t (length buffer)) (a .code) ((a .size ≡ 0) × (a .buffer ≡ buffer))
-reader-refuses t buffer a c = refuses (read-sequences-codes t buffer a c)
+read-answers : (t buffer : List ℕ) (a : Converted) → HostRead t buffer a
+    → (a ≡ readSequences t buffer) × Refuses (readSequencesConditions t (length buffer)) (a .code) ((a .size ≡ 0) × (a .buffer ≡ buffer))
+read-answers t buffer a c = (host-read-as t buffer a c, refuses (read-sequences-codes t buffer a c))
 
-writer-refuses : (b buffer : List ℕ) (a : Converted) → WrittenFrom b buffer a → Refuses (writeSequencesConditions b (length buffer)) (a .code) ((a .size ≡ 0) × (a .buffer ≡ buffer))
-writer-refuses b buffer a c = refuses (write-sequences-codes b buffer a c)
+write-answers : (b buffer : List ℕ) (a : Converted) → HostWritten b buffer a
+    → (a ≡ writeSequences b buffer) × Refuses (writeSequencesConditions b (length buffer)) (a .code) ((a .size ≡ 0) × (a .buffer ≡ buffer))
+write-answers b buffer a c = (host-written-as b buffer a c, refuses (write-sequences-codes b buffer a c))
 
--- ---- DEMANDS 3 AND 2, as the host sees them: `bivamolune_empty` wrote the image b, and each `bivamolune_deliver` got it as the last call left it. The latest call stands first.
+-- ---- DEMANDS 3 AND 2: `bivamolune_empty` was lent what is given and wrote the image b, and each `bivamolune_deliver` got it as the last call left it. The latest call stands first.
 module _ (given : Given) (b : List ℕ) (begun : Began HostEmptied given b) where
   module _ (call : Event) (earlier : List Event) (run : Run (Answered HostDelivered) b (call ∷ earlier)) where
     -- "Deliver answers 0 exactly where the plain station accepts, and otherwise the lowest number that applies."
     codes : ((call .answer .code ≡ 0) ↔ T (accepts? (stateAfter given earlier) (call .call))) × (call .answer .code ≡ codeFor (imageAfter b earlier) (call .call))
     codes = (host-agreement .accepted given b begun call earlier run, host-agreement .code given b begun call earlier run)
 
-    -- "The number of a delivery's undos is the length of its old log less that of the longest common start, and of its executions .."
+    -- "The number of a delivery's undos is the length of its old log less that of the longest common start ..". "Its rivals .., both kinds counted together."
     counts : let old = oldLog given call earlier in let new = logAfter given (call ∷ earlier) in (call .answer .undos ≡ undosOf old new) × (call .answer .executions ≡ executionsOf old new)
-    counts = (host-agreement .undos given b begun call earlier run, host-agreement .executions given b begun call earlier run)
+        × ((rival : List Step) → Plays old rival new → call .answer .undos + call .answer .executions ≤ length rival)
+    counts = let o = host-agreement in (o .undos given b begun call earlier run, o .executions given b begun call earlier run, o .fewest given b begun call earlier run)
 
-    -- "Its rivals are all lists of undos and executions that can be played from its old log to its new one, both kinds counted together."
-    fewest : (rival : List Step) → Plays (oldLog given call earlier) rival (logAfter given (call ∷ earlier)) → call .answer .undos + call .answer .executions ≤ length rival
-    fewest = host-agreement .fewest given b begun call earlier run
+    -- "An execution lists the value after each command; an undo lists the value restored by each command, last command first."
+    records : recordsRead call ≡ some (recordsBetween (stateAfter given earlier) (stateAfter given (call ∷ earlier)))
+    records = host-agreement .records given b begun call earlier run
 
   module _ (calls : List Event) (run : Run (Answered HostDelivered) b calls) where
-    -- "Its log and image are those of the set"; "After each call the played log, the image's log and the plain station's log are the same ..".
-    logs : (imageAfter b calls ≡ imageOf (stateAfter given calls))
+    -- "Its log and image are those of the set"; "the played log, the image's log and the plain station's log are the same ..", and the pairs lead to "the image's values".
+    played : (imageAfter b calls ≡ imageOf (stateAfter given calls))
         × ((log : List ℕ) → Played calls log ↔ (log ≡ logAfter given calls)) × (sequencesOf (logIn (imageAfter b calls)) ≡ logAfter given calls)
-    logs = (host-agreement .image given b begun calls run, host-agreement .played given b begun calls run, host-agreement .imageLog given b begun calls run)
+        × ((values : List ℤ) → ((standing : List Standing) × PairsPlayed b calls standing values) ↔ (values ≡ valuesIn (imageAfter b calls)))
+    played = let o = host-agreement in (o .image given b begun calls run, o .played given b begun calls run, o .imageLog given b begun calls run, o .setpoints given b begun calls run)
 
-    -- "Played on the setpoints, the pairs must lead to the image's values."
-    setpoints : (values : List ℤ) → ((standing : List Standing) × PairsPlayed b calls standing values) ↔ (values ≡ valuesIn (imageAfter b calls))
-    setpoints = host-agreement .setpoints given b begun calls run
-
-    -- "The log lists each executable delta once, needs before, and is the first of all such listings"; grounded: "all it needs .. contains no ring".
-    executed : IsLog (stateAfter given calls) (logIn (imageAfter b calls)) × ((m : Message) → m ∈ receivedIn calls → (m ∈ logIn (imageAfter b calls)) ↔ Grounded (stateAfter given calls) m)
-    executed = let o = host-order-kept .in-order given b begun calls run in (o .first, o .grounded)
+    -- "the first of all such listings"; received: accepted; "executed exactly when all it needs, step by step back, was received and contains no ring" (demand 2)
+    executed : let S = stateAfter given calls in let log = logIn (imageAfter b calls) in IsLog S log × ((m : Message) → (m ∈ S .deltas) ↔ (m ∈ receivedIn calls))
+        × ((m : Message) → m ∈ receivedIn calls → ((m ∈ log) ↔ Executable S m) × ((m ∈ log) ↔ Grounded S m))
+    executed = let o = host-order-kept .in-order given b begun calls run in (o .first, o .deltas, λ m k. (o .executed m k, o .grounded m k))
 
     -- "All others are held", "by ascending sequence"
     held : ((m : Message) → (m ∈ heldIn (imageAfter b calls)) ↔ ((m ∈ receivedIn calls) × ¬ Executable (stateAfter given calls) m)) × Ascending (heldIn (imageAfter b calls))
@@ -128,13 +128,13 @@ module _ (b line commands : List ℕ) (flag priority : ℕ) (buffer : List ℕ) 
       → (d .code ≡ 0) × (d .undos ≡ 0) × ((rest : List Step) × (readSteps (d .undos + d .executions) (d .steps) ≡ some (execute (sequenceOf (messageBy a)) ∷ rest)))
   composed-delivered few steps room d h = let f = host-composed-keeps b line commands flag priority buffer a call answered .delivered few steps room d h in (f .accepted, f .no-undo, (f .rest, f .steps))
 
--- ---- THE READER: "It starts at the first message of the log. Past the last one .., or on a buffer that answers 1 or 2, it gives an empty part and stays there."
+-- ---- THE READER, of the library's own calls: "It starts at the first message of the log. Past the last one .., or on a buffer that answers 1 or 2, it gives an empty part and stays there."
 reading : (b : List ℕ) (r : LogReader) → Starts b r → (parts : List (List ℕ)) (end : LogReader) → NextCalls r parts end → let n = length parts in let log = logIn b in
     (lowestCode (readConditions b) ≡ 0 → (parts ≡ take n log ++ replicate (n - length log) []) × (readerOf end ≡ record { image = b; offset = messageOffset b (min n (length log)) }))
     × (¬ (lowestCode (readConditions b) ≡ 0) → (parts ≡ replicate n []) × (readerOf end ≡ start b))
 reading b r s parts end c = let w = calls-read b r s parts end c in (λ e. (w .of-image e .given, w .of-image e .stands), λ n. (w .of-other n .given, w .of-other n .stands))
 
--- ---- TEXTS: "Reading a written list yields the sequences, and a text that is read is the one that would be written."
+-- ---- TEXTS, of the library's own calls: "Reading a written list yields the sequences, and a text that is read is the one that would be written."
 written-list-read : (b entry : List ℕ) (w : Converted) → WrittenFrom b entry w → w .code ≡ 0
     → (out : List ℕ) → sequencesRoom ≤ length out → (a : Converted) → ReadFrom (front w) out a → a ≡ convertedAnswer 0 b out
 written-list-read = written-read
@@ -143,7 +143,7 @@ read-text-written : (t entry : List ℕ) (r : Converted) → ReadFrom t entry r 
     → (out : List ℕ) → textRoom ≤ length out → (a : Converted) → WrittenFrom (front r) out a → a ≡ convertedAnswer 0 t out
 read-text-written = read-written
 
--- ---- OFFSETS: "the offset of the first message plus the lengths of all messages before the place, and, in a valid image, past its last message the bytes used"
+-- ---- OFFSETS, of the definitions (in the code the walk's invariant, `Walking .here`): "the offset of the first message plus the lengths of all messages before the place, and, in a valid image, past its last message the bytes used"
 offsets : (b : List ℕ) → let l = messagesIn b in ((k : ℕ) → k ≤ length l → getD (walk (messagesStartIn b) l) k 0 ≡ messagesStartIn b + sum length (take k l))
     × (T (isImage b) → messagesStartIn b + sum length (take (length l) l) ≡ usedCount b)
 unfolding offsetOf

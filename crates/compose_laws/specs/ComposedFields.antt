@@ -57,13 +57,13 @@ other : {A : Type 0} (b : Bool) (x y : A) → ¬ T b → cond b x y ≡ y
 other true x y h = absurd (h tt)
 other false x y h = refl
 
-above-last : (log : List Message) (s : ℕ) → ¬ (log ≡ []) → s < lastSequence log → newGroup log s ≡ suc (greatest groupOf log)
-above-last [] s h k = absurd (h refl)
-above-last (m ∷ l) s h k = chosen (ltb s (lastSequence (m ∷ l))) _ _ (lt→ltb s (lastSequence (m ∷ l)) k)
+last-above : (log : List Message) (s : ℕ) → ¬ (log ≡ []) → s < lastSequence log → newGroup log s ≡ suc (greatest groupOf log)
+last-above [] s h k = absurd (h refl)
+last-above (m ∷ l) s h k = chosen (ltb s (lastSequence (m ∷ l))) _ _ (lt→ltb s (lastSequence (m ∷ l)) k)
 
-not-above : (log : List Message) (s : ℕ) → ¬ (log ≡ []) → ¬ (s < lastSequence log) → newGroup log s ≡ greatest groupOf log
-not-above [] s h k = absurd (h refl)
-not-above (m ∷ l) s h k = other (ltb s (lastSequence (m ∷ l))) _ _ (λ t. k (ltb→lt s (lastSequence (m ∷ l)) t))
+last-not-above : (log : List Message) (s : ℕ) → ¬ (log ≡ []) → ¬ (s < lastSequence log) → newGroup log s ≡ greatest groupOf log
+last-not-above [] s h k = absurd (h refl)
+last-not-above (m ∷ l) s h k = other (ltb s (lastSequence (m ∷ l))) _ _ (λ t. k (ltb→lt s (lastSequence (m ∷ l)) t))
 
 -- ---- the flag is 0 or 1
 flag-is : (flag : ℕ) → flag ≤ 1 → cond (eqb flag 1) 1 0 ≡ flag
@@ -123,8 +123,8 @@ module _ (b line commands : List ℕ) (flag priority room : ℕ) (g : Granted b 
         (subst (λ (s : ℕ). (d ∈ newDependencies S own) ↔ (NeededByNone S d × ¬ (d ∈ predecessorOf s))) (sym (made .sequence)) (dependencies-are d));
     dependencies-ascend = subst (λ (l : List ℕ). T (ascending l)) (sym (made .dependencies)) (dependencies-ascend S right (number line) (g .free) (g .number-small));
     group-first = λ e. made .group-is ∙ ap (λ (l : List Message). newGroup l own) e;
-    group-raised = λ n h. made .group-is ∙ above-last (logOf S) own n (subst (λ (s : ℕ). s < lastSequence (logOf S)) (made .sequence) h);
-    group-kept = λ n h. made .group-is ∙ not-above (logOf S) own n (λ k. h (subst (λ (s : ℕ). s < lastSequence (logOf S)) (sym (made .sequence)) k));
+    group-raised = λ n h. made .group-is ∙ last-above (logOf S) own n (subst (λ (s : ℕ). s < lastSequence (logOf S)) (made .sequence) h);
+    group-kept = λ n h. made .group-is ∙ last-not-above (logOf S) own n (λ k. h (subst (λ (s : ℕ). s < lastSequence (logOf S)) (sym (made .sequence)) k));
     block = λ e. made .block-is ∙ ap (λ (n : ℕ). newBlock S (eqb n 1)) e;
     no-block = λ e. made .block-is ∙ ap (λ (n : ℕ). newBlock S (eqb n 1)) e;
     flag-carried = made .flag-byte ∙ flag-is flag flag-small;

@@ -1,2 +1,3 @@
 pub mod HostRuns
 pub mod HostComposes
+pub mod HostReads

@@ -1,21 +1,21 @@
--- Further runs that no station in agreement has, for what `NearMisses` does not ask of `Agreement`: code, undos, setpoints and equal images.
+-- Further runs that no station in agreement has, for what `NearMisses` does not ask of `Agreement`: code, undos, setpoints, records that they do not show, and equal images.
 use mathlib.Core.Path.{_≡_, refl, ap}
-use mathlib.Core.List.{List, [], _∷_}
+use mathlib.Core.List.{List, [], _∷_, _++_}
 use Prim.Native.Nat.{ℕ}
 use native.Mathlib.Omega.{arith}
 use lib.ListN.{getD}
 use lib.IntN.{ℤ, pos}
 use Rattle.model.specs.Bytes.{word}
-use Rattle.model.specs.Message.{layoutRight, numbersRight, dependenciesRight, contentRight, commandRight, passes}
+use Rattle.model.specs.Message.{Message, layoutRight, numbersRight, dependenciesRight, contentRight, commandRight, passes}
 use Rattle.model.specs.Order.{needs, logOf, heldOf}
-use Rattle.model.specs.Setpoints.{startValues, operate, changeOf, apply, runCommand, runDelta, setpointsOf}
+use Rattle.model.specs.Setpoints.{startValues, operate, changeOf, apply, runCommand, runDelta, changesOf, setpointsOf}
 use Rattle.model.specs.Image.{messagesOf, valuesOf, headerOf, sectionsOf, usedOf, imageOf, logCount, valuesIn}
-use Rattle.model.specs.Steps.{undo, execute, recordBytes, readRecord}
+use Rattle.model.specs.Steps.{undo, execute, pairOf, executionOf, recordsOf, recordBytes, readRecord}
 use Rattle.model.specs.Calls.{Delivered, deliverCode}
 use Rattle.model.specs.PlainStation.{accepts, receive}
 use Rattle.model.specs.Run.{Given, Call, delivery, Event, Run, PairsPlayed, Agreement}
 use Rattle.model.proofs.ExampleMessages.{A, B, C, command, plain, a1, b1}
-use Rattle.model.proofs.ExampleEvents.{given, setting, image, event, start, first-a1, first-b1}
+use Rattle.model.proofs.ExampleEvents.{given, carrying, setting, image, event, start, first-a1, first-b1, firstValue}
 use Rattle.model.proofs.RunExamples.{a1-again, two}
 use Rattle.model.proofs.AcceptedExamples.{in-either}
 use Rattle.model.proofs.PairExamples.{tag3, standing}
@@ -63,6 +63,17 @@ module _ (begins : Given → List ℕ → Type 0) (answers : List ℕ → Call �
       let values = agreement .setpoints given start begun (straying ∷ []) run (tag3 (pos 1501)) .0 (standing (A 1) (pos 0) ∷ [], strayed) in
       let tag-3 : 1501 ≡ word (pos 1500) = ap (λ (v : List ℤ). word (getD v 3 (pos 0))) values in
       omega arith
+
+  -- ---- a pair that the one behind it hides: A1 sets tag 3 to 5, then to 7, and its first pair says 0. Played, the pairs lead to the image's values.
+  abbrev twice-a1 : Message
+  twice-a1 = plain (A 1) [] (command 1 3 (pos 5) ++ command 1 3 (pos 7))
+
+  abbrev hiding : Event
+  hiding = event twice-a1 0 0 1 (carrying (execute (A 1)) (pairOf 3 (pos 0) ∷ pairOf 3 (pos 7) ∷ []) ∷ []) (image (twice-a1 ∷ []))
+
+  hides-a-pair : Run answers start (hiding ∷ []) → ⊥
+  unfolding accepts receive passes layoutRight numbersRight dependenciesRight contentRight commandRight logOf needs readRecord recordBytes recordsOf executionOf changesOf startValues runDelta runCommand apply changeOf operate
+  hides-a-pair run = let first : 0 ≡ word (pos 5) = ap firstValue (agreement .records given start begun hiding [] run) in omega arith
 
   -- ---- "equal accepted sets give byte-equal images": B1 is answered with 0, but is not in the image
   abbrev lagging : Event

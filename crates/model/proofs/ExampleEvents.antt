@@ -1,8 +1,10 @@
 -- Calls with answers written by hand, and the records that their step buffers begin with.
+use mathlib.Core.Option.{Option, none, some}
 use mathlib.Core.List.{List, [], _∷_}
 use Prim.Native.Nat.{ℕ}
 use lib.ListN.{replicate}
 use lib.IntN.{ℤ, pos, negsuc}
+use Rattle.model.specs.Bytes.{word}
 use Rattle.model.specs.Layout.{imageSize, stepRoom}
 use Rattle.model.specs.Message.{Message}
 use Rattle.model.specs.Image.{imageOf}
@@ -47,3 +49,13 @@ first-a1 = event a1 0 0 1 (setting (execute (A 1)) (pos 1500) ∷ []) (image (a1
 
 abbrev pub first-b1 : Event
 first-b1 = event b1 0 0 1 (setting (execute (B 1)) (negsuc 19) ∷ []) (image (b1 ∷ []))
+
+-- the word of the first value of the first record that was read
+abbrev firstPair : List Pair → ℕ
+firstPair [] = 0
+firstPair (p ∷ l) = word (p .value)
+
+abbrev pub firstValue : Option (List StepRecord) → ℕ
+firstValue none = 0
+firstValue (some []) = 0
+firstValue (some (r ∷ l)) = firstPair (r .pairs)

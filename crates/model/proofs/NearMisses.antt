@@ -1,7 +1,7 @@
 -- "Programs that come close", each by a run that it could have, the latest call first: this one is answered wrongly. `Agreement` refuses
 -- every station that has such a run, whatever else the station does.
 use mathlib.Core.Path.{_≡_, refl, ap}
-use mathlib.Core.Option.{Option, some, none}
+use mathlib.Core.Option.{none}
 use mathlib.Core.List.{List, [], _∷_}
 use Prim.Native.Nat.{ℕ, _≤_}
 use native.Mathlib.Omega.{arith}
@@ -12,12 +12,12 @@ use Rattle.model.specs.Message.{Message, layoutRight, numbersRight, depe
 use Rattle.model.specs.Order.{needs, logOf}
 use Rattle.model.specs.Setpoints.{startValues, stop, raise, operate, changeOf, apply, runCommand, runDelta, changesOf}
 use Rattle.model.specs.Image.{logCount, imageOf, usedOf, sectionsOf, headerOf}
-use Rattle.model.specs.Steps.{undo, execute, Pair, StepRecord, executionOf, undoOf, recordsOf, recordBytes, readRecord, Plays}
+use Rattle.model.specs.Steps.{undo, execute, executionOf, undoOf, recordsOf, recordBytes, readRecord, Plays}
 use Rattle.model.specs.Calls.{Delivered}
 use Rattle.model.specs.PlainStation.{accepts, receive}
 use Rattle.model.specs.Run.{Given, Call, Event, Run, Played, Agreement}
 use Rattle.model.proofs.ExampleMessages.{A, B, command, plain, a1, a2, b1, a1-naming-b1}
-use Rattle.model.proofs.ExampleEvents.{given, setting, image, event, start, first-a1, first-b1}
+use Rattle.model.proofs.ExampleEvents.{given, setting, image, event, start, first-a1, first-b1, firstValue}
 
 module _ (begins : Given → List ℕ → Type 0) (answers : List ℕ → Call → Delivered → Type 0) (agreement : Agreement begins answers) (begun : begins given start) where
   -- ---- "One that plays honest undos and executions but counts them freely": an execution more
@@ -136,16 +136,6 @@ module _ (begins : Given → List ℕ → Type 0) (answers : List ℕ → Call �
   subtracting =
       event a2 0 1 2 (setting (undo (B 1)) (pos 999980) ∷ setting (execute (A 2)) (pos 7) ∷ setting (execute (B 1)) (pos 27) ∷ [])
       (image (high-a1 ∷ a2 ∷ stopped-b1 ∷ []))
-
-  -- the bytes of the first value of the first record
-  abbrev firstPair : List Pair → ℕ
-  firstPair [] = 0
-  firstPair (p ∷ l) = word (p .value)
-
-  abbrev firstValue : Option (List StepRecord) → ℕ
-  firstValue none = 0
-  firstValue (some []) = 0
-  firstValue (some (r ∷ l)) = firstPair (r .pairs)
 
   subtracts : Run answers start (subtracting ∷ before) → ⊥
   unfolding accepts receive passes layoutRight numbersRight dependenciesRight contentRight commandRight logOf needs readRecord recordBytes recordsOf executionOf undoOf changesOf startValues runDelta runCommand apply changeOf operate raise stop

@@ -71,7 +71,7 @@ module _ {A : Type 0} (name : A → ℕ) (needs : A → List ℕ) where
     needed : {a : A} {s : ℕ} → s ∈ needs a → Reaches S a s
     through : {a b : A} {s : ℕ} → b ∈ S → name b ∈ needs a → Reaches S b s → Reaches S a s
 
-  -- "all it needs, step by step back, has been received and contains no ring": all that it reaches is received,
+  -- Demand 2, "all it needs, step by step back, was received and contains no ring": all that it reaches is received,
   -- and neither it nor an item that it reaches reaches itself
   pub record Grounded (S : List A) (a : A) : Type 0 where
     pub received : (s : ℕ) → Reaches S a s → (b : A) × (b ∈ S) × (name b ≡ s)

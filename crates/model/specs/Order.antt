@@ -79,11 +79,11 @@ Executable S m = L.Executable sequenceOf (needs S) (S .deltas) m
 abbrev pub Reaches : State → Message → ℕ → Type 0
 Reaches S m s = L.Reaches sequenceOf (needs S) (S .deltas) m s
 
--- "a ring of deltas": it reaches itself, or a received delta that does.
+-- In a ring, or behind one: it reaches itself, or a received delta that does.
 abbrev pub MeetsRing : State → Message → Type 0
 MeetsRing S m = Reaches S m (sequenceOf m) ⊎ ((r : Message) × (r ∈ S .deltas) × Reaches S m (sequenceOf r) × Reaches S r (sequenceOf r))
 
--- "all it needs, step by step back, has been received and contains no ring"
+-- Demand 2: all that it needs, step by step back, was received and contains no ring.
 abbrev pub Grounded : State → Message → Type 0
 Grounded S m = L.Grounded sequenceOf (needs S) (S .deltas) m
 

@@ -85,7 +85,7 @@ otherForm input =
     let text = withoutLineFeed input in
     cond (every printable text) (printedSequences text) (printedText input)
 
--- ---- the program `print_log`: the log that stands in an image
+-- ---- the program `print_log`: the log that stands in an image. What is quoted here is its own text, docs/print-log.md.
 -- "a negative value has `-` before its digits"
 unfoldable pub printedValue : ℤ → List ℕ
 printedValue (pos n) = decimal n
