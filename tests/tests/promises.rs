@@ -1,20 +1,23 @@
 //! Every path that docs/PROMISES.md cites exists, every test is in the file named with it,
-//! every must-fail edit is there, and every definition, law and function is declared. Cited is
-//! what stands between backquotes: a path; a path, a colon and names, with commas between; in a
-//! column of tests, the name of one more of the same file; in a column of must-fail edits,
-//! CRATE/NAME, or NAME alone for one more of the same crate; in the columns of definitions and of
-//! laws, CRATE::NAME, FILE.NAME, NAME or .NAME of a field. A star, CRATE and NAME stand for anything.
+//! every must-fail edit is there, and every definition, law and function is declared where it is
+//! said to be. Cited is what stands between backquotes: a path; a path, a colon and names, with
+//! commas between; in a column of tests, the name of one more of the same file; in a column of
+//! must-fail edits, CRATE/NAME, or NAME alone for one more of the same crate; in the columns of
+//! definitions and of laws, CRATE::NAME, FILE.NAME, and NAME or .NAME of a field, which stand where
+//! the one before them in the cell does. A star, CRATE and NAME stand for anything.
+//! And every end theorem is cited, so that one that is gone is missed.
 
 #![deny(warnings)]
+
+#[path = "common/sources.rs"]
+mod sources;
 
 use std::fs;
 use std::path::{Path, PathBuf};
 
-const FOLDERS: [&str; 6] = ["crates/", "tests/", "docs/", "include/", "samples/", ".ci/"];
+use sources::{laws, root, Place, Sources};
 
-fn root() -> PathBuf {
-    Path::new(env!("CARGO_MANIFEST_DIR")).join("..")
-}
+const FOLDERS: [&str; 6] = ["crates/", "tests/", "docs/", "include/", "samples/", ".ci/"];
 
 /// Whether a name is that of a pattern, in which stars stand for anything.
 fn fits(pattern: &str, name: &str) -> bool {
@@ -117,125 +120,84 @@ fn missing_edits(cell: &str) -> Vec<String> {
     missing
 }
 
-/// Every file of a kind below a folder.
-fn files_below(folder: &Path, ending: &str) -> Vec<PathBuf> {
-    let mut files = Vec::new();
-    for entry in fs::read_dir(folder).into_iter().flatten().flatten() {
-        let path = entry.path();
-        if path.is_dir() {
-            files.extend(files_below(&path, ending));
-        } else if path.extension().map_or(false, |is| is == ending) {
-            files.push(path);
-        }
-    }
-    files
+/// A name that a cell of definitions or of laws cites, and where it is looked for.
+struct Citation<'a> {
+    text: &'a str,
+    name: &'a str,
+    place: Place,
 }
 
-/// Whether a line declares a name: the words before it are those of a declaration, and behind it
-/// the name has ended.
-fn declares(line: &str, name: &str) -> bool {
-    const BEFORE: [&str; 12] = [
-        "pub",
-        "abbrev",
-        "unfoldable",
-        "record",
-        "data",
-        "module",
-        "fn",
-        "struct",
-        "enum",
-        "const",
-        "extern",
-        "\"C\"",
-    ];
-    let mut rest = line.trim_start();
-    while let Some((word, behind)) = rest.split_once(' ') {
-        if !BEFORE.contains(&word) {
-            break;
-        }
-        rest = behind;
+impl Citation<'_> {
+    /// Whether it is declared there, or is the name of a file there, or of a crate.
+    fn is_known(&self, sources: &Sources) -> bool {
+        let is_crate = self.text == self.name && root().join("crates").join(self.name).is_dir();
+        is_crate || sources.has(self.name, &self.place) || sources.has_file(self.name, &self.place)
     }
-    let ended = |c: char| !c.is_alphanumeric() && !"_-\u{b7}\u{2032}".contains(c);
-    rest.strip_prefix(name)
-        .map_or(false, |behind| behind.chars().next().map_or(true, ended))
 }
 
-/// The definitions and the code, file by file.
-struct Sources {
-    files: Vec<(PathBuf, String)>,
-}
-
-impl Sources {
-    fn read() -> Sources {
-        let mut files = files_below(&root().join("crates"), "antt");
-        files.extend(files_below(&root().join("crates"), "rt"));
-        let text = |path: PathBuf| {
-            let text = fs::read_to_string(&path).unwrap_or_default();
-            (path, text)
-        };
-        Sources {
-            files: files.into_iter().map(text).collect(),
+/// The names of a cell. One that says no place stands where the one before it does, and where
+/// none is said, anywhere.
+fn citations<'a>(sources: &Sources, cell: &'a str) -> Vec<Citation<'a>> {
+    let cited = quoted(cell).into_iter().filter(|cited| !is_path(cited));
+    let mut place = Place::Anywhere;
+    let citation = |text: &'a str| {
+        let mut name = text;
+        if let Some((path, of_code)) = text.rsplit_once("::") {
+            place = Place::Code(path.split("::").next().unwrap_or("").to_string());
+            name = of_code;
+        } else if let Some((stem, of_file)) = text.split_once('.') {
+            if !stem.is_empty() {
+                place = Place::Files(stem.to_string());
+            }
+            name = of_file;
+        } else if sources.has_file(text, &Place::Anywhere) {
+            place = Place::Files(text.to_string());
         }
-    }
-
-    /// Whether a file that is chosen declares a name.
-    fn has(&self, name: &str, is_chosen: impl Fn(&Path) -> bool) -> bool {
-        let mut chosen = self.files.iter().filter(|(path, _)| is_chosen(path));
-        chosen.any(|(_, text)| text.lines().any(|line| declares(line, name)))
-    }
-
-    fn has_file(&self, stem: &str) -> bool {
-        let mut paths = self.files.iter().map(|(path, _)| path);
-        paths.any(|path| path.file_stem().map_or(false, |is| is == stem))
-    }
-
-    /// Whether a name is there: CRATE::..::NAME in the crate's code, FILE.NAME in the files of that name,
-    /// another anywhere; a crate, a file and a module are names too.
-    fn knows(&self, cited: &str) -> bool {
-        if let Some((path, name)) = cited.rsplit_once("::") {
-            let of = path.split("::").next().unwrap_or("");
-            let code = root().join("crates").join(of).join("src");
-            let is_module = files_below(&code, "rt")
-                .iter()
-                .any(|file| file.file_stem().map_or(false, |stem| stem == name));
-            return is_module || self.has(name, |file| file.starts_with(&code));
-        }
-        if let Some((stem, name)) = cited.split_once('.') {
-            let of =
-                |file: &Path| stem.is_empty() || file.file_stem().map_or(false, |is| is == stem);
-            return self.has(name, of);
-        }
-        let is_crate = root().join("crates").join(cited).is_dir();
-        is_crate || self.has_file(cited) || self.has(cited, |_| true)
-    }
+        let place = place.clone();
+        Citation { text, name, place }
+    };
+    cited
+        .flat_map(|cited| cited.split(' '))
+        .map(citation)
+        .collect()
 }
 
 /// What a cell of definitions, laws and contracts cites in vain.
 fn unknown_names(sources: &Sources, cell: &str) -> Vec<String> {
-    let cited = quoted(cell).into_iter().filter(|cited| !is_path(cited));
-    let names = cited.flat_map(|cited| cited.split(' '));
-    names
-        .filter(|name| !sources.knows(name))
-        .map(|name| format!("nothing is called {name}"))
+    let citations = citations(sources, cell).into_iter();
+    citations
+        .filter(|citation| !citation.is_known(sources))
+        .map(|citation| format!("nothing is called {}", citation.text))
         .collect()
 }
 
-/// The cell of a row under a heading; the headings are those of the last table's head.
-fn cell<'a>(heads: &[&str], cells: &[&'a str], heading: &str) -> &'a str {
-    let place = heads
-        .iter()
-        .position(|head| head.trim().starts_with(heading));
-    place
-        .and_then(|place| cells.get(place))
-        .copied()
-        .unwrap_or("")
+/// A line of a text, and where it is a row of a table, its cells and the headings over them.
+struct Row<'a> {
+    number: usize,
+    line: &'a str,
+    heads: Vec<&'a str>,
+    cells: Vec<&'a str>,
 }
 
-/// Everything that a text cites in vain.
-fn missing(text: &str) -> Vec<String> {
-    let sources = Sources::read();
-    let mut missing = Vec::new();
+impl<'a> Row<'a> {
+    /// The cell under a heading.
+    fn cell(&self, heading: &str) -> &'a str {
+        let place = |head: &&str| head.trim().starts_with(heading);
+        let place = self.heads.iter().position(place);
+        let cell = place.and_then(|place| self.cells.get(place));
+        cell.copied().unwrap_or("")
+    }
+
+    /// The cells in which definitions, laws and functions are cited.
+    fn named(&self) -> [&'a str; 2] {
+        [self.cell("Definition"), self.cell("Law or contract")]
+    }
+}
+
+/// The lines of a text; the headings are those of the last table's head.
+fn rows(text: &str) -> Vec<Row<'_>> {
     let mut heads: Vec<&str> = Vec::new();
+    let mut rows = Vec::new();
     for (number, line) in (1..).zip(text.lines()) {
         let cells: Vec<&str> = line.split('|').collect();
         if cells.len() == 1 {
@@ -243,14 +205,30 @@ fn missing(text: &str) -> Vec<String> {
         } else if heads.is_empty() {
             heads = cells.clone();
         }
-        let paths = quoted(line).into_iter().filter(|cited| is_path(cited));
-        let names = missing_names(cell(&heads, &cells, "Example or test"));
-        let edits = missing_edits(cell(&heads, &cells, "Must-fail edit"));
-        let definitions = unknown_names(&sources, cell(&heads, &cells, "Definition"));
-        let laws = unknown_names(&sources, cell(&heads, &cells, "Law or contract"));
+        let heads = heads.clone();
+        rows.push(Row {
+            number,
+            line,
+            heads,
+            cells,
+        });
+    }
+    rows
+}
+
+/// Everything that a text cites in vain.
+fn missing(text: &str) -> Vec<String> {
+    let sources = Sources::read();
+    let mut missing = Vec::new();
+    for row in rows(text) {
+        let paths = quoted(row.line).into_iter().filter(|cited| is_path(cited));
+        let names = missing_names(row.cell("Example or test"));
+        let edits = missing_edits(row.cell("Must-fail edit"));
+        let named = row.named();
+        let unknown = named.iter().flat_map(|cell| unknown_names(&sources, cell));
         let all = paths.flat_map(missing_path).chain(names).chain(edits);
-        let all = all.chain(definitions).chain(laws);
-        missing.extend(all.map(|what| format!("line {number}: {what}")));
+        let all = all.chain(unknown);
+        missing.extend(all.map(|what| format!("line {}: {what}", row.number)));
     }
     missing
 }
@@ -264,6 +242,50 @@ fn every_citation_of_promises_is_there() {
         "docs/PROMISES.md cites what is not there:\n{}",
         missing.join("\n")
     );
+}
+
+/// The laws of the crates on which nothing stands, so that the proofs go on without them.
+const END_THEOREMS: [&str; 3] = [
+    "crates/claims/specs/Claims.antt",
+    "crates/claims/specs/OwnCalls.antt",
+    "crates/theorems/specs/Theorems.antt",
+];
+
+#[test]
+fn every_end_theorem_is_cited() {
+    let sources = Sources::read();
+    let page = fs::read_to_string(root().join("docs/PROMISES.md")).expect("the page is there");
+    let cells = rows(&page).into_iter().flat_map(|row| row.named());
+    let cited: Vec<Citation> = cells.flat_map(|cell| citations(&sources, cell)).collect();
+    for file in END_THEOREMS.map(|path| root().join(path)) {
+        let text = fs::read_to_string(&file).expect("the file is there");
+        let stem = file.file_stem().expect("a name").to_string_lossy();
+        let place = Place::Files(stem.to_string());
+        let laws = laws(&text);
+        assert!(laws.len() > 2, "{stem} has {laws:?} alone");
+        let is_cited = |law: &&str| cited.iter().any(|c| c.name == *law && c.place == place);
+        let rest: Vec<_> = laws.into_iter().filter(|law| !is_cited(law)).collect();
+        assert!(
+            rest.is_empty(),
+            "{stem}: docs/PROMISES.md does not cite {rest:?}"
+        );
+    }
+}
+
+#[test]
+fn laws_are_found() {
+    let text = "-- a remark\n\
+                pub record Law (b : List) : Type 0 where\n\
+                \x20 pub field : b\n\
+                \n\
+                pub law : (b : List) → Law b\n\
+                law b = other\n\
+                module _ (b : List) where\n\
+                \x20 pub inner : Law b\n\
+                helper : Law\n\
+                abbrev pub Name : Type\n\
+                pub abbrev-not : Law";
+    assert_eq!(laws(text), ["law", "inner", "abbrev-not"]);
 }
 
 /// The test itself: what it lets through and what it does not.

@@ -36,35 +36,35 @@ use Rattle.host_runs.specs.HostReads.{HostLogMessage, host-log-message-as, Host
 
 -- ---- DEMAND 1: "No call may leave its result open": each answers what its definition does, code, counts, values and every byte. "The lowest number that
 -- applies to the call is answered, and never when its condition fails. A refusal writes nothing, and its counts and length are 0."
-abbrev Refuses : Conditions → ℕ → Type 0 → Type 0
+abbrev pub Refuses : Conditions → ℕ → Type 0 → Type 0
 Refuses conditions code nothing = ((code ≡ 0) ⊎ ((code, true) ∈ conditions)) × ((n : ℕ) → (n, true) ∈ conditions → (0 < code) × (code ≤ n)) × (¬ (code ≡ 0) → nothing)
 
 refuses : {conditions : Conditions} {code : ℕ} {nothing : Type 0} → CodeLaw conditions code nothing → Refuses conditions code nothing
 refuses l = (l .lowest .holds, l .lowest .least, l .refused)
 
-empty-answers : (buffer : List ℕ) (a : Emptied) → HostEmptied buffer a → (a ≡ empty buffer) × Refuses (emptyConditions buffer) (a .code) (a .image ≡ buffer)
+pub empty-answers : (buffer : List ℕ) (a : Emptied) → HostEmptied buffer a → (a ≡ empty buffer) × Refuses (emptyConditions buffer) (a .code) (a .image ≡ buffer)
 empty-answers buffer a c = (host-emptied-as buffer a c, refuses (empty-codes buffer a c))
 
-deliver-answers : (b : List ℕ) (m : Message) (steps : List ℕ) (a : Delivered) → HostDelivered b m steps a → (a ≡ deliver b m steps)
+pub deliver-answers : (b : List ℕ) (m : Message) (steps : List ℕ) (a : Delivered) → HostDelivered b m steps a → (a ≡ deliver b m steps)
     × Refuses (deliverConditions b m (length steps)) (a .code) ((a .undos ≡ 0) × (a .executions ≡ 0) × (a .image ≡ b) × (a .steps ≡ steps))
 deliver-answers b m steps a c = (host-delivered-as b m steps a c, refuses (deliver-codes b m steps a c))
 
-compose-answers : (b line commands : List ℕ) (flag priority : ℕ) (buffer : List ℕ) (a : Composed) → HostComposed b line commands flag priority buffer a
+pub compose-answers : (b line commands : List ℕ) (flag priority : ℕ) (buffer : List ℕ) (a : Composed) → HostComposed b line commands flag priority buffer a
     → (a ≡ compose b line commands flag priority buffer) × Refuses (composeConditions b line commands flag priority (length buffer)) (a .code) ((a .size ≡ 0) × (a .message ≡ buffer))
 compose-answers b line commands flag priority buffer a c = (host-composed-as b line commands flag priority buffer a c, refuses (compose-codes b line commands flag priority buffer a c))
 
-log-message-answers : (b : List ℕ) (place : ℕ) (part : List ℕ) (code : ℕ) → HostLogMessage b place part code
+pub log-message-answers : (b : List ℕ) (place : ℕ) (part : List ℕ) (code : ℕ) → HostLogMessage b place part code
     → ((part ≡ logMessage b place) × (code ≡ logMessageCode b place)) × Refuses (logMessageConditions b place) code (part ≡ [])
 log-message-answers b place part code c = (host-log-message-as b place part code c, refuses (log-message-codes b place part code c))
 
-setpoint-answers : (b : List ℕ) (tag : ℕ) (a : Setpoint) → HostSetpoint b tag a → (a ≡ setpoint b tag) × Refuses (setpointConditions b tag) (a .code) (a .value ≡ pos 0)
+pub setpoint-answers : (b : List ℕ) (tag : ℕ) (a : Setpoint) → HostSetpoint b tag a → (a ≡ setpoint b tag) × Refuses (setpointConditions b tag) (a .code) (a .value ≡ pos 0)
 setpoint-answers b tag a c = (host-setpoint-as b tag a c, refuses (setpoint-codes b tag a c))
 
-read-answers : (t buffer : List ℕ) (a : Converted) → HostRead t buffer a
+pub read-answers : (t buffer : List ℕ) (a : Converted) → HostRead t buffer a
     → (a ≡ readSequences t buffer) × Refuses (readSequencesConditions t (length buffer)) (a .code) ((a .size ≡ 0) × (a .buffer ≡ buffer))
 read-answers t buffer a c = (host-read-as t buffer a c, refuses (read-sequences-codes t buffer a c))
 
-write-answers : (b buffer : List ℕ) (a : Converted) → HostWritten b buffer a
+pub write-answers : (b buffer : List ℕ) (a : Converted) → HostWritten b buffer a
     → (a ≡ writeSequences b buffer) × Refuses (writeSequencesConditions b (length buffer)) (a .code) ((a .size ≡ 0) × (a .buffer ≡ buffer))
 write-answers b buffer a c = (host-written-as b buffer a c, refuses (write-sequences-codes b buffer a c))
 
@@ -72,46 +72,46 @@ write-answers b buffer a c = (host-written-as b buffer a c, refuses (write-seque
 module _ (given : Given) (b : List ℕ) (begun : Began HostEmptied given b) where
   module _ (call : Event) (earlier : List Event) (run : Run (Answered HostDelivered) b (call ∷ earlier)) where
     -- "Deliver answers 0 exactly where the plain station accepts, and otherwise the lowest number that applies."
-    codes : ((call .answer .code ≡ 0) ↔ T (accepts? (stateAfter given earlier) (call .call))) × (call .answer .code ≡ codeFor (imageAfter b earlier) (call .call))
+    pub codes : ((call .answer .code ≡ 0) ↔ T (accepts? (stateAfter given earlier) (call .call))) × (call .answer .code ≡ codeFor (imageAfter b earlier) (call .call))
     codes = (host-agreement .accepted given b begun call earlier run, host-agreement .code given b begun call earlier run)
 
     -- "The number of a delivery's undos is the length of its old log less that of the longest common start ..". "Its rivals .., both kinds counted together."
-    counts : let old = oldLog given call earlier in let new = logAfter given (call ∷ earlier) in (call .answer .undos ≡ undosOf old new) × (call .answer .executions ≡ executionsOf old new)
+    pub counts : let old = oldLog given call earlier in let new = logAfter given (call ∷ earlier) in (call .answer .undos ≡ undosOf old new) × (call .answer .executions ≡ executionsOf old new)
         × ((rival : List Step) → Plays old rival new → call .answer .undos + call .answer .executions ≤ length rival)
     counts = let o = host-agreement in (o .undos given b begun call earlier run, o .executions given b begun call earlier run, o .fewest given b begun call earlier run)
 
     -- "An execution lists the value after each command; an undo lists the value restored by each command, last command first."
-    records : recordsRead call ≡ some (recordsBetween (stateAfter given earlier) (stateAfter given (call ∷ earlier)))
+    pub records : recordsRead call ≡ some (recordsBetween (stateAfter given earlier) (stateAfter given (call ∷ earlier)))
     records = host-agreement .records given b begun call earlier run
 
   module _ (calls : List Event) (run : Run (Answered HostDelivered) b calls) where
     -- "Its log and image are those of the set"; "the played log, the image's log and the plain station's log are the same ..", and the pairs lead to "the image's values".
-    played : (imageAfter b calls ≡ imageOf (stateAfter given calls))
+    pub played : (imageAfter b calls ≡ imageOf (stateAfter given calls))
         × ((log : List ℕ) → Played calls log ↔ (log ≡ logAfter given calls)) × (sequencesOf (logIn (imageAfter b calls)) ≡ logAfter given calls)
         × ((values : List ℤ) → ((standing : List Standing) × PairsPlayed b calls standing values) ↔ (values ≡ valuesIn (imageAfter b calls)))
     played = let o = host-agreement in (o .image given b begun calls run, o .played given b begun calls run, o .imageLog given b begun calls run, o .setpoints given b begun calls run)
 
     -- "the first of all such listings"; received: accepted; "executed exactly when all it needs, step by step back, was received and contains no ring" (demand 2)
-    executed : let S = stateAfter given calls in let log = logIn (imageAfter b calls) in IsLog S log × ((m : Message) → (m ∈ S .deltas) ↔ (m ∈ receivedIn calls))
+    pub executed : let S = stateAfter given calls in let log = logIn (imageAfter b calls) in IsLog S log × ((m : Message) → (m ∈ S .deltas) ↔ (m ∈ receivedIn calls))
         × ((m : Message) → m ∈ receivedIn calls → ((m ∈ log) ↔ Executable S m) × ((m ∈ log) ↔ Grounded S m))
     executed = let o = host-order-kept .in-order given b begun calls run in (o .first, o .deltas, λ m k. (o .executed m k, o .grounded m k))
 
     -- "All others are held", "by ascending sequence"
-    held : ((m : Message) → (m ∈ heldIn (imageAfter b calls)) ↔ ((m ∈ receivedIn calls) × ¬ Executable (stateAfter given calls) m)) × Ascending (heldIn (imageAfter b calls))
+    pub held : ((m : Message) → (m ∈ heldIn (imageAfter b calls)) ↔ ((m ∈ receivedIn calls) × ¬ Executable (stateAfter given calls) m)) × Ascending (heldIn (imageAfter b calls))
     held = let o = host-order-kept .in-order given b begun calls run in (o .held, o .held-ascend)
 
   -- "a ring of deltas is held for good"
-  ring-held : (later calls : List Event) → Run (Answered HostDelivered) b (later ++ calls) → (m : Message) → m ∈ receivedIn calls → MeetsRing (stateAfter given calls) m → m ∈ heldIn (imageAfter b (later ++ calls))
+  pub ring-held : (later calls : List Event) → Run (Answered HostDelivered) b (later ++ calls) → (m : Message) → m ∈ receivedIn calls → MeetsRing (stateAfter given calls) m → m ∈ heldIn (imageAfter b (later ++ calls))
   ring-held = host-order-kept .ring-held given b begun
 
 -- "So a set of deltas has one image": two stations that accepted the same messages have equal images.
-equal-images : (given other : Given) (b c : List ℕ) → Began HostEmptied given b → Began HostEmptied other c → (calls others : List Event) → Run (Answered HostDelivered) b calls → Run (Answered HostDelivered) c others
+pub equal-images : (given other : Given) (b c : List ℕ) → Began HostEmptied given b → Began HostEmptied other c → (calls others : List Event) → Run (Answered HostDelivered) b calls → Run (Answered HostDelivered) c others
     → ((m : Message) → (m ∈ acceptedIn calls) ↔ (m ∈ acceptedIn others)) → imageAfter b calls ≡ imageAfter c others
 equal-images = host-agreement .equal
 
 -- ---- COMPOSE, as the host sees it: `bivamolune_compose` answered 0. Number, dependencies, group, block, and what was handed over; length and rest; delivery.
 module _ (b line commands : List ℕ) (flag priority : ℕ) (buffer : List ℕ) (a : Composed) (call : HostComposed b line commands flag priority buffer a) (answered : a .code ≡ 0) where
-  composed-carries : let m = messageBy a in let S = stateIn b in let log = logOf S in
+  pub composed-carries : let m = messageBy a in let S = stateIn b in let log = logOf S in
       (lineOf (sequenceOf m) ≡ number line) × (numberOf (sequenceOf m) ≡ newNumber log (number line))
       × ((d : ℕ) → (d ∈ dependenciesOf m) ↔ (NeededByNone S d × ¬ (d ∈ predecessorOf (sequenceOf m)))) × T (ascending (dependenciesOf m))
       × (log ≡ [] → groupOf m ≡ 1) × (¬ (log ≡ []) → sequenceOf m < lastSequence log → groupOf m ≡ suc (greatest groupOf log))
@@ -121,30 +121,30 @@ module _ (b line commands : List ℕ) (flag priority : ℕ) (buffer : List ℕ) 
   composed-carries = let k = host-composed-keeps b line commands flag priority buffer a call answered .carries in
       (k .on-line, k .next-number, k .dependencies, k .dependencies-ascend, k .group-first, k .group-raised, k .group-kept, k .block, k .no-block, k .flag-carried, k .priority-carried, k .commands-carried)
 
-  composed-written : (a .size ≡ length (messageBy a)) × (drop (a .size) (a .message) ≡ drop (a .size) buffer) × T (passes (messageBy a))
+  pub composed-written : (a .size ≡ length (messageBy a)) × (drop (a .size) (a .message) ≡ drop (a .size) buffer) × T (passes (messageBy a))
   composed-written = let k = host-composed-keeps b line commands flag priority buffer a call answered in (k .size, k .rest, k .passes-all)
 
-  composed-delivered : length (stateIn b .deltas) < capacity → (steps : List ℕ) → stepRoom ≤ length steps → (d : Delivered) → HostDelivered b (messageBy a) steps d
+  pub composed-delivered : length (stateIn b .deltas) < capacity → (steps : List ℕ) → stepRoom ≤ length steps → (d : Delivered) → HostDelivered b (messageBy a) steps d
       → (d .code ≡ 0) × (d .undos ≡ 0) × ((rest : List Step) × (readSteps (d .undos + d .executions) (d .steps) ≡ some (execute (sequenceOf (messageBy a)) ∷ rest)))
   composed-delivered few steps room d h = let f = host-composed-keeps b line commands flag priority buffer a call answered .delivered few steps room d h in (f .accepted, f .no-undo, (f .rest, f .steps))
 
 -- ---- THE READER, of the library's own calls: "It starts at the first message of the log. Past the last one .., or on a buffer that answers 1 or 2, it gives an empty part and stays there."
-reading : (b : List ℕ) (r : LogReader) → Starts b r → (parts : List (List ℕ)) (end : LogReader) → NextCalls r parts end → let n = length parts in let log = logIn b in
+pub reading : (b : List ℕ) (r : LogReader) → Starts b r → (parts : List (List ℕ)) (end : LogReader) → NextCalls r parts end → let n = length parts in let log = logIn b in
     (lowestCode (readConditions b) ≡ 0 → (parts ≡ take n log ++ replicate (n - length log) []) × (readerOf end ≡ record { image = b; offset = messageOffset b (min n (length log)) }))
     × (¬ (lowestCode (readConditions b) ≡ 0) → (parts ≡ replicate n []) × (readerOf end ≡ start b))
 reading b r s parts end c = let w = calls-read b r s parts end c in (λ e. (w .of-image e .given, w .of-image e .stands), λ n. (w .of-other n .given, w .of-other n .stands))
 
 -- ---- TEXTS, of the library's own calls: "Reading a written list yields the sequences, and a text that is read is the one that would be written."
-written-list-read : (b entry : List ℕ) (w : Converted) → WrittenFrom b entry w → w .code ≡ 0
+pub written-list-read : (b entry : List ℕ) (w : Converted) → WrittenFrom b entry w → w .code ≡ 0
     → (out : List ℕ) → sequencesRoom ≤ length out → (a : Converted) → ReadFrom (front w) out a → a ≡ convertedAnswer 0 b out
 written-list-read = written-read
 
-read-text-written : (t entry : List ℕ) (r : Converted) → ReadFrom t entry r → r .code ≡ 0
+pub read-text-written : (t entry : List ℕ) (r : Converted) → ReadFrom t entry r → r .code ≡ 0
     → (out : List ℕ) → textRoom ≤ length out → (a : Converted) → WrittenFrom (front r) out a → a ≡ convertedAnswer 0 t out
 read-text-written = read-written
 
 -- ---- OFFSETS, of the definitions (in the code the walk's invariant, `Walking .here`): "the offset of the first message plus the lengths of all messages before the place, and, in a valid image, past its last message the bytes used"
-offsets : (b : List ℕ) → let l = messagesIn b in ((k : ℕ) → k ≤ length l → getD (walk (messagesStartIn b) l) k 0 ≡ messagesStartIn b + sum length (take k l))
+pub offsets : (b : List ℕ) → let l = messagesIn b in ((k : ℕ) → k ≤ length l → getD (walk (messagesStartIn b) l) k 0 ≡ messagesStartIn b + sum length (take k l))
     × (T (isImage b) → messagesStartIn b + sum length (take (length l) l) ≡ usedCount b)
 unfolding offsetOf
 offsets b = (offset-law b .carried, offset-law b .used)

@@ -1,0 +1,24 @@
+-- The same of the library's own calls, for a caller in Rattle: demands 3 and 2, and a composed message, over what `empty`, `deliver` and
+-- `compose` were proved to leave behind. The fields of each promise are written out in `Claims`.
+use mathlib.Core.Path.{_≡_}
+use mathlib.Core.List.{List}
+use Prim.Native.Nat.{ℕ}
+use Rattle.model.specs.Calls.{Composed}
+use Rattle.model.specs.Run.{Agreement}
+use Rattle.model.specs.RunOrder.{OrderKept}
+use Rattle.run_laws.specs.CalledRuns.{Began, Answered}
+use Rattle.compose_laws.specs.ComposePromise.{ComposePromise}
+use Rattle.runs.specs.Runs as runs
+use Rattle.runs.specs.Runs.{EmptiedFrom, DeliveredTo}
+use Rattle.runs.specs.Composes as composes
+use Rattle.runs.specs.Composes.{ComposedOn}
+
+pub agreement : Agreement (Began EmptiedFrom) (Answered DeliveredTo)
+agreement = runs.agreement
+
+pub order-kept : OrderKept (Began EmptiedFrom) (Answered DeliveredTo)
+order-kept = runs.order-kept
+
+pub composed-keeps : (b line commands : List ℕ) (flag priority : ℕ) (buffer : List ℕ) (a : Composed) → ComposedOn b line commands flag priority buffer a → a .code ≡ 0
+    → ComposePromise DeliveredTo b line commands flag priority buffer a
+composed-keeps = composes.composed-keeps
