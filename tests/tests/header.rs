@@ -1,4 +1,5 @@
-//! What `include/bivamolune.h` gives beside the calls is run by a host in C, all of it.
+//! What `include/bivamolune.h` gives beside the calls is run by a host in C, all of it; and the
+//! calls that it declares are those that are compared, which are all that the archive exports.
 
 #![deny(warnings)]
 
@@ -26,11 +27,23 @@ fn inline_functions(text: &str) -> Vec<&str> {
     names.collect()
 }
 
+/// The names of the functions that a text in C declares, each at the start of a line.
+fn declared_functions(text: &str) -> BTreeSet<&str> {
+    let starts = |line: &&str| line.starts_with(|c: char| c.is_ascii_alphabetic());
+    let lines = text.lines().filter(starts);
+    let heads = lines.filter(|line| !line.starts_with("static"));
+    let heads = heads.filter_map(|line| line.split_once('(').map(|(head, _)| head));
+    heads
+        .filter_map(|head| head.rsplit(&[' ', '*'][..]).next())
+        .collect()
+}
+
 #[test]
 fn names_are_found() {
     let text =
         "static inline int f(int a) { return a; }\nint g(void);\nstatic inline const char *h(";
     assert_eq!(inline_functions(text), ["f", "h"]);
+    assert_eq!(declared_functions(text), BTreeSet::from(["g"]));
     assert!(words("f(h_i, 3)").contains("h_i") && !words("f(h_i)").contains("h"));
 }
 
@@ -48,4 +61,14 @@ fn every_inline_function_is_run() {
         .filter(|name| !run.contains(*name))
         .collect();
     assert!(missing.is_empty(), "{missing:?}");
+}
+
+/// With the archive's own list (`boundary`), the archive exports what the header declares and
+/// nothing else.
+#[cfg(feature = "library")]
+#[test]
+fn every_declared_function_is_compared() {
+    let header = file("include/bivamolune.h");
+    let compared = bivamolune_tests::boundary::COMPARED.iter().copied();
+    assert_eq!(declared_functions(&header), compared.collect());
 }
