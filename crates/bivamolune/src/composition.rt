@@ -1,26 +1,7 @@
 // Compose, for C.
-use crate::packing::LENGTH_UNIT;
-use compose::answer::Composition;
 use compose::compose;
-ghost use mathlib.Core.Path.{_≡_};
-ghost use Rattle.bivamolune.specs.ComposeAnswers.{Composes, numberBy, Short};
-
-// The number of what compose answers.
-fn pack_composition(c: Composition) -> u32
-    requires { ⌜ Short c ⌝ }
-    ensures { λ r. ⌜ r ≡ numberBy c ⌝ }
-{
-    match c {
-        Composition::Written(size) => LENGTH_UNIT * (size as u32),
-        Composition::WrongSize => 1,
-        Composition::NoImage => 2,
-        Composition::WrongLayout => 3,
-        Composition::WrongContent => 6,
-        Composition::HeldLine => 9,
-        Composition::PastLimit => 10,
-        Composition::ManyDependencies => 11,
-    }
-}
+use packing::compositions::pack_composition;
+ghost use Rattle.packing.specs.ComposeAnswers.{Composes};
 
 // Composes a message, and answers code + 256 × length.
 #[no_mangle]

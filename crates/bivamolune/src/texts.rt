@@ -1,23 +1,8 @@
 // Sequences as text, for C. Each call answers code + 256 × length.
-use crate::packing::LENGTH_UNIT;
-use text_checks::answer::Conversion;
+use packing::texts::pack_conversion;
 use text_reading::read_sequences;
 use text_writing::write_sequences;
-ghost use mathlib.Core.Path.{_≡_};
-ghost use Rattle.bivamolune.specs.TextAnswers.{ReadsSequences, WritesSequences, numberBy, Short};
-
-// The number of what the reader or the writer answers.
-fn pack_conversion(c: Conversion) -> u32
-    requires { ⌜ Short c ⌝ }
-    ensures { λ r. ⌜ r ≡ numberBy c ⌝ }
-{
-    match c {
-        Conversion::Written(size) => LENGTH_UNIT * (size as u32),
-        Conversion::WrongSize => 1,
-        Conversion::WrongForm => 13,
-        Conversion::ZeroNumber => 14,
-    }
-}
+ghost use Rattle.packing.specs.TextAnswers.{ReadsSequences, WritesSequences};
 
 // Reads the sequences of a text.
 #[no_mangle]

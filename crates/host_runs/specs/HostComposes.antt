@@ -7,8 +7,8 @@ use denote.Ref.{now, RefT}
 use contract.Lifetimes.{Lfts}
 use Rattle.model.specs.Calls.{Composed, compose}
 use Rattle.compose_laws.specs.ComposePromise.{ComposePromise, promise-of}
-use Rattle.bivamolune.specs.Packing.{codeIn, lengthIn}
-use Rattle.bivamolune.specs.ComposeAnswers.{Composes}
+use Rattle.packing.specs.Packing.{codeIn, lengthIn}
+use Rattle.packing.specs.ComposeAnswers.{Composes}
 use Rattle.bivamolune.proofs.composition.bivamolune_compose.Reads as compose-reads
 use Rattle.host_runs.specs.HostRuns.{HostDelivered, host-delivered-as}
 

@@ -7,9 +7,9 @@ use lib.ListN.{take, drop}
 use denote.Ref.{now, RefT}
 use contract.Lifetimes.{Lfts}
 use Rattle.model.specs.Calls.{logMessageCode, logMessage, Setpoint, setpoint, Converted, readSequences, writeSequences}
-use Rattle.bivamolune.specs.Packing.{codeIn, lengthIn}
-use Rattle.bivamolune.specs.ReadAnswers.{sizeIn, offsetIn, valueIn, AnswersSetpoint}
-use Rattle.bivamolune.specs.TextAnswers.{Converts}
+use Rattle.packing.specs.Packing.{codeIn, lengthIn}
+use Rattle.packing.specs.ReadAnswers.{sizeIn, offsetIn, valueIn, AnswersSetpoint}
+use Rattle.packing.specs.TextAnswers.{Converts}
 use Rattle.bivamolune.proofs.reads.bivamolune_log_message.Reads as message-reads
 use Rattle.bivamolune.proofs.reads.bivamolune_setpoint.Reads as setpoint-reads
 use Rattle.bivamolune.proofs.texts.bivamolune_read_sequences.Reads as read-reads

@@ -10,8 +10,8 @@ use Rattle.model.specs.Calls.{Emptied, empty, Delivered, deliver}
 use Rattle.model.specs.Run.{Agreement}
 use Rattle.model.specs.RunOrder.{OrderKept}
 use Rattle.run_laws.specs.CalledRuns.{Began, Answered, called-agreement, called-order}
-use Rattle.bivamolune.specs.Packing.{codeIn, undosIn, executionsIn}
-use Rattle.bivamolune.specs.Answers.{Empties, Delivers}
+use Rattle.packing.specs.Packing.{codeIn, undosIn, executionsIn}
+use Rattle.packing.specs.Answers.{Empties, Delivers}
 use Rattle.bivamolune.proofs.bivamolune_empty.Reads as empty-reads
 use Rattle.bivamolune.proofs.bivamolune_deliver.Reads as deliver-reads
 

@@ -1,5 +1,5 @@
 -- The number that is answered is that of what deliver answered, whose counts are small.
-use Rattle.bivamolune.specs.AnswerLaws.{small, delivers}
+use Rattle.packing.specs.AnswerLaws.{small, delivers}
 use borrow.Author.Needs.{needs}
 use Rattle.bivamolune.proofs.bivamolune_deliver.Statement.{statement}
 use Rattle.bivamolune.proofs.bivamolune_deliver.Tie as tie
@@ -11,8 +11,8 @@ began c = c .before .before .before .before .before .before
 deliver-requires : tie.Need-deliver-requires
 deliver-requires c κs = search needs
 
-pack-requires : tie.Need-pack-requires
-pack-requires c κs =
+pack-delivery-requires : tie.Need-pack-delivery-requires
+pack-delivery-requires c κs =
     let d = c .before .before .before .before in
     let a = began d .args in
     small (a .image .now) (a .message .now) (a .steps .now) (d .deliver .result) _ _ (d .deliver .ensures)
@@ -27,8 +27,8 @@ returns : tie.Need-returns
 returns c =
     let d = c .before .before .before .before .before in
     let a = began d .args in
-    delivers (a .image .now) (a .message .now) (a .steps .now) (d .deliver .result) (c .pack .result) _ _ (d .deliver .ensures) (c .pack .ensures)
+    delivers (a .image .now) (a .message .now) (a .steps .now) (d .deliver .result) (c .pack-delivery .result) _ _ (d .deliver .ensures) (c .pack-delivery .ensures)
 
 pub bivamolune-deliver-spec : {M : Type 1} → statement M
 bivamolune-deliver-spec =
-    tie.close (tie.spec deliver-requires pack-requires same-length same-length-2 returns)
+    tie.close (tie.spec deliver-requires pack-delivery-requires same-length same-length-2 returns)

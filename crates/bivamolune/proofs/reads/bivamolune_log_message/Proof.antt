@@ -5,8 +5,8 @@ use borrow.Author.Needs.{needs}
 use Rattle.reading.specs.declared.answer.Located.{Located}
 use Rattle.reading.specs.declared.answer.Located.the-variants as located
 use Rattle.reading.specs.Answers.{partBy}
-use Rattle.bivamolune.specs.ReadAnswers.{partNumber, AnswersLogMessage}
-use Rattle.bivamolune.specs.ReadAnswerLaws.{part-small, answers-log-message}
+use Rattle.packing.specs.ReadAnswers.{partNumber, AnswersLogMessage}
+use Rattle.packing.specs.ReadAnswerLaws.{part-small, answers-log-message}
 use Rattle.bivamolune.proofs.reads.bivamolune_log_message.Statement.{statement}
 use Rattle.bivamolune.proofs.reads.bivamolune_log_message.Tie as tie
 

@@ -8,8 +8,8 @@ use Rattle.model.specs.Calls.{setpoint}
 use Rattle.reading.specs.declared.answer.Reading.{Reading}
 use Rattle.reading.specs.declared.answer.Reading.the-variants as reading
 use Rattle.reading.specs.Answers.{setpointBy}
-use Rattle.bivamolune.specs.ReadAnswers.{valueNumber, AnswersSetpoint}
-use Rattle.bivamolune.specs.ReadAnswerLaws.{read-fits, answers-setpoint}
+use Rattle.packing.specs.ReadAnswers.{valueNumber, AnswersSetpoint}
+use Rattle.packing.specs.ReadAnswerLaws.{read-fits, answers-setpoint}
 use Rattle.bivamolune.proofs.reads.bivamolune_setpoint.Statement.{statement}
 use Rattle.bivamolune.proofs.reads.bivamolune_setpoint.Tie as tie
 

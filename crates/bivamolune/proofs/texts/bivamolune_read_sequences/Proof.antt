@@ -2,7 +2,7 @@
 use native.Mathlib.Omega.{arith}
 use Rattle.model.specs.Calls.{readSequences}
 use Rattle.text_laws.specs.RoundTrips.{read-short}
-use Rattle.bivamolune.specs.TextAnswerLaws.{short, converts}
+use Rattle.packing.specs.TextAnswerLaws.{short, converts}
 use borrow.Author.Needs.{needs}
 use Rattle.bivamolune.proofs.texts.bivamolune_read_sequences.Statement.{statement}
 use Rattle.bivamolune.proofs.texts.bivamolune_read_sequences.Tie as tie

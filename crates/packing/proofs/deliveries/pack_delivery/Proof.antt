@@ -1,0 +1,90 @@
+-- An accepted delivery is packed, its counts being small; each refusal is its own number.
+use mathlib.Core.Path.{sym, _∙_, ap, subst}
+use native.Mathlib.Omega.{arith}
+use Rattle.packing.specs.Answers.{Small, packedBy}
+use borrow.Author.Needs.{needs}
+use Rattle.packing.proofs.deliveries.pack_delivery.Statement.{statement}
+use Rattle.packing.proofs.deliveries.pack_delivery.Tie as tie
+
+enum-known-d : tie.Need-enum-known-d
+enum-known-d c = search needs
+
+pack-answer-requires : tie.Need-pack-answer-requires
+pack-answer-requires c κs =
+    let small = subst Small (c .before .d .given .1) (c .before .before .before .pre) in
+    record { code-fits = omega arith; undos-fit = omega (arith, small .0); executions-fit = omega (arith, small .1) }
+
+enum-told : tie.Need-enum-told
+enum-told c = search needs
+
+enum-told-2 : tie.Need-enum-told-2
+enum-told-2 c = search needs
+
+enum-told-3 : tie.Need-enum-told-3
+enum-told-3 c = search needs
+
+enum-told-4 : tie.Need-enum-told-4
+enum-told-4 c = search needs
+
+enum-told-5 : tie.Need-enum-told-5
+enum-told-5 c = search needs
+
+enum-told-6 : tie.Need-enum-told-6
+enum-told-6 c = search needs
+
+enum-told-7 : tie.Need-enum-told-7
+enum-told-7 c = search needs
+
+enum-told-8 : tie.Need-enum-told-8
+enum-told-8 c = search needs
+
+returns : tie.Need-returns
+returns c = c .pack-answer .ensures ∙ ap packedBy (sym (c .before .before .d .given .1))
+
+returns-2 : tie.Need-returns-2
+returns-2 c = search needs
+
+returns-3 : tie.Need-returns-3
+returns-3 c = search needs
+
+returns-4 : tie.Need-returns-4
+returns-4 c = search needs
+
+returns-5 : tie.Need-returns-5
+returns-5 c = search needs
+
+returns-6 : tie.Need-returns-6
+returns-6 c = search needs
+
+returns-7 : tie.Need-returns-7
+returns-7 c = search needs
+
+returns-8 : tie.Need-returns-8
+returns-8 c = search needs
+
+returns-9 : tie.Need-returns-9
+returns-9 c = search needs
+
+pub pack-delivery-spec : {M : Type 1} → statement M
+pack-delivery-spec =
+    tie.close
+    (tie.spec
+    enum-known-d
+    pack-answer-requires
+    enum-told
+    enum-told-2
+    enum-told-3
+    enum-told-4
+    enum-told-5
+    enum-told-6
+    enum-told-7
+    enum-told-8
+    returns
+    returns-2
+    returns-3
+    returns-4
+    returns-5
+    returns-6
+    returns-7
+    returns-8
+    returns-9)

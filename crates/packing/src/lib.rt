@@ -1,0 +1,8 @@
+// Answers as one number, for callers in C.
+pub mod compositions;
+pub mod deliveries;
+pub mod reads;
+pub mod texts;
+
+// what an answer's length is multiplied by, of compose and of texts
+pub const LENGTH_UNIT: u32 = 256;
