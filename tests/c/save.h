@@ -6,10 +6,10 @@
  *     in places   one file with two places. A save writes the place that has not the newest image, with a number and a
  *                 checksum. For storage that cannot rename, or where files are not to be made anew.
  *
- * The folder exists, and the file's name has no '/' and at most BIVAMOLUNE_FILE_NAME_MOST characters. One process saves or
- * loads under a name at a time. What a killed save leaves does not hinder the next one. A call that a signal interrupts is made
- * again. Where a flush fails, the system may show bytes that storage has not; so such bytes are never trusted later, but
- * written again. Loading flushes too: a host that begins again from an image may send what is in it.
+ * The folder exists, and the file's name has no '/' and at most BIVAMOLUNE_FILE_NAME_MOST characters. One process at a time
+ * saves or loads under a name, and it loads before it saves. What a killed save leaves does not hinder the next one. A call that
+ * a signal interrupts is made again. Where a save's flush fails, the system may show bytes that storage has not, so the next save
+ * writes them again. Loading flushes too: a host that begins again from an image may send what is in it.
  *
  * Include it first, or compile with -D_POSIX_C_SOURCE=200809L. */
 #ifndef BIVAMOLUNE_SAVE_H
@@ -44,7 +44,8 @@ enum bivamolune_loading {
                                    not there looks the same */
     BIVAMOLUNE_NOT_WHOLE = 2,   /* a file of another size, or neither place valid, as a first save that was killed leaves it.
                                    Begin with a new line, not anew with the old one */
-    BIVAMOLUNE_NOT_LOADED = 3   /* a call failed: nothing is known of the image */
+    BIVAMOLUNE_NOT_LOADED = 3   /* a call failed: nothing is known of the image. Start the machine anew before loading again: a flush
+                                   that failed may succeed when it is made once more, and nothing was written */
 };
 
 #define BIVAMOLUNE_FILE_NAME_MOST 251 /* with .new behind it, what file systems allow */
@@ -113,7 +114,8 @@ static inline enum bivamolune_loading bivamolune_close_loaded(int file, enum biv
 typedef enum bivamolune_loading bivamolune_reader(int file, uint8_t *image);
 
 /* Loads from a file of the folder, whose name is put into storage first. */
-static inline enum bivamolune_loading bivamolune_load_from(int folder, const char *name, uint8_t *image, bivamolune_reader *reader) {
+static inline enum bivamolune_loading bivamolune_load_from(int folder, const char *name, uint8_t *image,
+                                                           bivamolune_reader *reader) {
     int file;
     if (!bivamolune_flush(folder)) return BIVAMOLUNE_NOT_LOADED;
     file = bivamolune_open_file(folder, name, O_RDONLY);

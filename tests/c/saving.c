@@ -41,7 +41,7 @@ static void run_kills(const struct way *way) {
     for (unsigned before = 0; before < 3; before++) {
         struct seen seen;
         prepare(way, before);
-        check(save_in_child(way, saved[before]) == BIVAMOLUNE_SAVED && what_loads(way, before) == 'n', "the new one, once answered");
+        check(save_in_child(way, saved[before]) == BIVAMOLUNE_SAVED && what_loads(way, before) == 'n', "answered, and there");
         prepare(way, before);
         begin_plan(LET, 0, 0, 0);
         way->save(folder, "station", saved[before]);

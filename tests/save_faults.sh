@@ -1,0 +1,57 @@
+#!/bin/sh
+# Faults of c/save.h, planted one at a time: one of its two hosts must fail, by the check that is named.
+#
+#   sh save_faults.sh ARCHIVE
+#
+# The last line is 'N passed, 0 failed'.
+set -eu
+archive=$(realpath "$1")
+cd "$(dirname "$0")/c"
+build=$(mktemp -d)
+trap 'rm -rf "$build"' EXIT
+export TMPDIR="$build"
+passed=0
+failed=0
+
+# finds HOST CHECK EDIT: what the edit makes of save.h is seen by the host.
+finds() {
+    cp station.h caught.h storage.h "$1.c" "$build"
+    sed "$3" save.h >"$build/save.h"
+    gcc -O2 -std=c11 -I../../include "$build/$1.c" "$archive" -o "$build/host"
+    "$build/host" >"$build/out" || true
+    if ! cmp -s save.h "$build/save.h" && grep -q "^failed: .*$2" "$build/out"; then
+        passed=$((passed + 1))
+    else
+        failed=$((failed + 1))
+        echo "not found by $1: $3"
+    fi
+}
+
+# By rename: the file is not flushed, nor the folder; the image is written under its own name; a file that was left is in the way.
+finds saving 'flushed, renamed' 's/, 0) && bivamolune_flush(file);/, 0);/'
+finds saving 'flushed, renamed' 's/return bivamolune_flush(folder) ?/return 1 ?/'
+finds saving 'by rename, save 2, killed at call 3' 's/"%s.new"/"%s"/'
+finds saving 'by rename, save 1, killed' 's/O_TRUNC/O_EXCL/'
+finds saving 'by rename, call 5 fails' 's/return close(file) == 0 && right;/close(file); return right;/'
+finds torn 'a byte more' 's/ && behind == 0//'
+# Either: a short write, an interrupted call, a failed close, a failure taken for no file, a folder that is not flushed.
+finds saving 'call 3 fails by 6' 's/if (written <= 0) return 0;/return written > 0;/'
+finds saving 'call 4 fails by 4 with 4' 's/result < 0 && errno == EINTR/0/'
+finds saving 'call 8 fails' 's/return close(file) != 0 && saving/return close(file) == 9 \&\& saving/'
+finds saving 'of loading fails' 's/errno == ENOENT ?/1 ?/'
+finds saving 'is flushed before' 's/if (!bivamolune_flush(folder)) return/if (0) return/'
+# In places: no checksum, or one without the number; the newest is written over, or the older one loaded; a place that failed
+# counts, one that cannot be read does not; nothing is flushed before; numbers begin again.
+finds torn 'sectors are there' 's/== bivamolune_checksum(place, .*);/!= 0;/'
+finds torn 'a damaged place' 's/bivamolune_checksum(place, 8 + /bivamolune_checksum(place + 8, /'
+finds saving 'in places, save 2, killed' 's/BIVAMOLUNE_SECOND_PLACE_AT - newest.at/newest.at/'
+finds saving 'in places, save 3, killed' 's/newest->at = first > second/newest->at = first < second/'
+finds saving 'in places, call 8 fails' 's/return bivamolune_write_at(file, no_number, .*?/return 1 ?/'
+finds saving 'in places, call 5 fails' 's/return size >= 0;/return 1;/'
+finds saving 'then the other place' 's/if (!bivamolune_flush(file) ||/if (/'
+finds saving 'then the other place' 's/bivamolune_flush(folder) ? bivamolune_write_other/1 ? bivamolune_write_other/'
+finds saving 'then the other place' 's/BIVAMOLUNE_PLACE_SIZE, at) && bivamolune_flush(file)/BIVAMOLUNE_PLACE_SIZE, at)/'
+finds torn 'no number after it' 's/ || newest.number == UINT64_MAX//'
+
+echo "$passed passed, $failed failed"
+[ "$failed" -eq 0 ]
