@@ -25,11 +25,27 @@
  * - Hardware that is fed by the pairs begins with the image's values, all zero after empty. It gets the pairs of every delivery,
  *   the steps in order. A host that begins again from a saved image sets its hardware to that image's values first.
  * - What log message hands back is a part of the image itself. It is the message until the image is written again.
- * - An image in memory is not written in one blow. If power may fail, or the process may be killed, keep the last image in
- *   safe storage until the next one is there whole; what an interrupted call left may be no image (code 2).
+ * - An image is not written in one blow, neither in memory nor in storage. What an interrupted call left may be no image
+ *   (code 2). What an interrupted save left, partly new and partly old, may be an image with a delta that nobody sent, and code
+ *   2 does not find it: a held delta is not run, so nothing else in the image depends on its bytes. The true delta is then
+ *   refused (code 7), and the wrong one is executed when its need comes. So keep the last image until the next one is in
+ *   storage whole: write that one under another name, flush it, then rename it; or keep two places, each with a number and a
+ *   checksum, and write the older one. tests/c/save.h has both ways, to be copied.
  * - A delta of the station's own is composed, delivered to the station's own image, the image is saved, and only then is the
  *   message sent. A station that sends first and restarts from an image of before would use a sequence again for another
  *   delta, and the stations that got the first one refuse the second (code 7) for good.
+ * - A line belongs to one station. A station that is replaced, cloned or restored from an old backup gets a new line; with the
+ *   old one it would use sequences again.
+ * - The transport checks that messages come as they were sent. A changed bit can make another right delta, under a sequence
+ *   that is in use or a new one, and no code finds that.
+ * - Code 7 of a delivery is never retried: two deltas have one sequence, since one of these duties was not kept. Each station
+ *   has the one that came to it first, and those that differ in it differ for good. Keep both messages, the refused one and
+ *   the one in the image, for a human to decide, with the names of the stations that have each. A station with the wrong one
+ *   begins again with empty and a new line, and gets every delta from a station with the right one.
+ * - Code 8 of a delivery does not go away either: until there is a call that purges, a station keeps 64 deltas and no more,
+ *   and one that is full differs for good from those that accepted the delta. So share the 64 out among the stations: one
+ *   that has composed its share composes no more and tells the operators. Compose does not ask for room; a message that the
+ *   station's own image refuses is not sent.
  */
 #ifndef BIVAMOLUNE_H
 #define BIVAMOLUNE_H

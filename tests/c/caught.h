@@ -16,6 +16,8 @@ enum { SECTOR = 512 };
 /* What is done at the planned call: nothing; a kill before it, after it, or within a write; a failure of it, or of it and all
  * that follow; one byte written or read of those asked for. */
 enum deed { LET, KILL_BEFORE, KILL_AFTER, KILL_WITHIN, FAIL, FAIL_ON, SHORTEN };
+static const char *const deed_names[] = {"nothing at", "a kill before", "a kill after", "a kill within", "a failure of",
+                                         "failures from", "one byte of"};
 
 struct plan {
     enum deed deed;
@@ -36,6 +38,8 @@ static inline void begin_plan(enum deed deed, unsigned at, size_t cut, int error
     calls = 0;
     record[0] = 0;
 }
+
+static inline void clear_plan(void) { begin_plan(LET, 0, 0, 0); }
 
 static inline int is_planned(enum deed deed) { return plan.deed == deed && calls == plan.at; }
 

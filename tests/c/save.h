@@ -44,8 +44,8 @@ enum bivamolune_loading {
                                    not there looks the same */
     BIVAMOLUNE_NOT_WHOLE = 2,   /* a file of another size, or neither place valid, as a first save that was killed leaves it.
                                    Begin with a new line, not anew with the old one */
-    BIVAMOLUNE_NOT_LOADED = 3   /* a call failed: nothing is known of the image. Start the machine anew before loading again: a flush
-                                   that failed may succeed when it is made once more, and nothing was written */
+    BIVAMOLUNE_NOT_LOADED = 3   /* a call failed: nothing is known of the image. Start the machine anew before loading again: a
+                                   flush that failed may succeed when it is made once more, and nothing was written */
 };
 
 #define BIVAMOLUNE_FILE_NAME_MOST 251 /* with .new behind it, what file systems allow */

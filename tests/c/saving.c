@@ -19,7 +19,7 @@ static unsigned check_kill(const struct way *way, unsigned before, enum deed dee
     if (found == 0) return 0;
     seen->changed += found == 'n';
     seen->kept += found == kept;
-    snprintf(what, sizeof what, "%s, save %u, killed at call %u, deed %d, %zu bytes", way->name, before + 1, at, (int)deed, cut);
+    snprintf(what, sizeof what, "%s, save %u, %s call %u, %zu bytes", way->name, before + 1, deed_names[deed], at, cut);
     check((found == 'n' || found == kept) && saves_again(way), what);
     return 1;
 }
@@ -40,12 +40,12 @@ static struct seen kill_everywhere(const struct way *way, unsigned before, unsig
 static void run_kills(const struct way *way) {
     for (unsigned before = 0; before < 3; before++) {
         struct seen seen;
+        unsigned all;
         prepare(way, before);
-        check(save_in_child(way, saved[before]) == BIVAMOLUNE_SAVED && what_loads(way, before) == 'n', "answered, and there");
-        prepare(way, before);
-        begin_plan(LET, 0, 0, 0);
-        way->save(folder, "station", saved[before]);
-        seen = kill_everywhere(way, before, calls);
+        check(way->save(folder, "station", saved[before]) == BIVAMOLUNE_SAVED, "saved");
+        all = calls;
+        seen = kill_everywhere(way, before, all);
+        check(kill_save(way, before, KILL_AFTER, all, 0) == 'n', "killed as it answers, the new one");
         check(seen.changed > 0 && seen.kept > BIVAMOLUNE_IMAGE_SIZE / SECTOR, "kills before and after the image was there");
     }
 }
@@ -55,12 +55,13 @@ static void run_kills(const struct way *way) {
 /* The calls that were made since the plan began. */
 static void check_calls(const char *expected, const char *what) {
     check(strcmp(record, expected) == 0, what);
-    begin_plan(LET, 0, 0, 0);
+    clear_plan();
 }
 
 static void run_order(void) {
     flushing = 1;
     prepare(&by_rename, 1);
+    check(bivamolune_save_by_rename(folder, "station", saved[1]) == BIVAMOLUNE_SAVED, "saved by rename");
     check_calls("open folder, openat station.new, pwrite file, fsync file, close file, renameat to station, fsync folder, "
         "close folder", "flushed, renamed, and the folder flushed");
     check(bivamolune_load_by_rename(folder, "station", loaded) == BIVAMOLUNE_LOADED, "loaded by rename");
@@ -68,7 +69,6 @@ static void run_order(void) {
         "the folder is flushed before what it names is loaded");
 
     prepare(&in_places, 2);
-    begin_plan(LET, 0, 0, 0);
     check(bivamolune_save_in_places(folder, "station", saved[2]) == BIVAMOLUNE_SAVED, "saved in places");
     check_calls("open folder, openat station, fsync folder, fsync file, pread file, pread file, pwrite file, fsync file, "
         "close file, close folder", "what is there is flushed, then the other place");
@@ -108,7 +108,7 @@ static void run_failures(void) {
         for (unsigned at = 1; at <= all; at++) {
             char what[100];
             enum bivamolune_saving answer;
-            snprintf(what, sizeof what, "%s, call %u fails by %d with %d", f->way->name, at, (int)f->deed, f->error);
+            snprintf(what, sizeof what, "%s, %s call %u, error %d", f->way->name, deed_names[f->deed], at, f->error);
             prepare(f->way, 2);
             begin_plan(f->deed, at, 0, f->error);
             answer = f->way->save(folder, "station", saved[2]);
@@ -120,7 +120,7 @@ static void run_failures(void) {
     }
 }
 
-/* The same of loading: L loaded, F failed. */
+/* The same of loading: L loaded, F not loaded. */
 static const struct failing failing_to_load[] = {
     {&by_rename, FAIL, EIO, "FFFFFFF", ""},
     {&by_rename, FAIL, EINTR, "LLLLLFF", ""},
@@ -138,7 +138,7 @@ static void run_load_failures(void) {
         for (unsigned at = 1; at <= all + 1; at++) {
             char what[100];
             enum bivamolune_loading answer, expected = f->answers[at - 1] == 'F' ? BIVAMOLUNE_NOT_LOADED : BIVAMOLUNE_LOADED;
-            snprintf(what, sizeof what, "%s, call %u of loading fails by %d with %d", f->way->name, at, (int)f->deed, f->error);
+            snprintf(what, sizeof what, "%s, loading, %s call %u, error %d", f->way->name, deed_names[f->deed], at, f->error);
             begin_plan(f->deed, at, 0, f->error);
             memset(loaded, 0xEE, sizeof loaded);
             answer = f->way->load(folder, "station", loaded);
@@ -156,6 +156,7 @@ int main(void) {
     run_order();
     run_failures();
     run_load_failures();
-    remove_folder();
+    remove_files();
+    check(rmdir(folder) == 0, "no other file is left");
     return report();
 }

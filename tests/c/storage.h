@@ -33,14 +33,6 @@ static inline void stop(const char *why) {
 }
 
 /* ---- files and images */
-static inline void make_folder(void) {
-    const char *base = getenv("TMPDIR");
-    snprintf(folder, sizeof folder, "%s/saving-XXXXXX", base == NULL ? "/tmp" : base);
-    if (mkdtemp(folder) == NULL) stop("no folder");
-    snprintf(path, sizeof path, "%s/station", folder);
-    snprintf(left_over, sizeof left_over, "%s/station.new", folder);
-}
-
 static inline void remove_files(void) {
     unlink(path);
     unlink(left_over);
@@ -48,7 +40,15 @@ static inline void remove_files(void) {
 
 static inline void remove_folder(void) {
     remove_files();
-    if (rmdir(folder) != 0) stop("the folder has other files");
+    rmdir(folder);
+}
+
+static inline void make_folder(void) {
+    const char *base = getenv("TMPDIR");
+    snprintf(folder, sizeof folder, "%s/saving-XXXXXX", base == NULL ? "/tmp" : base);
+    if (mkdtemp(folder) == NULL || atexit(remove_folder) != 0) stop("no folder");
+    snprintf(path, sizeof path, "%s/station", folder);
+    snprintf(left_over, sizeof left_over, "%s/station.new", folder);
 }
 
 /* The file's first bytes; those that it has not are zero. */
@@ -87,14 +87,15 @@ static inline int is_loaded(const uint8_t *expected) { return memcmp(loaded, exp
 /* So many images were saved, one after another. */
 static inline void prepare(const struct way *way, unsigned before) {
     remove_files();
-    begin_plan(LET, 0, 0, 0);
+    clear_plan();
     for (unsigned i = 0; i < before; i++)
         if (way->save(folder, "station", saved[i]) != BIVAMOLUNE_SAVED) stop("the images before were not saved");
+    clear_plan();
 }
 
 /* What loads once the next image was saved, or not: the new image, the old one, another, or none. */
 static inline char what_loads(const struct way *way, unsigned before) {
-    begin_plan(LET, 0, 0, 0);
+    clear_plan();
     memset(loaded, 0xEE, sizeof loaded);
     if (way->load(folder, "station", loaded) != BIVAMOLUNE_LOADED) return '-';
     if (is_loaded(saved[before])) return 'n';
@@ -102,7 +103,7 @@ static inline char what_loads(const struct way *way, unsigned before) {
 }
 
 static inline int saves_again(const struct way *way) {
-    begin_plan(LET, 0, 0, 0);
+    clear_plan();
     return way->save(folder, "station", fresh) == BIVAMOLUNE_SAVED && way->load(folder, "station", loaded) == BIVAMOLUNE_LOADED
         && is_loaded(fresh);
 }

@@ -226,6 +226,5 @@ int main(void) {
     run_names(&in_places);
     run_over();
     run_held();
-    remove_folder();
     return report();
 }
