@@ -26,11 +26,13 @@ finds() {
     fi
 }
 
-# By rename: the file is not flushed, nor the folder; the image is written under its own name; a file that was left is in the way.
+# By rename: the file is not flushed, nor the folder; the image is written under its own name; a file that was left is in the way,
+# or stays longer; a failed close, a longer file.
 finds saving 'flushed, renamed' 's/, 0) && bivamolune_flush(file);/, 0);/'
 finds saving 'flushed, renamed' 's/return bivamolune_flush(folder) ?/return 1 ?/'
 finds saving 'by rename, save 2, a kill within call 3' 's/"%s.new"/"%s"/'
 finds saving 'by rename, save 1, a kill after call 2' 's/O_TRUNC/O_EXCL/'
+finds torn 'the same, left' 's/ | O_TRUNC//'
 finds saving 'by rename, a failure of call 5, error 5' 's/return close(file) == 0 && right;/close(file); return right;/'
 finds torn 'a byte more' 's/ && behind == 0//'
 # Either: a short write, an interrupted call, a failed close, a failure taken for no file, a folder that is not flushed.
@@ -39,10 +41,11 @@ finds saving 'by rename, a failure of call 4, error 4' 's/result < 0 && errno ==
 finds saving 'by rename, a failure of call 8' 's/return close(file) != 0 && saving/return close(file) == 9 \&\& saving/'
 finds saving 'loading, a failure of call 3' 's/errno == ENOENT ?/1 ?/'
 finds saving 'is flushed before' 's/if (!bivamolune_flush(folder)) return/if (0) return/'
-# In places: no checksum, or one without the number; the newest is written over, or the older one loaded; a place that failed
-# counts, one that cannot be read does not; nothing is flushed before; numbers begin again.
+# In places: no checksum, or one without the number; a page with a part of both; the newest is written over, or the older one
+# loaded; a place that failed counts, one that cannot be read does not; what is not flushed; numbers begin again.
 finds torn 'sectors are there' 's/== bivamolune_checksum(place, .*);/!= 0;/'
 finds torn 'a damaged place' 's/bivamolune_checksum(place, 8 + /bivamolune_checksum(place + 8, /'
+finds torn 'a page is lost' 's/SECOND_PLACE_AT 20480/SECOND_PLACE_AT 16400/'
 finds saving 'in places, save 2, a kill within call 7' 's/BIVAMOLUNE_SECOND_PLACE_AT - newest.at/newest.at/'
 finds saving 'in places, save 3, a kill' 's/newest->at = first > second/newest->at = first < second/'
 finds saving 'in places, a failure of call 8' 's/return bivamolune_write_at(file, no_number, .*?/return 1 ?/'

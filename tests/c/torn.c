@@ -7,7 +7,11 @@
  * confirms a flush and has not made it. */
 #include "storage.h"
 
-enum { FILE_SIZE = BIVAMOLUNE_SECOND_PLACE_AT + BIVAMOLUNE_PLACE_SIZE, SECTORS = (FILE_SIZE + SECTOR - 1) / SECTOR };
+enum {
+    FILE_SIZE = BIVAMOLUNE_SECOND_PLACE_AT + BIVAMOLUNE_PLACE_SIZE,
+    SECTORS = (FILE_SIZE + SECTOR - 1) / SECTOR,
+    PAGE = 4096
+};
 
 /* ---- two places */
 static uint8_t file_before[FILE_SIZE], file_after[FILE_SIZE], file_torn[FILE_SIZE];
@@ -51,6 +55,20 @@ static void run_tears(unsigned before, enum choice choice, size_t tears, const c
     }
     check(kept + changed == tears, what);
     check(kept > 0 && (changed > 0 || choice == CHANCE), "tears before and after the image was there");
+}
+
+/* A page is lost as it is written: the other place has no part of it. */
+static void run_lost_pages(unsigned before) {
+    const size_t place = before == 1 ? BIVAMOLUNE_SECOND_PLACE_AT : 0, end = place + BIVAMOLUNE_PLACE_SIZE;
+    int kept = 1;
+    save_next(before);
+    for (size_t at = place / PAGE * PAGE; at < end; at += PAGE) {
+        memcpy(file_torn, file_after, sizeof file_torn);
+        memset(file_torn + at, 0xEE, at + PAGE < sizeof file_torn ? (size_t)PAGE : sizeof file_torn - at);
+        put_file(file_torn, sizeof file_torn);
+        kept = kept && what_loads(&in_places, before) == 'o';
+    }
+    check(kept, "in places, a page is lost");
 }
 
 /* What loads with the bit of a byte changed. */
@@ -103,6 +121,7 @@ static void run_sizes(void) {
     check(load_cut(&by_rename, longer, BIVAMOLUNE_IMAGE_SIZE) == BIVAMOLUNE_LOADED && is_loaded(saved[0]), "exactly an image");
     check(load_cut(&by_rename, longer, BIVAMOLUNE_IMAGE_SIZE - 1) == BIVAMOLUNE_NOT_WHOLE, "a byte less than an image");
     check(load_cut(&by_rename, longer, BIVAMOLUNE_IMAGE_SIZE + 1) == BIVAMOLUNE_NOT_WHOLE, "a byte more than an image");
+    check(rename(path, left_over) == 0 && saves_again(&by_rename), "the same, left under the other name");
     check(load_cut(&by_rename, longer, 0) == BIVAMOLUNE_NOT_WHOLE, "an empty file for an image");
 
     save_next(1);
@@ -217,6 +236,7 @@ int main(void) {
         run_tears(before, PREFIX, SECTORS + 1, "in places, the first sectors are there");
         run_tears(before, SUFFIX, SECTORS + 1, "in places, the last sectors are there");
         run_tears(before, CHANCE, 1000, "in places, some sectors are there");
+        run_lost_pages(before);
     }
     run_damage();
     run_checksum();
