@@ -32,8 +32,9 @@
 enum bivamolune_saving {
     BIVAMOLUNE_SAVED = 0,       /* every call succeeded: the new image is what loads, also after a power failure */
     BIVAMOLUNE_NOT_SAVED = 1,   /* what loaded before is what loads. Save again */
-    BIVAMOLUNE_SAVE_UNSURE = 2  /* the old image loads or the new one, whole, and after a power failure perhaps the other. Save
-                                   again; in places, storage has then failed twice and is to be replaced */
+    BIVAMOLUNE_SAVE_UNSURE = 2  /* the old image loads or the new one, whole, and after a power failure perhaps the other. By
+                                   rename, save again; in places, start the machine anew and load, since the system may show
+                                   a place that storage has not */
 };
 
 /* What loading answers. Only beside the first the buffer has an image, one that was handed to a save. Bytes that storage
