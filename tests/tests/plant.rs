@@ -4,6 +4,8 @@
 #![deny(warnings)]
 
 mod common;
+#[path = "common/passing.rs"]
+mod passing;
 
 use std::collections::{BTreeMap, BTreeSet};
 use std::process::{Command, Output};
@@ -11,24 +13,26 @@ use std::process::{Command, Output};
 use bivamolune_tests::boundary::Calls;
 use bivamolune_tests::call::Composing;
 use bivamolune_tests::faulty::{Fault, Faulty};
-use bivamolune_tests::plant::{run, Duty, Run, Station, What};
+use bivamolune_tests::plant::{run, Duty, Hazard, Left, Run, Station, What, HAZARDS};
 use bivamolune_tests::view::u16_at;
-use bivamolune_tests::wire::{line, set};
+use bivamolune_tests::wire::{line, set, Sequence};
 use common::{A, B, C, SUBJECT};
+use passing::{ForgetsHeld, HeldAsTheyCame};
 
 /// The seeds that are run here; the program runs more.
 const SEEDS: std::ops::Range<u64> = 0..300;
 
-/// Runs a seed with the duty kept, and checks its end.
+/// Runs a seed with the duty kept, and checks it.
 fn kept(calls: &dyn Calls, seed: u64) -> Result<Run, String> {
-    let run = run(calls, seed, Duty::Kept)?;
+    let run = run(calls, seed, Duty::Kept(Hazard::Crash))?;
     run.check(calls)?;
     Ok(run)
 }
 
 /// After the last exchange all images are equal, nothing is lost, and after every call every
-/// host's log, fed by the steps alone, was the image's, and every hardware's setpoints, fed by
-/// their pairs alone, were the image's.
+/// host's log, fed by the steps alone, was the image's, every hardware's setpoints, fed by
+/// their pairs alone, were the image's, every image had what was accepted, and equal sets had
+/// equal images.
 #[test]
 fn stations_agree_in_the_end() {
     let mut seen: BTreeMap<&str, usize> = BTreeMap::new();
@@ -41,7 +45,11 @@ fn stations_agree_in_the_end() {
         mark("restarted", any(|what| matches!(what, What::Restarted(..))));
         mark(
             "split",
-            any(|w| matches!(w, What::Sides(s) if s.contains(&true))),
+            any(|w| matches!(w, What::Sides(s) if s.are_apart() && !s.one_way)),
+        );
+        mark(
+            "one-way split",
+            any(|w| matches!(w, What::Sides(s) if s.are_apart() && s.one_way)),
         );
         mark(
             "priority",
@@ -60,7 +68,7 @@ fn stations_agree_in_the_end() {
         mark("held for good", u16_at(&run.memories[0].image, 2) > 0);
     }
     println!("{seen:?}");
-    assert_eq!(seen.len(), 10);
+    assert_eq!(seen.len(), 11);
     assert!(seen.values().all(|count| *count >= 10), "{seen:?}");
 }
 
@@ -75,25 +83,41 @@ fn a_seed_gives_its_run_again() {
 /// The events tell the whole run: played again, they give each host's log.
 #[test]
 fn events_tell_each_log() {
-    for seed in SEEDS.take(40) {
-        let run = kept(&SUBJECT, seed).expect("it runs");
-        let mut logs = vec![Vec::new(); run.memories.len()];
-        let mut saved = logs.clone();
-        let mut time = 0;
-        for event in &run.events {
-            assert!(event.time >= time);
-            time = event.time;
-            match event.what {
-                What::Executed(at, sequence) => logs[at].push(sequence),
-                What::Undone(at, sequence) => assert_eq!(logs[at].pop(), Some(sequence)),
-                What::Saved(at) => saved[at] = logs[at].clone(),
-                What::Restarted(at) => logs[at] = saved[at].clone(),
-                _ => {}
-            }
+    for (_, hazard) in HAZARDS {
+        for seed in SEEDS.take(10) {
+            let run = run(&SUBJECT, seed, Duty::Kept(hazard)).expect("it runs");
+            let hosts: Vec<_> = run.memories.iter().map(|m| m.host.log.clone()).collect();
+            assert_eq!(told_logs(&run), hosts, "{hazard:?}, seed {seed}");
         }
-        let hosts: Vec<_> = run.memories.iter().map(|m| m.host.log.clone()).collect();
-        assert_eq!(logs, hosts, "seed {seed}");
     }
+}
+
+/// The log of each station, by the events alone.
+fn told_logs(run: &Run) -> Vec<Vec<Sequence>> {
+    let mut logs = vec![Vec::new(); run.memories.len()];
+    let (mut saved, mut backups) = (logs.clone(), logs.clone());
+    let mut time = 0;
+    for event in &run.events {
+        assert!(event.time >= time);
+        time = event.time;
+        match event.what {
+            What::Executed(at, sequence) => logs[at].push(sequence),
+            What::Undone(at, sequence) => assert_eq!(logs[at].pop(), Some(sequence)),
+            What::Saved(at) | What::Cut(at, Left::New) => saved[at] = logs[at].clone(),
+            What::BackedUp(at) => backups[at] = saved[at].clone(),
+            What::Restarted(at) => logs[at] = saved[at].clone(),
+            What::Restored(at) => {
+                saved[at] = backups[at].clone();
+                logs[at] = backups[at].clone();
+            }
+            What::Cloned(from, to) => {
+                saved[to] = saved[from].clone();
+                logs[to] = saved[from].clone();
+            }
+            _ => {}
+        }
+    }
+    logs
 }
 
 /// Wrong implementations do not come through.
@@ -123,6 +147,24 @@ fn the_plant_finds_faults() {
             .find(|seed| kept(&Faulty(fault), *seed).is_err());
         println!("{fault:?}: seed {found:?}");
         assert!(found.is_some(), "{fault:?}");
+    }
+}
+
+/// A fault that is gone by the end is found where it shows.
+#[test]
+fn the_plant_finds_faults_that_pass() {
+    let faults: [(&dyn Calls, &str); 2] = [
+        (&HeldAsTheyCame, "the same messages have two images"),
+        (&ForgetsHeld, "the image has not what was accepted"),
+    ];
+    for (wrong, error) in faults {
+        let ended = |seed| run(wrong, seed, Duty::Kept(Hazard::Crash)).ok();
+        let runs = SEEDS.filter_map(|seed| Some((seed, ended(seed)?)));
+        let mut passed = runs.filter(|(_, run)| run.check_end(wrong).is_ok());
+        let found = passed.find(|(_, run)| run.midway.is_err());
+        let (seed, run) = found.expect(error);
+        println!("seed {seed}: {:?}", run.midway);
+        assert!(run.midway.unwrap_err().ends_with(error), "seed {seed}");
     }
 }
 
@@ -213,9 +255,9 @@ fn a_delta_saved_before_it_is_sent_keeps_the_stations_together() {
 fn the_duty_makes_the_difference() {
     let (mut parted, mut reused) = (BTreeSet::new(), BTreeSet::new());
     for seed in SEEDS {
-        let with = run(&SUBJECT, seed, Duty::Kept).expect("it runs");
+        let with = run(&SUBJECT, seed, Duty::Kept(Hazard::Crash)).expect("it runs");
         assert!(with.agrees() && with.reused.is_empty(), "seed {seed}");
-        let without = run(&SUBJECT, seed, Duty::SavedLater).expect("it runs");
+        let without = run(&SUBJECT, seed, Duty::Neglected(Hazard::Crash)).expect("it runs");
         if !without.reused.is_empty() {
             reused.insert(seed);
         }
@@ -257,14 +299,11 @@ fn the_program_runs_seeds_and_prints_events() {
     let events = kept(&SUBJECT, 5).expect("it runs").events;
     let lines: Vec<String> = events.iter().map(|event| event.to_string()).collect();
     assert_eq!(printed.lines().collect::<Vec<_>>(), lines);
-    let output = program(&["--unsaved", "0..40"]);
-    let printed = String::from_utf8_lossy(&output.stdout);
-    assert_eq!(output.status.code(), Some(0), "{printed}");
-    assert!(printed.contains("ended with different images"), "{printed}");
     for words in [
         &["--seeds"][..],
         &["--seeds", "5"],
         &["--nothing", "3"],
+        &["--hazard", "none", "--seeds", "0..1"],
         &[],
     ] {
         assert_eq!(program(words).status.code(), Some(2));

@@ -1,10 +1,12 @@
 //! Runs plants in motion from seeds.
 //!
 //! `plant --seeds A..B` runs the seeds from A to below B with the host's duty kept, and ends
-//! with 1 at the first run that does not end as it must. `plant --unsaved A..B` lets hosts
-//! send a delta of their own before they save it, and counts what comes of it.
-//! `plant --events SEED` prints what happened in a run, a line for each event: its time, the
-//! station (or - for the network), what, and of what.
+//! with 1 at the first run that does not go as it must. `--hazard NAME` says what goes wrong
+//! beside the network (crash, damage, shared-line, overflow, torn-save, old-backup or
+//! cloning; crash where it is left out). With `--neglected` hosts neglect their duty against
+//! it; then the runs that ended with different images are counted.
+//! `plant --events SEED`, with the same options, prints what happened in a run, a line for
+//! each event: its time, the station (or - for the network), what, and of what.
 
 #![deny(warnings)]
 
@@ -13,20 +15,18 @@ use std::ops::Range;
 use std::process::ExitCode;
 
 use bivamolune_tests::boundary::{COMPARED, SUBJECT};
-use bivamolune_tests::plant::{run, Duty, Run, What};
+use bivamolune_tests::call::hex;
+use bivamolune_tests::plant::{run, Duty, Hazard, Run, What, HAZARDS};
 
-const USAGE: &str = "usage: plant --seeds A..B | --unsaved A..B | --events SEED";
+const USAGE: &str = "usage: plant [--hazard NAME] [--neglected] --seeds A..B | --events SEED";
+
+/// How many seeds are shown of a kind.
+const SHOWN: usize = 3;
 
 fn main() -> ExitCode {
     let words: Vec<String> = env::args().skip(1).collect();
     let words: Vec<&str> = words.iter().map(String::as_str).collect();
-    let done = match words[..] {
-        ["--seeds", seeds] => range(seeds).map(many),
-        ["--unsaved", seeds] => range(seeds).map(unsaved),
-        ["--events", seed] => seed.parse().ok().map(events),
-        _ => None,
-    };
-    match done {
+    match perform(&words) {
         Some(Ok(())) => ExitCode::SUCCESS,
         Some(Err(error)) => {
             println!("{error}");
@@ -37,6 +37,30 @@ fn main() -> ExitCode {
             ExitCode::from(2)
         }
     }
+}
+
+/// What the words ask for; none if they ask for nothing.
+fn perform(words: &[&str]) -> Option<Result<(), String>> {
+    let (hazard, words) = match words {
+        ["--hazard", name, rest @ ..] => (named(name)?, rest),
+        _ => (Hazard::Crash, words),
+    };
+    let (duty, words) = match words {
+        ["--neglected", rest @ ..] => (Duty::Neglected(hazard), rest),
+        _ => (Duty::Kept(hazard), words),
+    };
+    match words {
+        ["--seeds", seeds] if duty.is_kept() => range(seeds).map(|seeds| many(duty, seeds)),
+        ["--seeds", seeds] => range(seeds).map(|seeds| neglected(duty, seeds)),
+        ["--events", seed] => seed.parse().ok().map(|seed| events(duty, seed)),
+        _ => None,
+    }
+}
+
+fn named(wanted: &str) -> Option<Hazard> {
+    let mut hazards = HAZARDS.iter();
+    let found = hazards.find(|(name, _)| *name == wanted);
+    found.map(|(_, hazard)| *hazard)
 }
 
 fn range(words: &str) -> Option<Range<u64>> {
@@ -54,19 +78,22 @@ fn subject() -> String {
     format!("deliver is answered by {deliver}, compose by {compose}")
 }
 
-/// A run with the duty kept, which ended as it must.
-fn kept(seed: u64) -> Result<Run, String> {
-    let checked = run(&SUBJECT, seed, Duty::Kept).and_then(|run| {
-        run.check(&SUBJECT)?;
+/// A run that went as it must: with the duty kept in all, else after each event.
+fn checked(duty: Duty, seed: u64) -> Result<Run, String> {
+    let checked = run(&SUBJECT, seed, duty).and_then(|run| {
+        match duty.is_kept() {
+            true => run.check(&SUBJECT)?,
+            false => run.midway.clone()?,
+        }
         Ok(run)
     });
     checked.map_err(|error| format!("seed {seed}: {error}"))
 }
 
-fn many(seeds: Range<u64>) -> Result<(), String> {
+fn many(duty: Duty, seeds: Range<u64>) -> Result<(), String> {
     let (mut runs, mut deliveries, mut undos, mut executions) = (0, 0, 0, 0);
     for seed in seeds.clone() {
-        let run = kept(seed)?;
+        let run = checked(duty, seed)?;
         runs += 1;
         deliveries += run.count(|what| matches!(what, What::Delivered(..)));
         undos += run.count(|what| matches!(what, What::Undone(..)));
@@ -81,27 +108,40 @@ fn many(seeds: Range<u64>) -> Result<(), String> {
     Ok(())
 }
 
-fn unsaved(seeds: Range<u64>) -> Result<(), String> {
-    let (mut runs, mut reused, mut parted, mut stations) = (0, 0, 0, 0);
-    for seed in seeds {
-        let ended = run(&SUBJECT, seed, Duty::SavedLater);
-        let ended = ended.map_err(|error| format!("seed {seed}: {error}"))?;
+/// Counts what comes of a neglected duty, and shows some seeds of each kind: with the first
+/// refusal by 7 or 8, and with a delta that nobody sent.
+fn neglected(duty: Duty, seeds: Range<u64>) -> Result<(), String> {
+    let (mut runs, mut reused) = (0, 0);
+    let (mut parted, mut strange) = (Vec::new(), Vec::new());
+    for seed in seeds.clone() {
+        let run = checked(duty, seed)?;
         runs += 1;
-        reused += ended.reused.len();
-        parted += usize::from(!ended.agrees());
-        let first = &ended.memories[0].image;
-        stations += ended.memories.iter().filter(|m| m.image != *first).count();
+        reused += run.reused.len();
+        if !run.agrees() {
+            let conflict = run.first_conflict().map(|event| event.to_string());
+            parted.push(format!("seed {seed}: {}", conflict.unwrap_or_default()));
+        }
+        if let Some(message) = run.strange.iter().next() {
+            strange.push(format!("seed {seed}: nobody sent {}", hex(message)));
+        }
     }
     println!("{}", subject());
     println!(
-        "{runs} runs with deltas sent before they were saved: {reused} sequences were used \
-         again, {parted} runs ended with different images, {stations} stations unlike the first"
+        "seeds {}..{}: {runs} runs, {} ended with different images, {} executed a delta that \
+         nobody sent; {reused} sequences were used again",
+        seeds.start,
+        seeds.end,
+        parted.len(),
+        strange.len()
     );
+    for shown in parted.iter().take(SHOWN).chain(strange.iter().take(SHOWN)) {
+        println!("{shown}");
+    }
     Ok(())
 }
 
-fn events(seed: u64) -> Result<(), String> {
-    for event in kept(seed)?.events {
+fn events(duty: Duty, seed: u64) -> Result<(), String> {
+    for event in checked(duty, seed)?.events {
         println!("{event}");
     }
     Ok(())

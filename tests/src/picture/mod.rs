@@ -12,7 +12,7 @@ mod svg;
 mod teller;
 
 use crate::boundary::Calls;
-use crate::plant::{run, Duty};
+use crate::plant::{run, Duty, Hazard};
 use scene::Lane;
 use teller::tell;
 
@@ -23,7 +23,7 @@ pub fn fault(calls: &dyn Calls) -> Result<String, String> {
 
 /// The plant in motion of a seed.
 pub fn seed(calls: &dyn Calls, seed: u64) -> Result<String, String> {
-    let run = run(calls, seed, Duty::Kept)?;
+    let run = run(calls, seed, Duty::Kept(Hazard::Crash))?;
     run.check(calls)?;
     let lanes = (0..run.memories.len()).map(|at| Lane::new(&format!("Station {at}"), ""));
     let mut scene = tell(lanes.collect(), &run.events);

@@ -74,6 +74,9 @@ impl Teller {
             What::Saved(at) => self.saved[*at] = self.known[*at].clone(),
             What::Restarted(at) => self.restarted(*at, time),
             What::NotComposed(..) | What::Sides(_) | What::Exchange => {}
+            // A picture is of the hazard of crashes alone.
+            What::Cut(..) | What::BackedUp(_) | What::Restored(_) => {}
+            What::Cloned(..) | What::Damaged(..) => {}
         }
     }
 

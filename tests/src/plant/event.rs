@@ -2,6 +2,8 @@
 
 use std::fmt::{self, Display, Formatter};
 
+use super::disk::Left;
+use super::network::Sides;
 use super::station::Delivery;
 use crate::call::hex;
 use crate::view::{sequence_of, u32_at, Kind};
@@ -28,14 +30,24 @@ pub enum What {
     Executed(usize, Sequence),
     /// The image was saved.
     Saved(usize),
+    /// A save was cut, and left this on the disk.
+    Cut(usize, Left),
+    /// What is saved was copied for a backup.
+    BackedUp(usize),
     /// The station began again from the image it had saved.
     Restarted(usize),
+    /// The station began again from its backup.
+    Restored(usize),
+    /// A station's disk was copied to a new station, the second.
+    Cloned(usize, usize),
     /// A message set out, from a station to another.
     Sent(usize, usize, Sequence),
+    /// A message on its way to a station had this bit flipped.
+    Damaged(usize, Sequence, usize),
     /// A message on its way to a station was lost.
     Lost(usize, Sequence),
-    /// The network fell apart, or came together: the side of each station.
-    Sides(Vec<bool>),
+    /// The network fell apart, or came together.
+    Sides(Sides),
     /// From here on everything reaches all.
     Exchange,
 }
@@ -73,13 +85,15 @@ impl Display for Event {
             What::Undone(at, own) => write!(f, "{at} undo {}", hex(own)),
             What::Executed(at, own) => write!(f, "{at} execute {}", hex(own)),
             What::Saved(at) => write!(f, "{at} save"),
+            What::Cut(at, left) => write!(f, "{at} cut-save {left}"),
+            What::BackedUp(at) => write!(f, "{at} back-up"),
             What::Restarted(at) => write!(f, "{at} restart"),
+            What::Restored(at) => write!(f, "{at} restore"),
+            What::Cloned(at, to) => write!(f, "{at} clone to {to}"),
             What::Sent(at, to, own) => write!(f, "{at} send {} to {to}", hex(own)),
+            What::Damaged(to, own, bit) => write!(f, "- flip {} bit {bit} to {to}", hex(own)),
             What::Lost(to, own) => write!(f, "- lose {} to {to}", hex(own)),
-            What::Sides(sides) => {
-                let sides: String = sides.iter().map(|s| if *s { '1' } else { '0' }).collect();
-                write!(f, "- sides {sides}")
-            }
+            What::Sides(sides) => write!(f, "- sides {sides}"),
             What::Exchange => write!(f, "- exchange"),
         }
     }

@@ -1,28 +1,27 @@
 //! A plant in motion: stations over a network that loses, repeats, reorders and splits, with
-//! operators who compose, restarts from saved images, and a last exchange of everything.
+//! operators who compose, restarts from saved images, a hazard with a host's duty against it,
+//! and a last exchange of everything.
 
+mod disk;
 mod event;
+mod hazard;
 mod motion;
 mod network;
+mod outage;
+mod outside;
 mod run;
 mod station;
 mod traffic;
+mod watch;
 
+pub use disk::{Left, SECTORS};
 pub use event::{Event, What};
+pub use hazard::{Duty, Hazard, HAZARDS};
 pub use run::Run;
 pub use station::{Delivery, Hardware, Station};
 
 use crate::boundary::Calls;
 use motion::Plant;
-
-/// What the host does with a delta of its own.
-#[derive(Clone, Copy, Debug, PartialEq, Eq)]
-pub enum Duty {
-    /// Compose, deliver to yourself, save, then send.
-    Kept,
-    /// Compose, deliver to yourself, send; save at some later time.
-    SavedLater,
-}
 
 /// Runs the plant of a seed to its end, on an implementation of the calls. An error is a
 /// promise broken on the way.

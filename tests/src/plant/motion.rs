@@ -3,62 +3,42 @@
 use std::collections::{BTreeMap, BTreeSet};
 
 use super::event::{Event, What};
+use super::hazard::{Duty, Hazard};
 use super::network::Network;
+use super::outside::Outside;
 use super::run::Run;
 use super::station::{Delivery, Station};
-use super::Duty;
+use super::watch::Watch;
 use crate::boundary::Calls;
 use crate::call::Composing;
-use crate::generate::{drafts, nearly_right, LINES};
 use crate::random::Random;
 use crate::view::{sequence_of, Kind};
-use crate::wire::{command, Draft, Line, Sequence};
+use crate::wire::{command, Line, Sequence};
 
 /// The stations, the network between, and all that has happened.
 pub struct Plant<'a> {
-    calls: &'a dyn Calls,
-    duty: Duty,
+    pub calls: &'a dyn Calls,
+    pub duty: Duty,
     pub random: Random,
     pub stations: Vec<Station>,
     pub network: Network,
     pub outside: Outside,
     /// Right messages that set out, by sequence.
     pub sent: BTreeMap<Sequence, BTreeSet<Vec<u8>>>,
+    /// Messages that a station had and its backup has not.
+    pub given_up: BTreeSet<Vec<u8>>,
     pub time: usize,
     events: Vec<Event>,
-    /// How many deltas may still be composed: there is room for all in the end.
+    watch: Watch,
+    /// The first thing that did not hold after an event.
+    midway: Result<(), String>,
+    /// How many deltas may still be composed.
     budget: usize,
     /// The chance of an operator's turn, and of a crash at each point of a compose.
     pace: usize,
-    crash: usize,
-}
-
-/// Messages from outside: right ones of lines that no station has, and wrong ones with
-/// their code.
-#[derive(Clone, Debug)]
-pub struct Outside {
-    pub right: Vec<Vec<u8>>,
-    pub wrong: BTreeMap<Vec<u8>, u32>,
-}
-
-impl Outside {
-    fn new(random: &mut Random) -> Outside {
-        let right = match random.below(6) {
-            0 | 1 => Vec::new(),
-            // As many ends for each log as lines.
-            2 => LINES.iter().map(|line| Draft::new(*line, 1)).collect(),
-            _ => {
-                let count = random.pick(&[1, 4, 12]);
-                drafts(random, count)
-            }
-        };
-        let some = right.iter().take(4);
-        let wrong = some.map(|draft| nearly_right(random, draft));
-        Outside {
-            wrong: wrong.map(|(code, message)| (message, code)).collect(),
-            right: right.iter().map(Draft::bytes).collect(),
-        }
-    }
+    pub crash: usize,
+    /// Whether a station was cloned.
+    pub cloned: bool,
 }
 
 impl<'a> Plant<'a> {
@@ -68,21 +48,31 @@ impl<'a> Plant<'a> {
         let count = random.pick(&[2, 3, 3, 4, 4, 5, 6, 10]);
         let lines = random.pick(&[1, 1, 1, 2]);
         let station = |at| Station::new(calls, own_lines(&mut random, at, lines));
-        let stations = (0..count).map(station).collect::<Result<Vec<_>, _>>()?;
+        let mut stations = (0..count).map(station).collect::<Result<Vec<_>, _>>()?;
+        if duty == Duty::Neglected(Hazard::SharedLine) {
+            stations[1].lines = stations[0].lines.clone();
+        }
         let (loss, repeat) = (random.pick(&[0, 5, 20, 50]), random.pick(&[0, 10, 30]));
         let most = random.pick(&[6, 12, 20, 50]);
+        let outside = Outside::new(&mut random);
+        let mut watch = Watch::default();
+        watch.made.extend(outside.right.iter().cloned());
         Ok(Plant {
             calls,
             duty,
             stations,
             network: Network::new(count, loss, repeat),
-            outside: Outside::new(&mut random),
             sent: BTreeMap::new(),
+            given_up: BTreeSet::new(),
             time: 0,
             events: Vec::new(),
-            budget: random.within(most / 2, most),
+            watch,
+            midway: Ok(()),
+            budget: budget(&mut random, duty, most, outside.right.len()),
+            outside,
             pace: random.pick(&[10, 20, 35]),
             crash: random.pick(&[0, 5, 20]),
+            cloned: false,
             random,
         })
     }
@@ -95,6 +85,7 @@ impl<'a> Plant<'a> {
         let most = self.budget * 100 / self.pace + 100;
         while self.time < most {
             self.time += 1;
+            self.clone_once();
             let at = self.random.below(self.stations.len());
             if self.random.chance(self.pace) {
                 self.operate(at)?;
@@ -104,8 +95,10 @@ impl<'a> Plant<'a> {
                 0..=69 => self.arrive()?,
                 70..=77 => self.resend(at),
                 78..=83 => self.stranger_sends(at),
-                84..=91 => self.save(at),
-                92..=95 => self.restart(at),
+                84..=91 => {
+                    self.save(at)?;
+                }
+                92..=95 => self.come_back(at),
                 96..=97 => self.part(true),
                 _ => self.part(false),
             }
@@ -113,8 +106,7 @@ impl<'a> Plant<'a> {
         Ok(())
     }
 
-    /// An operator's turn. The duty is in the order of what follows a compose; a crash may
-    /// come between.
+    /// An operator's turn. A crash may come between any two things.
     fn operate(&mut self, at: usize) -> Result<(), String> {
         if self.budget == 0 {
             return Ok(());
@@ -125,16 +117,14 @@ impl<'a> Plant<'a> {
             return self.not_composed(at, code);
         }
         self.budget -= 1;
+        self.watch.made.insert(message.clone());
         self.note(What::composed(at, &message));
-        if self.crashes(at) {
+        if self.crashes(at) || !self.deliver_own(at, &message)? {
             return Ok(());
         }
-        self.deliver_own(at, &message)?;
-        if self.duty == Duty::Kept {
-            if self.crashes(at) {
-                return Ok(());
-            }
-            self.save(at);
+        let saves = self.duty != Duty::Neglected(Hazard::Crash);
+        if saves && (self.crashes(at) || !self.save(at)?) {
+            return Ok(());
         }
         if !self.crashes(at) {
             self.send(at, &message);
@@ -167,21 +157,26 @@ impl<'a> Plant<'a> {
     /// Where the duty is kept, compose is refused by limits and by too many ends alone.
     fn not_composed(&mut self, at: usize, code: u32) -> Result<(), String> {
         self.note(What::NotComposed(at, code));
-        match (self.duty, code) {
-            (_, 10 | 11) | (Duty::SavedLater, 9) => Ok(()),
+        match code {
+            10 | 11 => Ok(()),
+            9 if !self.duty.is_kept() => Ok(()),
             _ => Err(format!("compose at {at} answers {code}")),
         }
     }
 
-    /// Delivers a composed delta to its own station: no undo, and executed first.
-    fn deliver_own(&mut self, at: usize, message: &[u8]) -> Result<(), String> {
+    /// Delivers a composed delta to its own station: no undo, and executed first. Whether it
+    /// was accepted; a full station refuses it.
+    fn deliver_own(&mut self, at: usize, message: &[u8]) -> Result<bool, String> {
+        let full = self.stations[at].memory.is_full();
         let delivery = self.deliver(at, message)?;
         let first = delivery.steps.first().map(|step| step.sequence);
         let undone = delivery.steps.iter().any(|step| step.kind == Kind::Undo);
-        if delivery.code != 0 || undone || first != Some(sequence_of(message)) {
-            return Err(format!("own delta at {at}: {delivery:?}"));
+        let executed = delivery.code == 0 && !undone && first == Some(sequence_of(message));
+        let refused = full && delivery.code == 8 && !self.duty.is_kept();
+        match executed || refused {
+            true => Ok(executed),
+            false => Err(format!("own delta at {at}: {delivery:?}")),
         }
-        Ok(())
     }
 
     /// Delivers, and notes the steps.
@@ -191,26 +186,16 @@ impl<'a> Plant<'a> {
         for what in What::delivered(at, message, &delivery) {
             self.note(what);
         }
+        self.look(at);
         Ok(delivery)
     }
 
-    fn save(&mut self, at: usize) {
-        self.stations[at].save();
-        self.note(What::Saved(at));
-    }
-
-    fn restart(&mut self, at: usize) {
-        self.stations[at].restart();
-        self.note(What::Restarted(at));
-    }
-
-    /// By chance, the station begins again from what it saved.
-    fn crashes(&mut self, at: usize) -> bool {
-        let crashes = self.random.chance(self.crash);
-        if crashes {
-            self.restart(at);
-        }
-        crashes
+    /// Looks at a station whose image may have changed.
+    pub fn look(&mut self, at: usize) {
+        let seen = self.watch.look(&self.stations[at].memory);
+        let time = self.time;
+        let seen = seen.map_err(|error| format!("time {time}: station {at}: {error}"));
+        self.midway = self.midway.clone().and(seen);
     }
 
     pub fn note(&mut self, what: What) {
@@ -226,6 +211,9 @@ impl<'a> Plant<'a> {
         Run {
             reused: self.sent.iter().filter_map(reused).collect(),
             sent: self.sent.into_values().flatten().collect(),
+            given_up: self.given_up,
+            strange: self.watch.strange,
+            midway: self.midway,
             hardware: self.stations.iter().map(|s| s.hardware.clone()).collect(),
             memories: self.stations.into_iter().map(|s| s.memory).collect(),
             events: self.events,
@@ -233,8 +221,18 @@ impl<'a> Plant<'a> {
     }
 }
 
+/// How many deltas operators may compose: with those from outside at most 64, unless the duty
+/// against overflow is neglected.
+fn budget(random: &mut Random, duty: Duty, most: usize, outside: usize) -> usize {
+    match duty {
+        Duty::Kept(Hazard::Overflow) => 64 - outside,
+        Duty::Neglected(Hazard::Overflow) => 64 - outside + random.within(1, 20),
+        _ => random.within(most / 2, most),
+    }
+}
+
 /// The lines of a station, above and below those of others and of the strangers.
-fn own_lines(random: &mut Random, station: usize, count: u8) -> Vec<Line> {
+pub fn own_lines(random: &mut Random, station: usize, count: u8) -> Vec<Line> {
     let first = random.pick(&[0x00, 0x01, 0x7F, 0x80, 0xFF]);
     let uid = 0x20 + station as u8;
     let line = |creator| [first, 0, 0, 0, 0, uid, 0, 0, 0, creator];

@@ -1,15 +1,19 @@
-//! A station of the plant: its image, what it saved, its host, which knows the log by the
-//! steps alone, and its burner hardware, which knows the setpoints by their pairs alone.
+//! A station of the plant: its image, its host, which knows the log by the steps alone, and
+//! its burner hardware, which knows the setpoints by their pairs alone.
+
+use std::collections::BTreeSet;
 
 use crate::boundary::{code, executions, length, undos, Calls};
 use crate::call::{hex, Composing};
-use crate::view::{log, steps, values, Kind, Pair, Step, STEP};
+use crate::view::{log, sequence_of, steps, values, Kind, Pair, Step, STEP};
 use crate::wire::{Line, Sequence};
 
 /// The size of an image.
 const IMAGE: usize = 16_384;
 /// The size of a step buffer.
 const STEPS: usize = 10_160;
+/// As many deltas as an image has room for.
+const MOST: usize = 64;
 /// What bytes hold that nobody has written.
 const PATTERN: u8 = 0xA5;
 
@@ -72,20 +76,43 @@ impl Hardware {
     }
 }
 
-/// An image and a host that belong together.
+/// An image, the host that belongs to it, and the messages that were accepted on the way to
+/// it, as the plain station keeps them.
 #[derive(Clone, Debug, PartialEq, Eq)]
 pub struct Memory {
     pub image: Vec<u8>,
     pub host: Host,
+    pub accepted: BTreeSet<Vec<u8>>,
 }
 
-/// A station with what it has in memory, what it has saved, and its hardware.
+impl Memory {
+    /// Whether no new delta has room.
+    pub fn is_full(&self) -> bool {
+        self.accepted.len() == MOST
+    }
+
+    /// What deliver must answer to a message that passes 3 to 6.
+    pub fn due(&self, message: &[u8]) -> u32 {
+        let own = sequence_of(message);
+        let mut accepted = self.accepted.iter();
+        match accepted.find(|known| sequence_of(known) == own) {
+            Some(known) if known == message => 0,
+            Some(_) => 7,
+            None if self.is_full() => 8,
+            None => 0,
+        }
+    }
+}
+
+/// A station with what it has in memory, its hardware, and on its disk what it has saved and
+/// an older backup.
 #[derive(Clone, Debug)]
 pub struct Station {
     pub lines: Vec<Line>,
     pub memory: Memory,
     pub hardware: Hardware,
-    saved: Memory,
+    pub(super) saved: Memory,
+    pub(super) backup: Memory,
 }
 
 /// What a delivery answered: the code and the steps.
@@ -96,35 +123,34 @@ pub struct Delivery {
 }
 
 impl Station {
-    /// A station of no deltas, saved as such.
+    /// A station of no deltas, saved and backed up as such.
     pub fn new(calls: &dyn Calls, lines: Vec<Line>) -> Result<Station, String> {
         let mut image = vec![PATTERN; IMAGE];
         match calls.empty(&mut image) {
             0 => {}
             code => return Err(format!("empty answers {code}")),
         }
-        let host = Host::default();
-        let memory = Memory { image, host };
-        let saved = memory.clone();
+        let memory = Memory {
+            image,
+            host: Host::default(),
+            accepted: BTreeSet::new(),
+        };
         Ok(Station {
             lines,
-            memory,
             hardware: Hardware::default(),
-            saved,
+            saved: memory.clone(),
+            backup: memory.clone(),
+            memory,
         })
     }
 
-    /// Writes image and host model to the disk.
-    pub fn save(&mut self) {
-        self.saved.clone_from(&self.memory);
-    }
-
-    /// Begins again from the disk. The hardware kept its values, which may be those of
-    /// deltas that were not saved, so the host sets it once from the saved image; from there
-    /// on it follows the pairs again.
-    pub fn restart(&mut self) {
-        self.memory.clone_from(&self.saved);
-        self.hardware.setpoints = values(&self.saved.image);
+    /// A station without a line that got these messages, one after another.
+    pub fn with(calls: &dyn Calls, messages: &[Vec<u8>]) -> Result<Station, String> {
+        let mut station = Station::new(calls, Vec::new())?;
+        for message in messages {
+            station.deliver(calls, message)?;
+        }
+        Ok(station)
     }
 
     /// Delivers and lets the host play the steps. Whatever the answer, the host's log is
@@ -145,6 +171,9 @@ impl Station {
             return Err("the hardware's setpoints are not the image's".to_string());
         }
         let code = code(answer);
+        if code == 0 {
+            self.memory.accepted.insert(message.to_vec());
+        }
         Ok(Delivery { code, steps })
     }
 

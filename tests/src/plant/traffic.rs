@@ -3,35 +3,32 @@
 use std::collections::BTreeSet;
 
 use super::event::What;
+use super::hazard::Hazard;
 use super::motion::Plant;
 use super::network::{Packet, Taken};
+use super::station::Station;
 use crate::call::hex;
 use crate::view::{all_messages, sequence_of};
-use crate::wire::Sequence;
 
 impl Plant<'_> {
     /// Delivers what came over the network: a wrong message is refused by its code, a right
-    /// one is accepted, or answers 7 where a sequence was used again.
+    /// one is accepted. Where a duty is neglected, a right one may answer 7 or 8, and does so
+    /// exactly if the station has its sequence under other bytes or is full.
     fn receive(&mut self, at: usize, message: &[u8]) -> Result<(), String> {
+        let right = self.stations[at].memory.due(message);
+        let wrong = self.outside.wrong.get(message).copied();
         let code = self.deliver(at, message)?.code;
-        let right = match self.outside.wrong.get(message) {
-            Some(wanted) => code == *wanted,
-            None => code == 0 || (code == 7 && self.is_reused(&sequence_of(message))),
-        };
-        match right {
+        let may = wrong.is_some() || code == 0 || !self.duty.is_kept();
+        match may && code == wrong.unwrap_or(right) {
             true => Ok(()),
             false => Err(format!("{} at {at} answers {code}", hex(message))),
         }
     }
 
-    /// Whether two messages of this sequence set out.
-    fn is_reused(&self, sequence: &Sequence) -> bool {
-        self.sent.get(sequence).map_or(0, BTreeSet::len) > 1
-    }
-
     /// Some packet arrives or is lost.
     pub fn arrive(&mut self) -> Result<(), String> {
         match self.network.take(&mut self.random) {
+            Some(Taken::Arrives(packet)) if self.damages() => self.arrive_damaged(packet),
             Some(Taken::Arrives(packet)) => self.receive(packet.to, &packet.message),
             Some(Taken::Lost(packet)) => {
                 self.note(What::Lost(packet.to, sequence_of(&packet.message)));
@@ -39,6 +36,30 @@ impl Plant<'_> {
             }
             None => Ok(()),
         }
+    }
+
+    /// By chance, a packet is damaged.
+    fn damages(&mut self) -> bool {
+        self.duty.hazard() == Hazard::Damage && self.random.chance(1)
+    }
+
+    /// A packet arrives with one bit flipped. The transport drops it; or it is delivered, and
+    /// if an empty station refuses it, it is one of the wrong messages from then on.
+    fn arrive_damaged(&mut self, mut packet: Packet) -> Result<(), String> {
+        let own = sequence_of(&packet.message);
+        let bit = self.random.below(8 * packet.message.len());
+        packet.message[bit / 8] ^= 1 << (bit % 8);
+        self.note(What::Damaged(packet.to, own, bit));
+        if self.duty.is_kept() {
+            self.note(What::Lost(packet.to, own));
+            return Ok(());
+        }
+        let mut empty = Station::new(self.calls, Vec::new())?;
+        let code = empty.deliver(self.calls, &packet.message)?.code;
+        if code != 0 {
+            self.outside.wrong.insert(packet.message.clone(), code);
+        }
+        self.receive(packet.to, &packet.message)
     }
 
     /// Sends a delta to all other stations.
