@@ -6,6 +6,8 @@
 mod common;
 #[path = "common/passing.rs"]
 mod passing;
+#[path = "common/stations.rs"]
+mod stations;
 
 use std::collections::{BTreeMap, BTreeSet};
 use std::process::{Command, Output};
@@ -15,9 +17,10 @@ use bivamolune_tests::call::Composing;
 use bivamolune_tests::faulty::{Fault, Faulty};
 use bivamolune_tests::plant::{run, Duty, Hazard, Left, Run, Station, What, HAZARDS};
 use bivamolune_tests::view::u16_at;
-use bivamolune_tests::wire::{line, set, Sequence};
+use bivamolune_tests::wire::{set, Sequence};
 use common::{A, B, C, SUBJECT};
 use passing::{ForgetsHeld, HeldAsTheyCame};
+use stations::{deliver, station};
 
 /// The seeds that are run here; the program runs more.
 const SEEDS: std::ops::Range<u64> = 0..300;
@@ -168,21 +171,12 @@ fn the_plant_finds_faults_that_pass() {
     }
 }
 
-/// A station of one line.
-fn station(letter: u8) -> Station {
-    Station::new(&SUBJECT, vec![line(letter)]).expect("an empty station")
-}
-
 /// Composes on a station's line a delta that sets tag 0, and delivers it there.
 fn compose_own(station: &mut Station, value: i32) -> Vec<u8> {
     let request = Composing::plain(&station.lines[0], &set(0, value));
     let (code, message) = station.compose(&SUBJECT, &request);
     assert_eq!((code, deliver(station, &message)), (0, 0));
     message
-}
-
-fn deliver(station: &mut Station, message: &[u8]) -> u32 {
-    station.deliver(&SUBJECT, message).expect("a delivery").code
 }
 
 /// A station shows what the pairs say, and that is held against the image.

@@ -17,6 +17,7 @@ use std::process::ExitCode;
 use bivamolune_tests::boundary::{COMPARED, SUBJECT};
 use bivamolune_tests::call::hex;
 use bivamolune_tests::plant::{run, Duty, Hazard, Run, What, HAZARDS};
+use bivamolune_tests::view::sequence_of;
 
 const USAGE: &str = "usage: plant [--hazard NAME] [--neglected] --seeds A..B | --events SEED";
 
@@ -122,7 +123,8 @@ fn neglected(duty: Duty, seeds: Range<u64>) -> Result<(), String> {
             parted.push(format!("seed {seed}: {}", conflict.unwrap_or_default()));
         }
         if let Some(message) = run.strange.iter().next() {
-            strange.push(format!("seed {seed}: nobody sent {}", hex(message)));
+            let own = hex(&sequence_of(message));
+            strange.push(format!("seed {seed}: nobody sent what ran as {own}"));
         }
     }
     println!("{}", subject());
