@@ -67,28 +67,30 @@ fn came_up(hazard: Hazard, run: &Run) -> bool {
 /// With its duty kept no hazard does harm, and each comes up.
 #[test]
 fn duties_keep_stations_together() {
-    let mut harm = Vec::new();
+    let (mut harm, mut rare) = (Vec::new(), Vec::new());
     for (name, hazard) in HAZARDS {
         let mut up = 0;
         for seed in seeds(hazard) {
             let run = run(&SUBJECT, seed, Duty::Kept(hazard));
-            let checked = run.and_then(|run| run.check(&SUBJECT).map(|()| run));
-            match checked {
+            match run.and_then(|run| run.check(&SUBJECT).map(|()| run)) {
                 Ok(run) => up += usize::from(came_up(hazard, &run)),
                 Err(error) => harm.push(format!("{name}, seed {seed}: {error}")),
             }
         }
         println!("{name}: came up in {up} runs");
-        assert!(up >= 3 || !harm.is_empty(), "{name}");
+        if up < 3 {
+            rare.push(name);
+        }
     }
     assert!(harm.is_empty(), "{harm:#?}");
+    assert!(rare.is_empty(), "{rare:?}");
 }
 
 /// Neglected, each duty lets stations end with different images; the same seeds do not with
 /// the duty kept. What the library promises of a station holds all the while.
 #[test]
 fn neglected_duties_part_stations() {
-    let mut together = Vec::new();
+    let (mut together, mut never) = (Vec::new(), Vec::new());
     for (hazard, shown) in PARTED {
         for seed in shown {
             let kept = run(&SUBJECT, seed, Duty::Kept(hazard)).expect("it runs");
@@ -98,11 +100,13 @@ fn neglected_duties_part_stations() {
             }
         }
         let parted = seeds(hazard).filter(|seed| !neglected(hazard, *seed).agrees());
-        let parted = parted.count();
-        println!("{hazard:?}: {parted} runs parted");
-        assert!(parted > 0 || !together.is_empty(), "{hazard:?}");
+        match parted.count() {
+            0 => never.push(hazard),
+            count => println!("{hazard:?}: {count} runs parted"),
+        }
     }
-    assert_eq!(together, []);
+    assert!(together.is_empty(), "{together:?}");
+    assert!(never.is_empty(), "{never:?}");
 }
 
 /// Refusals are looked at also where a duty is neglected.
