@@ -87,7 +87,7 @@ fn a_seed_gives_its_run_again() {
 #[test]
 fn events_tell_each_log() {
     for (_, hazard) in HAZARDS {
-        for seed in SEEDS.take(10) {
+        for seed in SEEDS.take(30) {
             let run = run(&SUBJECT, seed, Duty::Kept(hazard)).expect("it runs");
             let hosts: Vec<_> = run.memories.iter().map(|m| m.host.log.clone()).collect();
             assert_eq!(told_logs(&run), hosts, "{hazard:?}, seed {seed}");
