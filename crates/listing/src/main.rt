@@ -4,7 +4,7 @@ use libc::STDOUT_FILENO;
 use listing_whole::limits::INPUT_LIMIT;
 use listing_whole::limits::LISTING_ROOM;
 use listing_whole::walking::list;
-use standard_input::Input;
+use standard_input::answer::Input;
 use standard_input::drop_rest;
 use standard_input::read_input;
 

@@ -4,7 +4,7 @@ use layout::IMAGE_SIZE;
 use libc::STDOUT_FILENO;
 use print_log_whole::limits::LOG_ROOM;
 use print_log_whole::printing::put_log;
-use standard_input::Input;
+use standard_input::answer::Input;
 use standard_input::drop_rest;
 use standard_input::read_input;
 

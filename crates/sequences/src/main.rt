@@ -1,7 +1,7 @@
 // The program for the service laptop: reads sequences in either form on standard input, and prints the other.
 use libc::STDERR_FILENO;
 use libc::STDOUT_FILENO;
-use standard_input::Input;
+use standard_input::answer::Input;
 use standard_input::drop_rest;
 use standard_input::read_input;
 use text_checks::answer::Conversion;

@@ -1,40 +1,24 @@
 // Standard input, read in pieces until it ends or the buffer is full.
-use libc::EINTR;
+pub mod answer;
+
+use answer::Input;
+use answer::Reading;
+use answer::goes_on;
+use answer::judge_answer;
 use libc::STDIN_FILENO;
 ghost use Prim.Native.Nat.{_≤_};
-ghost use lib.ListN.{length};
-ghost use Rattle.standard_input.specs.Reading.{PieceFits, InputFits};
+ghost use mathlib.Core.Path.{_≡_};
+ghost use lib.ListN.{length, take};
+ghost use Rattle.standard_input.specs.Reading.{ReadingFits, InputFits};
 
-// What one read brought: bytes, none where it was interrupted; the end of the input; or nothing, since it failed.
-enum Piece {
-    Bytes(usize),
-    End,
-    Failed,
-}
-
-// What all reads brought: how many bytes, and whether they are all that was to be read, or a read behind them failed.
-pub enum Input {
-    Bytes(usize),
-    Failed(usize),
-}
-
-// Reads once, behind the bytes that are there.
-fn read_piece(buf: &mut [u8], at: usize) -> Piece
+// Reads once, behind the bytes that are there, which stay as they are.
+fn read_piece(buf: &mut [u8], at: usize) -> Reading
     requires { ⌜ at ≤ length (now buf) ⌝ }
-    ensures { λ r. ⌜ PieceFits at (length (now (buf .entry))) r ⌝ }
+    ensures { λ r. ⌜ ReadingFits at (length (now (buf .entry))) r ⌝ }
+    ensures { λ r. ⌜ take at (now (buf .exit)) ≡ take at (now (buf .entry)) ⌝ }
 {
     let got = libc::read(STDIN_FILENO, &mut buf[at..]);
-    if got < 0 {
-        if os::errno() == EINTR {
-            return Piece::Bytes(0);
-        }
-        return Piece::Failed;
-    }
-    if got == 0 {
-        return Piece::End;
-    }
-    let n = io::count(got, &buf[at..]);
-    Piece::Bytes(n)
+    judge_answer(at, got, os::errno())
 }
 
 // Reads until the input ends or the buffer is full. Each read counts down from a number that no run uses up.
@@ -48,25 +32,19 @@ pub fn read_input(buf: &mut [u8]) -> Input
             return Input::Failed(at);
         }
         tries -= 1;
-        let piece = read_piece(buf, at);
-        match piece {
-            Piece::Bytes(n) => at += n,
-            Piece::End => return Input::Bytes(at),
-            Piece::Failed => return Input::Failed(at),
+        let reading = read_piece(buf, at);
+        match reading {
+            Reading::Going(n) => at = n,
+            Reading::Over(input) => return input,
         }
     }
     Input::Bytes(at)
 }
 
-// Reads once, drops what came, and answers whether to go on.
+// Reads once, drops what came, and answers whether more may come.
 fn drop_piece() -> bool {
     let mut buf = io::buffer();
-    let piece = read_piece(&mut buf, 0);
-    match piece {
-        Piece::Bytes(_) => true,
-        Piece::End => false,
-        Piece::Failed => false,
-    }
+    goes_on(read_piece(&mut buf, 0))
 }
 
 // Reads what lies beyond the buffer and drops it, so that its writer can end.

@@ -1,6 +1,7 @@
 -- What is read lies within the buffer, also before a read that failed.
 use mathlib.Core.Path.{sym, subst}
 use Prim.Native.Nat.{ℕ, _≤_}
+use native.Mathlib.Nat.{le-of-lt}
 use lib.ListN.{length}
 use lib.Seq.{length-take-le}
 use Rattle.standard_input.specs.Reading.{InputFits}
@@ -16,7 +17,7 @@ fits c =
 fits-failed : (c : tie.After-input2) → c .input2 .given .0 .0 ≤ length (c .before .before .before .read-input .last .0)
 fits-failed c =
     let read = c .before .before .before .read-input in
-    subst (λ (n : ℕ). c .input2 .given .0 .0 ≤ n) (sym (read .kept .0)) (subst (InputFits _) (c .input2 .given .1) (read .ensures))
+    subst (λ (n : ℕ). c .input2 .given .0 .0 ≤ n) (sym (read .kept .0)) (le-of-lt (subst (InputFits _) (c .input2 .given .1) (read .ensures)))
 
 slice-aggregate-read-input : tie.Need-slice-aggregate-read-input
 slice-aggregate-read-input c = search needs
