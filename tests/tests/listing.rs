@@ -9,14 +9,15 @@ mod program;
 
 use std::collections::BTreeMap;
 use std::fs;
-use std::path::{Path, PathBuf};
+use std::path::Path;
 use std::process::{Output, Stdio};
 
 use bivamolune_tests::generate::stream;
 use bivamolune_tests::reference;
 use bivamolune_tests::wire::{line, sequence, set, Draft};
 use common::{a1, b1, delta, A, B};
-use program::{broken_off, crashed, directory, programs, write_only, Program};
+use program::pace::Pace;
+use program::{broken_off, crashed, directory, programs, unready, write_only, Program};
 
 /// What each program prints for an input, which is what the function of the package gives.
 fn listing(input: &[u8]) -> String {
@@ -176,12 +177,51 @@ fn a_full_station() {
     assert_eq!(lines[63..], ["64 0 0 1", "65 8 0 0", "log 64 held 0"]);
 }
 
+/// Each read brings one byte.
 #[test]
 fn a_byte_at_a_time() {
     let bytes = input(&[b1(), a1(), delta(A, 3)]);
     for program in programs() {
-        let printed = program.list_pieces(&bytes, 1).expect("it lists");
-        assert_eq!(printed, "1 0 0 1\n2 0 1 2\n3 0 0 0\nlog 2 held 1\n");
+        let printed = program.list_at(Pace::Awaited, &bytes, 1);
+        let expected = "1 0 0 1\n2 0 1 2\n3 0 0 0\nlog 2 held 1\n";
+        assert_eq!(printed.as_deref(), Ok(expected), "{program:?}");
+    }
+}
+
+/// A read that is interrupted is made again: before the first byte, within a message, between
+/// two, at the end, and past the 60,000th byte.
+#[test]
+fn an_interrupted_read() {
+    let bytes = input(&[b1(), a1(), delta(A, 3)]);
+    for program in programs() {
+        let printed = program.list_at(Pace::Interrupted, &bytes, 16);
+        let expected = "1 0 0 1\n2 0 1 2\n3 0 0 0\nlog 2 held 1\n";
+        assert_eq!(printed.as_deref(), Ok(expected), "{program:?}");
+        let long = a1().bytes().repeat(2_000);
+        let printed = program.list_at(Pace::Interrupted, &long, 15_000);
+        assert_eq!(
+            printed,
+            Ok(reference::listing::listing(&long)),
+            "{program:?}"
+        );
+    }
+}
+
+/// What lies beyond 60,000 bytes is read to the last byte.
+#[test]
+fn every_byte_is_read() {
+    for size in [
+        0, 1, 59_999, 60_000, 60_001, 64_095, 64_096, 64_097, 300_000,
+    ] {
+        let bytes: Vec<u8> = a1().bytes().into_iter().cycle().take(size).collect();
+        for program in programs() {
+            let printed = program.list_at(Pace::AtOnce, &bytes, size.max(1));
+            assert_eq!(
+                printed,
+                Ok(reference::listing::listing(&bytes)),
+                "{program:?}, {size}"
+            );
+        }
     }
 }
 
@@ -220,7 +260,7 @@ fn tells_failure(output: &Output, lines: &str) -> bool {
 /// Where no byte can be read, the last line is printed, and standard error says why.
 #[test]
 fn a_read_that_fails() {
-    let inputs: [fn() -> Stdio; 3] = [directory, write_only, || broken_off(&[])];
+    let inputs: [fn() -> Stdio; 4] = [directory, write_only, unready, || broken_off(&[])];
     for (program, input) in programs()
         .iter()
         .flat_map(|p| inputs.map(|input| (p, input)))
@@ -281,14 +321,38 @@ fn a_closed_input_is_told() {
 /// Programs that print nothing, their input, or do not end well are told apart.
 #[test]
 fn a_wrong_program_is_found() {
-    let wrong = |path: &str| Program(PathBuf::from(path)).agrees(b"log 0 held 0\n");
+    let wrong = |script: &str| Program::script(script).agrees(b"log 0 held 0\n");
     let wanted = "line 1: None, and wanted is Some(\"1 3 0 0\")";
-    assert_eq!(wrong("/bin/true"), Err(wanted.to_string()));
+    assert_eq!(wrong("cat >/dev/null"), Err(wanted.to_string()));
     let wanted = "line 1: Some(\"log 0 held 0\"), and wanted is Some(\"1 3 0 0\")";
-    assert_eq!(wrong("/bin/cat"), Err(wanted.to_string()));
-    assert!(wrong("/bin/false")
-        .unwrap_err()
-        .starts_with("it ended with"));
+    assert_eq!(wrong("cat"), Err(wanted.to_string()));
+    let ended = wrong("cat >/dev/null; exit 1").unwrap_err();
+    assert!(ended.starts_with("it ended with"), "{ended}");
+}
+
+/// So are those that leave a part of their input unread.
+#[test]
+fn a_program_that_stops_reading_is_found() {
+    let stops = |read: Result<String, String>| {
+        let error = read.unwrap_err();
+        assert!(error.starts_with("it did not read all"), "{error}");
+    };
+    stops(Program::script("true").list(&[0; 100_000]));
+    let five = Program::script("dd bs=1 count=5");
+    assert!(five.list_at(Pace::AtOnce, &[0; 5], 5).is_ok());
+    for pace in [Pace::AtOnce, Pace::Awaited, Pace::Interrupted] {
+        stops(five.list_at(pace, &[0; 6], 6));
+        stops(five.list_at(pace, &[0; 6], 1));
+    }
+}
+
+/// A read that is interrupted does fail: `od` gives up there, as C's standard functions do.
+#[test]
+fn interruptions_are_real() {
+    let od = Program::at("od");
+    assert!(od.list_at(Pace::Awaited, b"abc", 1).is_ok());
+    assert!(od.list_at(Pace::Interrupted, b"abc", 1).is_err());
+    assert!(od.list_at(Pace::Interrupted, b"", 1).is_err());
 }
 
 /// The streams are what they are for: each code that a delivery may print, ends by a wrong

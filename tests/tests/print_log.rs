@@ -8,7 +8,6 @@ mod common;
 mod program;
 
 use std::collections::BTreeMap;
-use std::path::PathBuf;
 use std::process::Output;
 
 use bivamolune_tests::faulty::{Printer, PRINT_FAULTS};
@@ -18,21 +17,31 @@ use bivamolune_tests::reference;
 use bivamolune_tests::view::{messages, u16_at};
 use bivamolune_tests::wire::{add, line, raise, sequence, set, Draft, Sequence};
 use common::{a1, b1, delta, Station, A, C, IMAGE};
-use program::{broken_off, crashed, difference, directory, write_only, Program};
+use program::pace::Pace;
+use program::{broken_off, crashed, difference, directory, unready, write_only, Program};
 
 /// The second implementation's program and, with the feature, the proved one.
 fn programs() -> Vec<Program> {
     vec![
-        Program(PathBuf::from(env!("CARGO_BIN_EXE_print_log"))),
+        Program::at(env!("CARGO_BIN_EXE_print_log")),
         #[cfg(feature = "library-print-log")]
         program::proved("print_log"),
     ]
 }
 
-/// What a program prints for an input in pieces. It must end well and say nothing beside;
-/// after a refusal that is left open, but a crash is an error.
+/// What a program prints for an input in pieces.
 fn run(program: &Program, input: &[u8], size: usize) -> Result<String, String> {
-    let output = program.output(input, size);
+    printed_by(program.output(input, size)?)
+}
+
+/// The same, with each piece handed over at this pace.
+fn run_at(program: &Program, pace: Pace, input: &[u8], size: usize) -> Result<String, String> {
+    printed_by(program.output_at(pace, input, size)?)
+}
+
+/// A program must end well and say nothing beside; after a refusal that is left open, but a
+/// crash is an error.
+fn printed_by(output: Output) -> Result<String, String> {
     let well = output.status.success() && output.stderr.is_empty();
     let refuses = [b"1\n", b"2\n"].iter().any(|code| output.stdout == *code);
     if well || refuses && output.status.code().is_some() {
@@ -254,21 +263,46 @@ fn no_image_is_refused_by_2() {
     }
 }
 
+/// Each read brings one byte, of an image and of more than the program takes.
 #[test]
 fn a_byte_at_a_time() {
+    let mut image = Station::with(&[a1()]).image;
+    let expected = "0 272 48 00000000000A000000010001 3 1500\n";
+    for program in programs() {
+        let found = run_at(&program, Pace::Awaited, &image, 1);
+        assert_eq!(found.as_deref(), Ok(expected), "{program:?}");
+    }
+    image.extend([0; 4]);
+    for program in programs() {
+        let found = run_at(&program, Pace::Awaited, &image, 1);
+        assert_eq!(found.as_deref(), Ok("1\n"), "{program:?}");
+    }
+}
+
+/// A read that is interrupted is made again: before the first byte, within the image, at its
+/// end, and past the 16,385th byte.
+#[test]
+fn an_interrupted_read() {
     let image = Station::with(&[a1()]).image;
     let expected = "0 272 48 00000000000A000000010001 3 1500\n";
     for program in programs() {
-        assert_eq!(
-            run(&program, &image, 1).as_deref(),
-            Ok(expected),
-            "{program:?}"
-        );
-        assert_eq!(
-            run(&program, &image[1..], 1).as_deref(),
-            Ok("1\n"),
-            "{program:?}"
-        );
+        let found = run_at(&program, Pace::Interrupted, &image, 4_096);
+        assert_eq!(found.as_deref(), Ok(expected), "{program:?}");
+        let found = run_at(&program, Pace::Interrupted, &[0; 40_000], 5_000);
+        assert_eq!(found.as_deref(), Ok("1\n"), "{program:?}");
+    }
+}
+
+/// What lies beyond an image is read to the last byte.
+#[test]
+fn every_byte_is_read() {
+    for size in [
+        0, 1, 16_383, 16_385, 16_386, 20_480, 20_481, 20_482, 300_000,
+    ] {
+        for program in programs() {
+            let found = run_at(&program, Pace::AtOnce, &vec![0; size], size.max(1));
+            assert_eq!(found.as_deref(), Ok("1\n"), "{program:?}, {size}");
+        }
     }
 }
 
@@ -299,10 +333,10 @@ fn a_read_that_fails() {
             let output = program.output_from(broken_off(&image[..size]));
             assert!(tells_failure(&output), "{program:?}, {size}: {output:?}");
         }
-        let output = program.output_from(directory());
-        assert!(tells_failure(&output), "{program:?}: {output:?}");
-        let output = program.output_from(write_only());
-        assert!(tells_failure(&output), "{program:?}: {output:?}");
+        for input in [directory(), write_only(), unready()] {
+            let output = program.output_from(input);
+            assert!(tells_failure(&output), "{program:?}: {output:?}");
+        }
     }
 }
 
@@ -320,7 +354,7 @@ fn a_write_that_fails() {
     let image = Station::with(&[a1()]).image;
     for program in programs() {
         for input in [&image[..], &image[1..]] {
-            let output = program.output_without_room(input);
+            let output = program.output_without_room(input).expect("all is read");
             assert!(!output.stderr.is_empty(), "{program:?}: {output:?}");
             assert!(output.status.code().is_some(), "{program:?}: {output:?}");
         }
@@ -342,16 +376,19 @@ fn a_closed_output() {
     }
 }
 
-/// Programs that print nothing, their input, or do not end well are told apart.
+/// Programs that print nothing, their input, or do not end well are told apart; so are those
+/// that leave a part of their input unread.
 #[test]
 fn a_wrong_program_is_found() {
     let image = Station::with(&[delta(A, 1)]).image;
-    let wrong = |path: &str| check(&Program(PathBuf::from(path)), &image).unwrap_err();
+    let wrong = |script: &str| check(&Program::script(script), &image).unwrap_err();
     let wanted = "Some(\"0 272 48 00000000000A000000010001 0 1\")";
     let nothing = format!("line 1: None, and wanted is {wanted}");
-    assert_eq!(wrong("/bin/true"), nothing);
-    assert!(wrong("/bin/cat").ends_with(&format!("and wanted is {wanted}")));
-    assert!(wrong("/bin/false").starts_with("it ended so"));
+    assert_eq!(wrong("cat >/dev/null"), nothing);
+    assert!(wrong("cat").ends_with(&format!("and wanted is {wanted}")));
+    assert!(wrong("cat >/dev/null; exit 1").starts_with("it ended so"));
+    let stops = check(&Program::script("true"), &[0; 100_000]).unwrap_err();
+    assert!(stops.starts_with("it did not read all"), "{stops}");
 }
 
 /// Each wrong program is seen by the inputs that the proved one is run over. Without a fault

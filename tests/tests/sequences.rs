@@ -7,11 +7,12 @@
 mod program;
 
 use std::collections::BTreeMap;
-use std::path::PathBuf;
+use std::process::Output;
 
 use bivamolune_tests::generate::either_form;
 use bivamolune_tests::reference::sequences::other_form;
-use program::{crashed, Program};
+use program::pace::Pace;
+use program::{broken_off, crashed, directory, unready, write_only, Program};
 
 /// `0102030405060708090A0B0C` in bytes.
 const ONE: [u8; 12] = [1, 2, 3, 4, 5, 6, 7, 8, 9, 10, 11, 12];
@@ -20,17 +21,25 @@ const ONE_TEXT: &str = "0102030405060708090A0B0C";
 /// The second implementation's program and, with the feature, the proved one.
 fn programs() -> Vec<Program> {
     vec![
-        Program(PathBuf::from(env!("CARGO_BIN_EXE_sequences"))),
+        Program::at(env!("CARGO_BIN_EXE_sequences")),
         #[cfg(feature = "library-sequences")]
         program::proved("sequences"),
     ]
 }
 
 /// What a program prints for an input in pieces: the output, or the number of its refusal.
-/// What is printed beside, and an end by a crash, are errors; so is an end that is not well
-/// where there is no refusal.
 fn run(program: &Program, input: &[u8], size: usize) -> Result<Vec<u8>, String> {
-    let output = program.output(input, size);
+    printed_by(program.output(input, size)?)
+}
+
+/// The same, with each piece handed over at this pace.
+fn run_at(program: &Program, pace: Pace, input: &[u8], size: usize) -> Result<Vec<u8>, String> {
+    printed_by(program.output_at(pace, input, size)?)
+}
+
+/// What is printed beside the output or the number of a refusal, and an end by a crash, are
+/// errors; so is an end that is not well where there is no refusal.
+fn printed_by(output: Output) -> Result<Vec<u8>, String> {
     let error = String::from_utf8_lossy(&output.stderr).into_owned();
     let refused = error.starts_with("refused: ");
     let well = output.status.success() && error.is_empty();
@@ -381,14 +390,76 @@ fn a_long_input() {
     }
 }
 
+/// Each read brings one byte, of either form and of more than the program takes.
 #[test]
 fn a_byte_at_a_time() {
     let eight = format!("{}\n", [ONE_TEXT; 8].join(","));
+    let long = [b'0'; 260];
     for program in programs() {
-        let bytes = run(&program, eight.as_bytes(), 1);
+        let bytes = run_at(&program, Pace::Awaited, eight.as_bytes(), 1);
         assert_eq!(bytes, printed(&ONE.repeat(8)), "{program:?}");
-        let text = run(&program, &ONE.repeat(8), 1);
+        let text = run_at(&program, Pace::Awaited, &ONE.repeat(8), 1);
         assert_eq!(text, printed(eight.as_bytes()), "{program:?}");
+        let none = run_at(&program, Pace::Awaited, &long, 1);
+        assert_eq!(none, refused(13), "{program:?}");
+    }
+}
+
+/// A read that is interrupted is made again: before the first byte, within a sequence, at the
+/// end, and past the 256th byte.
+#[test]
+fn an_interrupted_read() {
+    for program in programs() {
+        let bytes = run_at(&program, Pace::Interrupted, ONE_TEXT.as_bytes(), 5);
+        assert_eq!(bytes, printed(&ONE), "{program:?}");
+        let none = run_at(&program, Pace::Interrupted, &[b'0'; 1_024], 128);
+        assert_eq!(none, refused(13), "{program:?}");
+    }
+}
+
+/// What lies beyond 256 bytes is read to the last byte.
+#[test]
+fn every_byte_is_read() {
+    for size in [0, 1, 255, 256, 257, 4_351, 4_352, 4_353, 300_000] {
+        let bytes = vec![b'0'; size];
+        for program in programs() {
+            let found = run_at(&program, Pace::AtOnce, &bytes, size.max(1));
+            assert_eq!(found, refused(13), "{program:?}, {size}");
+        }
+    }
+}
+
+/// Whether a failure of reading is told, and nothing is printed.
+fn tells_failure(output: &Output) -> bool {
+    let told = !output.stderr.is_empty() && !output.stderr.starts_with(b"refused");
+    output.stdout.is_empty() && told && output.status.code().is_some()
+}
+
+/// Where a read fails, nothing is printed, also behind a whole text and behind the bytes of
+/// sequences; standard error says why.
+#[test]
+fn a_read_that_fails() {
+    for program in programs() {
+        for input in [&b""[..], ONE_TEXT.as_bytes(), &ONE, &[b'0'; 255]] {
+            let output = program.output_from(broken_off(input));
+            assert!(tells_failure(&output), "{program:?}, {input:?}: {output:?}");
+        }
+        for input in [directory(), write_only(), unready()] {
+            let output = program.output_from(input);
+            assert!(tells_failure(&output), "{program:?}: {output:?}");
+        }
+    }
+}
+
+/// What lies beyond 256 bytes is dropped. Whether a failure there is told is left open, but no
+/// text is printed.
+#[test]
+fn a_read_that_fails_past_the_256th_byte() {
+    for program in programs() {
+        let output = program.output_from(broken_off(&[b'0'; 256]));
+        assert!(output.stdout.is_empty(), "{program:?}: {output:?}");
+        assert!(!output.stderr.is_empty(), "{program:?}: {output:?}");
+        assert!(output.status.code().is_some(), "{program:?}: {output:?}");
     }
 }
 
@@ -408,15 +479,19 @@ fn a_closed_output() {
     }
 }
 
-/// Programs that print nothing, their input, or do not end well are told apart.
+/// Programs that print nothing, their input, or do not end well are told apart; so are those
+/// that leave a part of their input unread.
 #[test]
 fn a_wrong_program_is_found() {
     let text = ONE_TEXT.as_bytes();
-    let wrong = |path: &str| run(&Program(PathBuf::from(path)), text, text.len());
-    assert_eq!(wrong("/bin/true"), printed(b""));
-    assert_eq!(wrong("/bin/cat"), printed(text));
-    assert!(!wrong("/bin/false").unwrap_err().starts_with("refused"));
+    let wrong = |script: &str| run(&Program::script(script), text, text.len());
+    assert_eq!(wrong("cat >/dev/null"), printed(b""));
+    assert_eq!(wrong("cat"), printed(text));
+    let ended = wrong("cat >/dev/null; exit 1").unwrap_err();
+    assert!(!ended.starts_with("refused"), "{ended}");
     assert_eq!(wanted(text), printed(&ONE));
+    let stops = run(&Program::script("true"), &[0; 100_000], 1_000).unwrap_err();
+    assert!(stops.starts_with("it did not read all"), "{stops}");
 }
 
 /// Runs a program over the inputs of seeds.

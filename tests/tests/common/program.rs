@@ -2,10 +2,12 @@
 
 #![allow(dead_code)]
 
+pub mod pace;
+
 use std::fs::{File, OpenOptions};
-use std::io::Write;
+use std::io::{self, Write};
 use std::os::unix::io::OwnedFd;
-use std::os::unix::net::UnixStream;
+use std::os::unix::net::{UnixDatagram, UnixStream};
 use std::os::unix::process::ExitStatusExt;
 use std::path::PathBuf;
 use std::process::{Child, ChildStdin, Command, ExitStatus, Output, Stdio};
@@ -13,6 +15,7 @@ use std::thread;
 use std::time::{Duration, Instant};
 
 use bivamolune_tests::reference::listing::listing;
+use pace::Pace;
 
 /// The signal of a write to a pipe that nobody reads: no crash, but how such a program ends.
 const SIGPIPE: i32 = 13;
@@ -22,14 +25,17 @@ const LIMIT: Duration = Duration::from_secs(20);
 /// Where the proved programs are built, seen from this package.
 const BUILT: &str = "../target/bin";
 
-/// A program by its path.
+/// A program by its path, and the words behind it.
 #[derive(Clone, Debug)]
-pub struct Program(pub PathBuf);
+pub struct Program {
+    path: PathBuf,
+    words: Vec<String>,
+}
 
 /// The second implementation's program and, with the feature, the proved one.
 pub fn programs() -> Vec<Program> {
     vec![
-        Program(PathBuf::from(env!("CARGO_BIN_EXE_listing"))),
+        Program::at(env!("CARGO_BIN_EXE_listing")),
         #[cfg(feature = "library-listing")]
         proved("listing"),
     ]
@@ -50,29 +56,58 @@ pub fn proved(name: &str) -> Program {
         "{} is missing: run `rt check {name}`, or set {variable}",
         path.display()
     );
-    Program(path)
+    Program::at(path)
 }
 
 impl Program {
-    fn start(&self) -> Child {
-        Program::started(&mut Command::new(&self.0))
+    /// The program of a path.
+    pub fn at(path: impl Into<PathBuf>) -> Program {
+        Program {
+            path: path.into(),
+            words: Vec::new(),
+        }
+    }
+
+    /// A script of the shell.
+    pub fn script(text: &str) -> Program {
+        Program {
+            path: PathBuf::from("/bin/sh"),
+            words: vec!["-c".to_string(), text.to_string()],
+        }
+    }
+
+    fn command(&self) -> Command {
+        let mut command = Command::new(&self.path);
+        command.args(&self.words);
+        command
+    }
+
+    /// The program as a script starts it by `"$0" "$@"`.
+    fn command_in(&self, script: &str) -> Command {
+        let mut shell = Command::new("sh");
+        shell.args(["-c", script]).arg(&self.path).args(&self.words);
+        shell
+    }
+
+    /// The program, reading from this.
+    fn start_from(&self, stdin: Stdio) -> Child {
+        Program::started(self.command().stdin(stdin))
     }
 
     fn started(command: &mut Command) -> Child {
-        let command = command.stdin(Stdio::piped()).stdout(Stdio::piped());
-        let command = command.stderr(Stdio::piped());
+        let command = command.stdout(Stdio::piped()).stderr(Stdio::piped());
         command.spawn().expect("the program starts")
     }
 
     /// What the program prints and how it ends, with the input in pieces of a size.
-    pub fn output(&self, input: &[u8], size: usize) -> Output {
-        fed(self.start(), input, size)
+    pub fn output(&self, input: &[u8], size: usize) -> Result<Output, String> {
+        fed(self.start_from(Stdio::piped()), input, size)
     }
 
     /// The same, where there is no room for what it prints.
-    pub fn output_without_room(&self, input: &[u8]) -> Output {
+    pub fn output_without_room(&self, input: &[u8]) -> Result<Output, String> {
         let full = OpenOptions::new().write(true).open("/dev/full");
-        let mut command = Command::new(&self.0);
+        let mut command = self.command();
         let command = command.stdin(Stdio::piped()).stderr(Stdio::piped());
         let command = command.stdout(full.expect("it can be opened"));
         let child = command.spawn().expect("the program starts");
@@ -81,14 +116,13 @@ impl Program {
 
     /// What the program prints and how it ends, reading from this.
     pub fn output_from(&self, stdin: Stdio) -> Output {
-        let mut command = Command::new(&self.0);
-        command.stdin(stdin).output().expect("the program ends")
+        let child = self.start_from(stdin);
+        child.wait_with_output().expect("the program ends")
     }
 
     /// The same, with standard input closed.
     pub fn output_from_closed(&self) -> Output {
-        let mut shell = Command::new("sh");
-        let shell = shell.args(["-c", "exec \"$0\" <&-"]).arg(&self.0);
+        let mut shell = self.command_in("exec \"$0\" \"$@\" <&-");
         shell.output().expect("the program ends")
     }
 
@@ -99,11 +133,12 @@ impl Program {
 
     /// The same, with the input in pieces of a size.
     pub fn list_pieces(&self, input: &[u8], size: usize) -> Result<String, String> {
-        let output = self.output(input, size);
-        if output.status.code() != Some(0) {
-            return Err(format!("it ended with {}", output.status));
-        }
-        String::from_utf8(output.stdout).map_err(|error| error.to_string())
+        listed(self.output(input, size)?)
+    }
+
+    /// The same, with each piece handed over at this pace.
+    pub fn list_at(&self, pace: Pace, input: &[u8], size: usize) -> Result<String, String> {
+        listed(self.output_at(pace, input, size)?)
     }
 
     /// Whether it prints what the second implementation gives.
@@ -118,41 +153,47 @@ impl Program {
     /// How it ends when nobody reads what it prints, with the signal of a closed pipe as a
     /// shell leaves it.
     pub fn end_unread(&self, input: &[u8]) -> ExitStatus {
-        unread(self.start(), input)
+        unread(self.start_from(Stdio::piped()), input)
     }
 
     /// The same, with that signal ignored, so that the write fails instead.
     pub fn end_unread_without_signal(&self, input: &[u8]) -> ExitStatus {
-        let mut shell = Command::new("sh");
-        let shell = shell.args(["-c", "trap '' PIPE; exec \"$0\""]).arg(&self.0);
-        unread(Program::started(shell), input)
+        let mut shell = self.command_in("trap '' PIPE; exec \"$0\" \"$@\"");
+        unread(Program::started(shell.stdin(Stdio::piped())), input)
     }
 }
 
+/// What was printed, if the program ended well.
+fn listed(output: Output) -> Result<String, String> {
+    if output.status.code() != Some(0) {
+        return Err(format!("it ended with {}", output.status));
+    }
+    String::from_utf8(output.stdout).map_err(|error| error.to_string())
+}
+
 /// What a program prints and how it ends, with the input in pieces of a size.
-fn fed(mut child: Child, input: &[u8], size: usize) -> Output {
+fn fed(mut child: Child, input: &[u8], size: usize) -> Result<Output, String> {
     let stdin = child.stdin.take().expect("its input is piped");
     let bytes = input.to_vec();
     let writer = thread::spawn(move || feed(stdin, &bytes, size));
     let output = child.wait_with_output().expect("the program ends");
-    writer.join().expect("no panic");
-    output
+    let written = writer.join().expect("no panic");
+    written.map_err(|error| format!("it did not read all ({error}): {output:?}"))?;
+    Ok(output)
 }
 
-/// Writes the input in pieces. A program may end before it has read all of it.
-fn feed(mut stdin: ChildStdin, input: &[u8], size: usize) {
-    for piece in input.chunks(size) {
-        if stdin.write_all(piece).and_then(|()| stdin.flush()).is_err() {
-            return;
-        }
-    }
+/// Writes the input in pieces. It fails where the program ends before it has read all but what
+/// a pipe holds.
+fn feed(mut stdin: ChildStdin, input: &[u8], size: usize) -> io::Result<()> {
+    let mut pieces = input.chunks(size);
+    pieces.try_for_each(|piece| stdin.write_all(piece))
 }
 
 /// Closes the output before the input comes.
 fn unread(mut child: Child, input: &[u8]) -> ExitStatus {
     drop(child.stdout.take());
     let stdin = child.stdin.take().expect("its input is piped");
-    feed(stdin, input, input.len().max(1));
+    feed(stdin, input, input.len().max(1)).expect("the input fits the pipe");
     let begin = Instant::now();
     while begin.elapsed() < LIMIT {
         if let Some(status) = child.try_wait().expect("its status can be asked") {
@@ -173,6 +214,13 @@ pub fn directory() -> Stdio {
 pub fn write_only() -> Stdio {
     let file = OpenOptions::new().write(true).open("/dev/null");
     file.expect("it can be opened").into()
+}
+
+/// A socket that nobody writes to, where a read would have to wait, and fails instead.
+pub fn unready() -> Stdio {
+    let socket = UnixDatagram::unbound().expect("a socket");
+    socket.set_nonblocking(true).expect("it can be set");
+    OwnedFd::from(socket).into()
 }
 
 /// These bytes, and then a read that fails: the other end was closed with bytes unread.
