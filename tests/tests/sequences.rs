@@ -451,18 +451,6 @@ fn a_read_that_fails() {
     }
 }
 
-/// What lies beyond 256 bytes is dropped. Whether a failure there is told is left open, but no
-/// text is printed.
-#[test]
-fn a_read_that_fails_past_the_256th_byte() {
-    for program in programs() {
-        let output = program.output_from(broken_off(&[b'0'; 256]));
-        assert!(output.stdout.is_empty(), "{program:?}: {output:?}");
-        assert!(!output.stderr.is_empty(), "{program:?}: {output:?}");
-        assert!(output.status.code().is_some(), "{program:?}: {output:?}");
-    }
-}
-
 /// Nobody reads what it prints: it ends, not as if all were well, and by no crash.
 #[test]
 fn a_closed_output() {

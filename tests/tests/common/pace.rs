@@ -32,11 +32,10 @@ impl Program {
         near.set_read_timeout(Some(LIMIT)).expect("it can be set");
         let child = self.start_from(OwnedFd::from(near).into());
         let handed = hand_over(&mut far, child.id(), pace, input.chunks(size));
-        // Where it ended with bytes unread, this end fails.
-        let read = far.shutdown(Shutdown::Write);
+        let handed = handed.and(far.shutdown(Shutdown::Write));
         let output = child.wait_with_output().expect("the program ends");
-        let left = far.read(&mut [0]);
-        match handed.and(read).and(left) {
+        // This end fails where the other was closed with bytes unread.
+        match handed.and_then(|()| far.read(&mut [0])) {
             Ok(_) => Ok(output),
             Err(error) => Err(format!("it did not read all ({error}): {output:?}")),
         }
