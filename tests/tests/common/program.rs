@@ -116,8 +116,9 @@ impl Program {
 
     /// What the program prints and how it ends, reading from this.
     pub fn output_from(&self, stdin: Stdio) -> Output {
-        let child = self.start_from(stdin);
-        child.wait_with_output().expect("the program ends")
+        let mut child = self.start_from(stdin);
+        await_end(&mut child);
+        child.wait_with_output().expect("what it printed is there")
     }
 
     /// The same, with standard input closed.
@@ -194,6 +195,11 @@ fn unread(mut child: Child, input: &[u8]) -> ExitStatus {
     drop(child.stdout.take());
     let stdin = child.stdin.take().expect("its input is piped");
     feed(stdin, input, input.len().max(1)).expect("the input fits the pipe");
+    await_end(&mut child)
+}
+
+/// How a program ends. It must do so before long.
+fn await_end(child: &mut Child) -> ExitStatus {
     let begin = Instant::now();
     while begin.elapsed() < LIMIT {
         if let Some(status) = child.try_wait().expect("its status can be asked") {
@@ -202,7 +208,7 @@ fn unread(mut child: Child, input: &[u8]) -> ExitStatus {
         thread::sleep(Duration::from_millis(1));
     }
     child.kill().expect("it can be ended");
-    panic!("the program does not end when nobody reads what it prints");
+    panic!("the program does not end");
 }
 
 /// A directory, of which no byte can be read.
