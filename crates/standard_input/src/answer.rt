@@ -1,4 +1,4 @@
-// What an answer of read says. That it was read that gave it no contract can say: the kit keeps no record of what was answered.
+// What an answer of read says. That read gave it no contract can say: the kit's contracts bound what is answered, and record nothing.
 use libc::EINTR;
 ghost use Prim.Native.Nat.{_+_, _<_};
 ghost use mathlib.Core.Path.{_≡_};
