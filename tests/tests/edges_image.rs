@@ -60,18 +60,32 @@ fn each_bit_of_header_setpoints_and_tail() {
     }
 }
 
+// Four images with counts and messages that do not belong together. The values are those that
+// the log leaves as it is written, so that each is wrong by its own rule alone.
+
 #[test]
-fn the_order_of_messages() {
-    let (c, d) = (delta(C, 3), delta(D, 2));
-    let value = [(3, 1480)];
-    let swapped_log = image(2, 2, &[(3, 1500)], &[b1(), a1(), c.clone(), d.clone()]);
-    assert_eq!(codes(&swapped_log), (2, 2));
-    let swapped_held = image(2, 2, &value, &[a1(), b1(), d.clone(), c.clone()]);
-    assert_eq!(codes(&swapped_held), (2, 2));
-    let held_in_log = image(3, 1, &value, &[a1(), b1(), c.clone(), d.clone()]);
-    assert_eq!(codes(&held_in_log), (2, 2));
-    let log_in_held = image(1, 3, &[(3, 1500)], &[a1(), b1(), c, d]);
-    assert_eq!(codes(&log_in_held), (2, 2));
+fn a_log_in_another_order() {
+    let swapped = [b1(), a1(), delta(C, 3), delta(D, 2)];
+    assert_eq!(codes(&image(2, 2, &[(3, 1500)], &swapped)), (2, 2));
+}
+
+#[test]
+fn held_ones_in_another_order() {
+    let swapped = [a1(), b1(), delta(D, 2), delta(C, 3)];
+    assert_eq!(codes(&image(2, 2, &[(3, 1480)], &swapped)), (2, 2));
+}
+
+#[test]
+fn a_delta_in_the_log_whose_predecessor_is_missing() {
+    let messages = [a1(), b1(), delta(C, 3), delta(D, 2)];
+    let values = [(0, 1), (3, 1480)];
+    assert_eq!(codes(&image(3, 1, &values, &messages)), (2, 2));
+}
+
+#[test]
+fn an_executable_delta_among_the_held() {
+    let messages = [a1(), b1(), delta(C, 3), delta(D, 2)];
+    assert_eq!(codes(&image(1, 3, &[(3, 1500)], &messages)), (2, 2));
 }
 
 #[test]

@@ -5,6 +5,7 @@
 mod common;
 
 use bivamolune_tests::reference::reader::Reader;
+use bivamolune_tests::reference::station;
 use bivamolune_tests::wire::{add, line, raise, sequence, set, Draft, Sequence};
 use common::{a1, b1, delta, log_message, log_message_code, setpoint, steps, Station, A, B, C, D};
 
@@ -281,6 +282,29 @@ fn the_part_lies_in_the_image() {
     let part = log_message(&station.image, 1).as_ptr_range();
     let expected = station.image[320..368].as_ptr_range();
     assert_eq!(part, expected);
+}
+
+/// Of the second implementation, whose part and code are two functions.
+#[test]
+fn the_part_is_empty_exactly_where_the_code_is_1_2_or_12() {
+    let right = Station::with(&[a1(), b1(), delta(C, 2)]).image;
+    let mut wrong = right.clone();
+    wrong[271] ^= 1;
+    let far = usize::MAX;
+    let calls = [
+        (&right[..], 0, 0, a1().bytes()),
+        (&right[..], 1, 0, b1().bytes()),
+        (&right[..], 2, 12, vec![]),
+        (&right[..], far, 12, vec![]),
+        (&wrong[..], 0, 2, vec![]),
+        (&wrong[..], far, 2, vec![]),
+        (&right[1..], 0, 1, vec![]),
+        (&[], 0, 1, vec![]),
+    ];
+    for (image, place, code, part) in calls {
+        assert_eq!(station::log_message_code(image, place), code);
+        assert_eq!(station::log_message(image, place), part);
+    }
 }
 
 #[test]

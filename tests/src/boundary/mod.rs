@@ -84,13 +84,12 @@ impl Calls for Reference {
 
     fn log_message(&self, image: &[u8], place: u32) -> u64 {
         let part = log_message(image, place as usize);
-        match log_message_code(image, place as usize) {
-            0 => {
-                let offset = part.as_ptr() as usize - image.as_ptr() as usize;
-                packed(256 * part.len() as u32, offset as u32)
-            }
-            code => packed(code, 0),
-        }
+        let code = log_message_code(image, place as usize);
+        let offset = match part {
+            [] => 0,
+            _ => part.as_ptr() as usize - image.as_ptr() as usize,
+        };
+        packed(code + 256 * part.len() as u32, offset as u32)
     }
 
     fn read_sequences(&self, text: &[u8], sequences: &mut [u8]) -> u32 {
