@@ -55,6 +55,32 @@ fn block_before_priority_and_priority_before_group() {
     assert_eq!(log(&groups), "B1 A1");
 }
 
+/// Two numbers side by side at each border of a byte, and at the limit.
+const BORDERS: [(u32, u32); 4] = [
+    (0x00FF, 0x0100),
+    (0xFFFF, 0x1_0000),
+    (0xFF_FFFF, 0x100_0000),
+    (0x7FFF_FFFE, 0x7FFF_FFFF),
+];
+
+#[test]
+fn group_block_and_priority_are_compared_by_all_their_bytes() {
+    for (lower, upper) in BORDERS {
+        let groups = [delta(A, 1).group(upper), delta(B, 1).group(lower)];
+        assert_eq!(log(&groups), "B1 A1", "groups {lower} and {upper}");
+        let blocks = [
+            delta(A, 1).priority(upper, 0),
+            delta(B, 1).priority(lower, 0),
+        ];
+        assert_eq!(log(&blocks), "B1 A1", "blocks {lower} and {upper}");
+        let priorities = [
+            delta(A, 1).priority(1, lower),
+            delta(B, 1).priority(1, upper),
+        ];
+        assert_eq!(log(&priorities), "B1 A1", "priorities {lower} and {upper}");
+    }
+}
+
 #[test]
 fn priority_0_stands_before_none() {
     // C2 has no priority and effective block 1 through C1.
@@ -109,6 +135,21 @@ fn the_effective_block_is_the_greatest_of_several_needs() {
         delta(A, 1).priority(3, 0),
     ];
     assert_eq!(log(&drafts), "B1 C1 A1 D1");
+}
+
+/// Whichever of nine needs has block 3, C2 stands behind D1, which comes in block 3 after it.
+#[test]
+fn the_effective_block_comes_through_each_of_nine_needs() {
+    let named: Vec<Sequence> = (0x10..0x18).map(|last| s(last, 1)).collect();
+    let mut needs: Vec<Draft> = (0x10..0x18).map(|last| delta(last, 1)).collect();
+    needs.push(delta(C, 1));
+    for place in 0..needs.len() {
+        let mut all = needs.clone();
+        all[place].explicit = Some((3, 5));
+        all.extend([delta(C, 2).naming(&named), delta(D, 1).priority(3, 0)]);
+        let log = log(&all);
+        assert!(log.ends_with(" D1 C2"), "need {place}: {log}");
+    }
 }
 
 #[test]

@@ -241,6 +241,37 @@ fn a_wrong_message_under_a_used_sequence() {
     assert_eq!(station.code(&a1().bytes()), 0);
 }
 
+/// The bytes of a longest message that may be others alone, under the same sequence: those of
+/// group, block, priority and dependencies, and of each command the operation, the tag and the
+/// value but for its first byte, which is the sign.
+fn may_differ(at: usize) -> bool {
+    let in_command = matches!((at - 24) % 8, 0 | 1 | 5..=7);
+    matches!(at, 24..=35 | 40..=135) || (at >= 136 && in_command)
+}
+
+#[test]
+fn a_conflict_in_any_byte() {
+    let far = |place: u8| sequence([0x10 * place + 1; 10], 0x0101);
+    let named: Vec<Sequence> = (1..=8).map(far).collect();
+    let present = delta(A, 1).priority(0x0101, 5).naming(&named);
+    let right = present.commands(&[set(8, 100); 8]).bytes();
+    let (empty, mut station) = (Station::new(), Station::new());
+    assert_eq!((right.len(), station.code(&right)), (200, 0));
+    for at in 24..200 {
+        let mut conflicts = 0;
+        for bit in 0..8 {
+            let mut other = right.clone();
+            other[at] ^= 1 << bit;
+            if empty.clone().code(&other) == 0 {
+                assert_eq!(station.code(&other), 7, "byte {at} bit {bit}");
+                conflicts += 1;
+            }
+        }
+        assert_eq!(conflicts > 0, may_differ(at), "byte {at}");
+    }
+    assert_eq!(station.deliver_bytes(&right), steps(0, ""));
+}
+
 #[test]
 fn a_held_sequence_is_present_too() {
     let mut station = Station::with(&[delta(A, 2)]);
