@@ -19,6 +19,8 @@ pub enum Edit {
     Message(usize, usize, u8),
     /// Exchanges two messages.
     Swap(usize, usize),
+    /// Puts another message in the place of one, with the used part made to match.
+    Instead(usize, Vec<u8>),
     /// Repeats a message right after itself, with counts and used part made to match.
     Double(usize),
     /// Leaves a message out, with counts and used part made to match.
@@ -68,6 +70,7 @@ impl Edit {
                     let at = at % message.len().max(1);
                     flip(message, at, bits);
                 }
+                Edit::Instead(place, ref other) => parts.messages[place % count] = other.clone(),
                 Edit::Swap(one, two) => parts.messages.swap(one % count, two % count),
                 Edit::Double(place) => parts.double(place % count),
                 Edit::Drop(place) => parts.drop(place % count),

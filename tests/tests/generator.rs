@@ -10,12 +10,12 @@ use bivamolune_tests::boundary::{code, executions, length, undos, Calls, Referen
 use bivamolune_tests::call::{Action, Call, Composing, Outcome, View, World};
 use bivamolune_tests::edit::Edit;
 use bivamolune_tests::generate::{
-    any_draft, any_sequences, case, damaged_message, drafts, nearly_right, nearly_right_sequences,
-    nearly_right_text, LIMIT,
+    any_draft, any_sequences, case, conflicting_byte, damaged_message, drafts, nearly_right,
+    nearly_right_sequences, nearly_right_text, LIMIT,
 };
 use bivamolune_tests::random::Random;
 use bivamolune_tests::view::{steps, Step};
-use common::{delta, messages, u16_at, u32_at, Station, A, B, C, IMAGE};
+use common::{delta, messages, u16_at, u32_at, Station, A, B, C, D, IMAGE};
 
 /// How often each (call, code) was answered, and each mark was seen.
 #[derive(Default)]
@@ -267,6 +267,20 @@ fn nearly_right_messages_meet_the_code_they_are_made_for() {
     assert!(codes.values().all(|count| *count > 500), "{codes:?}");
 }
 
+/// A conflict in one byte is a right message alone, and refused by 7 beside the other.
+#[test]
+fn conflicts_in_one_byte_are_right_messages() {
+    for seed in 0..2_000 {
+        let mut random = Random::new(seed);
+        let draft = any_draft(&mut random);
+        let (right, other) = (draft.bytes(), conflicting_byte(&mut random, &draft));
+        let differing = right.iter().zip(&other).filter(|(a, b)| a != b).count();
+        assert_eq!((other.len(), differing), (right.len(), 1), "seed {seed}");
+        assert_eq!(Station::new().code(&other), 0, "seed {seed}");
+        assert_eq!(Station::with(&[draft]).code(&other), 7, "seed {seed}");
+    }
+}
+
 /// Sequences are right, and what has one thing wrong meets the code that it is made for.
 #[test]
 fn texts_meet_the_code_they_are_made_for() {
@@ -313,6 +327,13 @@ fn edits_do_what_they_say() {
     };
     assert_eq!(edited(Edit::Swap(0, 1)).log(), "B1 A1");
     assert_eq!(edited(Edit::Double(1)).log(), "A1 B1 B1");
+    let other = delta(D, 2).naming(&[delta(A, 1).sequence()]).bytes();
+    let instead = edited(Edit::Instead(2, other));
+    assert_eq!(
+        (instead.log(), instead.held()),
+        ("A1 B1".into(), "D2".into())
+    );
+    assert_eq!(u16_at(&instead.image, 8), 272 + 48 + 48 + 60);
     assert_eq!(edited(Edit::Drop(2)).held_count(), 0);
     assert_eq!(edited(Edit::Drop(1)).log(), "A1");
     assert_eq!(edited(Edit::Border(true)).log(), "A1");

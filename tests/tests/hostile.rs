@@ -8,9 +8,10 @@ mod common;
 use std::collections::BTreeMap;
 
 use bivamolune_tests::boundary::{code, Calls};
+use bivamolune_tests::edit::Edit;
 use bivamolune_tests::generate::{
     any_draft, any_sequences, conflicting, drafts, nearly_right, nearly_right_sequences,
-    nearly_right_text,
+    nearly_right_text, wrong_images,
 };
 use bivamolune_tests::random::Random;
 use bivamolune_tests::reference::compose::Request;
@@ -119,6 +120,43 @@ fn nearly_right_deliveries_are_refused_by_their_number() {
     }
     let codes: Vec<u32> = met.keys().copied().collect();
     assert_eq!(codes, [1, 2, 3, 4, 5, 6, 7, 8]);
+    assert!(met.values().all(|count| *count > 50), "{met:?}");
+}
+
+/// What each call that reads an image answers on one.
+fn codes(station: &Station, message: &[u8]) -> [u32; 4] {
+    [
+        station.clone().code(message),
+        station.compose_code([0x55; 10]),
+        setpoint(&station.image, 0).0,
+        log_message_code(&station.image, 0),
+    ]
+}
+
+/// An image with one message that fails 3, 4, 5 or 6, in its log or held, is refused by 2.
+#[test]
+fn an_image_with_one_wrong_message_is_refused_by_2() {
+    let mut met: BTreeMap<(u32, bool), usize> = BTreeMap::new();
+    for seed in 0..1_000 {
+        let mut random = Random::new(13_000_000 + seed);
+        let count = random.pick(&[1, 4, 20, 64]);
+        let all = drafts(&mut random, count);
+        let right = Station::with(&all);
+        for (code, edit) in wrong_images(&mut random, &all, 6) {
+            let mut wrong = right.clone();
+            edit.apply(&mut wrong.image);
+            assert_eq!(
+                codes(&wrong, &all[0].bytes()),
+                [2; 4],
+                "seed {seed} {edit:?}"
+            );
+            if let Edit::Instead(place, message) = edit {
+                assert_eq!(Station::new().code(&message), code, "seed {seed}");
+                *met.entry((code, place < right.log_count())).or_default() += 1;
+            }
+        }
+    }
+    assert_eq!(met.len(), 8, "{met:?}");
     assert!(met.values().all(|count| *count > 50), "{met:?}");
 }
 

@@ -46,7 +46,7 @@ fn repeat_commands(draft: &mut Draft) {
 }
 
 /// The image of these deltas; of two with one sequence the later is taken.
-fn image_of(drafts: &[Draft]) -> Vec<u8> {
+pub fn image_of(drafts: &[Draft]) -> Vec<u8> {
     let messages: Vec<Vec<u8>> = drafts.iter().map(Draft::bytes).collect();
     let deltas = messages.iter().filter_map(|bytes| Delta::check(bytes).ok());
     let set: Set = deltas.map(|delta| (delta.sequence(), delta)).collect();

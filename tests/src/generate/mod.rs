@@ -2,6 +2,7 @@
 //! streams, images.
 
 mod images;
+mod limits;
 mod right;
 mod sets;
 mod streams;
@@ -9,11 +10,12 @@ mod texts;
 mod wrong;
 
 pub use images::{damaged_image, image_input};
+pub use limits::{is_at_limits, wrong_images};
 pub use right::any_draft;
 pub use sets::{drafts, LIMIT, LINES};
 pub use streams::stream;
 pub use texts::{any_sequences, either_form, nearly_right_sequences, nearly_right_text, text_call};
-pub use wrong::{conflicting, damaged_message, nearly_right};
+pub use wrong::{conflicting, conflicting_byte, damaged_message, nearly_right};
 
 use crate::call::{Action, Call, Composing, View};
 use crate::edit::Edit;
@@ -56,6 +58,9 @@ pub fn edit(random: &mut Random) -> Edit {
 
 /// A list of calls from a seed. It begins with an empty station.
 pub fn case(seed: u64) -> Vec<Call> {
+    if is_at_limits(seed) {
+        return limits::case(seed);
+    }
     let mut random = Random::new(seed);
     let style = Style::new(&mut random);
     let count = count(&mut random, style.kind);

@@ -21,9 +21,13 @@ pub fn any_draft(random: &mut Random) -> Draft {
 
 /// Ten bytes, most often those of a line that others have too.
 fn any_line(random: &mut Random) -> Line {
-    if random.chance(70) {
-        return random.pick(&LINES);
+    match random.chance(70) {
+        true => random.pick(&LINES),
+        false => line_of_any_bytes(random),
     }
+}
+
+pub fn line_of_any_bytes(random: &mut Random) -> Line {
     let mut line = [0; 10];
     line.iter_mut().for_each(|byte| *byte = random.byte());
     line
@@ -51,7 +55,7 @@ fn any_field(random: &mut Random, first: u32) -> u32 {
     }
 }
 
-fn any_command(random: &mut Random) -> Command {
+pub fn any_command(random: &mut Random) -> Command {
     let operation = random.within(1, 3) as u8;
     let any_tag = random.within(0, 63) as u8;
     let tag = random.pick(&[0, 63, any_tag]);

@@ -2,6 +2,7 @@
 
 use super::sets::{settle, LIMIT, LINES};
 use crate::random::Random;
+use crate::reference::message::Delta;
 use crate::wire::{sequence, Draft, Sequence};
 
 /// A message with something wrong, most often in one place.
@@ -212,4 +213,18 @@ pub fn conflicting(random: &mut Random, draft: &Draft) -> Vec<u8> {
         other.group ^= 1;
     }
     other.bytes()
+}
+
+/// A right message of the same sequence that differs in one byte, any that can.
+pub fn conflicting_byte(random: &mut Random, draft: &Draft) -> Vec<u8> {
+    let right = draft.bytes();
+    loop {
+        let mut other = right.clone();
+        // Before byte 24 are layout and sequence.
+        let at = random.within(24, right.len() - 1);
+        other[at] ^= random.within(1, 255) as u8;
+        if Delta::check(&other).is_ok() {
+            return other;
+        }
+    }
 }

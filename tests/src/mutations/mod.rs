@@ -29,6 +29,7 @@ pub const QUICK: [&str; 16] = [
 pub const SLOW: [&str; 10] = [
     "accepted",
     "generator",
+    "limits",
     "brute_force",
     "hostile",
     "round_trips",
