@@ -115,7 +115,7 @@ fn texts_are_in_their_outcome(perform: &mut dyn FnMut(Action) -> (Vec<u8>, Outco
 }
 
 /// Where the faults of texts begin among all.
-const TEXTS: usize = 35;
+const TEXTS: usize = 40;
 
 /// The most calls that the shortest list for a fault has.
 fn bound(fault: Fault) -> usize {
@@ -128,6 +128,8 @@ fn bound(fault: Fault) -> usize {
         Fault::TailNotCleared | Fault::RangeBeforeDependencies => 2,
         // Empty, eight ends of the log with all they need, and compose.
         Fault::ComposeAtEight => 25,
+        // Empty, the nine that one delta needs, that one, and one beside it.
+        Fault::EightHidePredecessor => 12,
         // A call on texts stands alone.
         fault if FAULTS[TEXTS..].contains(&fault) => 1,
         _ => 10,

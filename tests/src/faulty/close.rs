@@ -3,7 +3,7 @@
 
 use std::collections::BTreeSet;
 
-use super::{write_setpoints, Fault};
+use super::{narrow, write_setpoints, Fault};
 use crate::reference::bytes::{i32_at, u8_at};
 use crate::reference::code::Code;
 use crate::reference::image::{self, listed, read_sized, SIZE};
@@ -22,7 +22,7 @@ pub fn has_own_rule(fault: Fault) -> bool {
         Fault::WaitsBehindHeld,
         Fault::Subtracts,
     ];
-    own.contains(&fault)
+    own.contains(&fault) || narrow::orders(fault)
 }
 
 /// A delivery by the fault's rule.
@@ -84,6 +84,7 @@ fn arranged<'a>(fault: Fault, set: &Set<'a>, before: &[Sequence]) -> Order<'a> {
             right
         }
         Fault::WaitsBehindHeld => waiting(set, right, before),
+        fault if narrow::orders(fault) => narrow::arrange(fault, set),
         _ => right,
     }
 }

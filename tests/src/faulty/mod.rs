@@ -2,6 +2,7 @@
 //! differential runner finds its fault.
 
 mod close;
+mod narrow;
 mod pairs;
 mod printing;
 mod texts;
@@ -94,6 +95,16 @@ pub enum Fault {
     StillLeftOut,
     /// Takes a step buffer of 10,159 bytes.
     ShortRoom,
+    /// Compares the lower 16 bits of priorities.
+    PriorityOf16Bits,
+    /// Compares the lower 16 bits of blocks.
+    BlockOf16Bits,
+    /// Compares the lower 24 bits of groups.
+    GroupOf24Bits,
+    /// Beside eight dependencies the effective block of the predecessor does not count.
+    EightHidePredecessor,
+    /// Takes a message for a repeat whose first 140 bytes are equal.
+    First140Compared,
     /// The reader takes small letters.
     SmallLettersRead,
     /// The reader takes G, as a 0.
@@ -141,7 +152,7 @@ pub enum Fault {
 }
 
 /// Every fault. Those that the paper names as programs that come close are among them.
-pub const FAULTS: [Fault; 57] = [
+pub const FAULTS: [Fault; 62] = [
     Fault::FullAt63,
     Fault::KeyAlone,
     Fault::TailNotCleared,
@@ -177,6 +188,11 @@ pub const FAULTS: [Fault; 57] = [
     Fault::UnusedNotCleared,
     Fault::StillLeftOut,
     Fault::ShortRoom,
+    Fault::PriorityOf16Bits,
+    Fault::BlockOf16Bits,
+    Fault::GroupOf24Bits,
+    Fault::EightHidePredecessor,
+    Fault::First140Compared,
     Fault::SmallLettersRead,
     Fault::LetterG,
     Fault::ColonRead,
@@ -247,6 +263,7 @@ impl Calls for Faulty {
                 answer
             }
             (Fault::FullBeforeConflict, 7) if count(&before) == 64 => 8,
+            (Fault::First140Compared, 7) if narrow::begins_as_present(&before, message) => 0,
             (Fault::RangeBeforeDependencies, 5) if range_is_wrong(message) => 6,
             (Fault::TailUnchecked, 2) => without_tail(image, message, buffer),
             (Fault::SetpointsUnchecked, 2) => without_setpoints(image, message, buffer),
