@@ -96,6 +96,7 @@ impl Seen {
     fn mark_image(&mut self, image: &[u8]) {
         let log = messages(image, 0, u16_at(image, 0));
         let chained = log.windows(2).all(|two| needs(&two[1], &two[0]));
+        self.mark("log of 64", log.len() == 64);
         self.mark("chain of 64", log.len() == 64 && chained);
         let all = all_messages(image);
         let longest = all.iter().filter(|message| message.len() == 200);
@@ -171,7 +172,7 @@ fn the_seeds_reach_every_limit() {
         run(seed, &mut seen);
     }
     println!("{:#?}", seen.limits);
-    assert_eq!(seen.limits.len(), 48);
+    assert_eq!(seen.limits.len(), 49);
     for (limit, count) in &seen.limits {
         assert!(*count >= 20, "{limit} only {count} times");
     }

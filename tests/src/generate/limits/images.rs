@@ -1,7 +1,8 @@
-//! Copies of an image in which one message is wrong by one of the rules 3 to 6. What is made
-//! wrong changes no key, no value, and no other's needs, and counts and bytes used are made to
-//! fit: the image has no other fault.
+//! Copies of an image in which one message is wrong by one of the rules 3 to 6, and nothing else
+//! is: order and values are what they would be if that rule were not asked, and counts and bytes
+//! used are made to fit.
 
+use super::fields::line;
 use crate::edit::Edit;
 use crate::generate::images::image_of;
 use crate::generate::LIMIT;
@@ -9,7 +10,7 @@ use crate::random::Random;
 use crate::view::{all_messages, log, sequence_of};
 use crate::wire::{command, sequence, Command, Draft, Sequence};
 
-/// A command that leaves every value as it is.
+/// A command that leaves every value as it is: it raises tag 0 to -1000000.
 const STILL: Command = [3, 0, 0, 0, 0xFF, 0xF0, 0xBD, 0xC0];
 
 /// A delta at its place in the image.
@@ -78,7 +79,7 @@ impl Standing<'_> {
     fn number_zero(&self, random: &mut Random) -> Option<Vec<u8>> {
         let mut wrong = self.draft.clone();
         match (self.in_log, wrong.number, self.needed) {
-            (false, ..) => wrong.dependencies = vec![sequence(super::fields::line(random), 0)],
+            (false, ..) => wrong.dependencies = vec![sequence(line(random), 0)],
             (true, 1, false) => wrong.number = 0,
             _ => return None,
         }

@@ -91,12 +91,14 @@ fn longest(random: &mut Random) -> Vec<Draft> {
     all
 }
 
-/// Numbers at the ends of their bytes, and deltas that name the greatest; all are held.
+/// Numbers at the ends of their bytes and one between, and deltas that name the greatest; all are
+/// held.
 fn high_numbers(random: &mut Random) -> Vec<Draft> {
     let mut all = Vec::new();
     for _ in 0..3 {
         let own = line(random);
-        for number in [0x00FF, 0x0100, 0x7FFF, 0x8000, 0xFFFE, 0xFFFF] {
+        let between = random.within(0x0101, 0x7FFE) as u16;
+        for number in [0x00FF, 0x0100, between, 0x7FFF, 0x8000, 0xFFFE, 0xFFFF] {
             all.push(draft(random, own, number));
         }
         let mut user = lone_draft(random);
