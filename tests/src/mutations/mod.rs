@@ -26,7 +26,7 @@ pub const QUICK: [&str; 16] = [
 /// The tests that are run after those: of many inputs. The tests of the differential runner
 /// are not among them, as they would compare the second implementation with itself. The
 /// last one sees nearly every change by digests, which name no rule.
-pub const SLOW: [&str; 10] = [
+pub const SLOW: [&str; 11] = [
     "accepted",
     "generator",
     "limits",
