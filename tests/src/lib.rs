@@ -8,6 +8,7 @@ pub mod bench;
 pub mod boundary;
 pub mod call;
 pub mod differential;
+pub mod dump;
 pub mod edit;
 pub mod faulty;
 pub mod generate;

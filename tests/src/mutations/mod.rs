@@ -4,7 +4,7 @@
 pub mod trial;
 
 /// The tests that are run on each change first: those of few inputs.
-pub const QUICK: [&str; 16] = [
+pub const QUICK: [&str; 17] = [
     "examples",
     "codes",
     "edges_message",
@@ -17,6 +17,7 @@ pub const QUICK: [&str; 16] = [
     "published",
     "plant_fault",
     "story",
+    "format",
     "listing",
     "sequences",
     "print_log",
