@@ -29,8 +29,9 @@
  *   (code 2). What an interrupted save left, partly new and partly old, may be an image with a delta that nobody sent, and code
  *   2 does not find it: a held delta is not run, so nothing else in the image depends on its bytes. The true delta is then
  *   refused (code 7), and the wrong one is executed when its need comes. So keep the last image until the next one is in
- *   storage whole: write that one under another name, flush it, then rename it; or keep two places, each with a number and a
- *   checksum, and write the older one. tests/c/save.h has both ways, to be copied.
+ *   storage whole: write that one under another name, flush it, rename it, then flush the folder; or keep two places, each with a
+ *   number and a checksum, write the one that is not the newest, and flush it. Only then is it saved. tests/c/save.h has both
+ *   ways, to be copied.
  * - A delta of the station's own is composed, delivered to the station's own image, the image is saved, and only then is the
  *   message sent. A station that sends first and restarts from an image of before would use a sequence again for another
  *   delta, and the stations that got the first one refuse the second (code 7) for good.

@@ -53,6 +53,9 @@ finds saving 'in places, a failure of call 5' 's/return size >= 0;/return 1;/'
 finds saving 'then the other place' 's/if (!bivamolune_flush(file) ||/if (/'
 finds saving 'then the other place' 's/bivamolune_flush(folder) ? bivamolune_write_other/1 ? bivamolune_write_other/'
 finds saving 'then the other place' 's/BIVAMOLUNE_PLACE_SIZE, at) && bivamolune_flush(file)/BIVAMOLUNE_PLACE_SIZE, at)/'
+finds saving 'made invalid and flushed' 's/at) \&\& bivamolune_flush(file) ? BIVAMOLUNE_NOT_SAVED/at) ? BIVAMOLUNE_NOT_SAVED/'
+finds saving 'written again' '/if (!bivamolune_write_at(file, place, BIVAMOLUNE_PLACE_SIZE, newest.at))/d'
+finds saving 'in places, a failure of call 3' 's/ : BIVAMOLUNE_SAVE_UNSURE);/ : BIVAMOLUNE_NOT_SAVED);/'
 finds torn 'no number after it' 's/ || newest.number == UINT64_MAX//'
 
 echo "$passed passed, $failed failed"

@@ -6,10 +6,12 @@
  *     in places   one file with two places. A save writes the place that has not the newest image, with a number and a
  *                 checksum. For storage that cannot rename, or where files are not to be made anew.
  *
- * The folder exists, and the file's name has no '/' and at most BIVAMOLUNE_FILE_NAME_MOST characters. One process at a time
- * saves or loads under a name, and it loads before it saves. What a killed save leaves does not hinder the next one. A call that
- * a signal interrupts is made again. Where a save's flush fails, the system may show bytes that storage has not, so the next save
- * writes them again. Loading flushes too: a host that begins again from an image may send what is in it.
+ * The folder exists and is in storage itself: who makes it flushes the one above. The file's name has 1 to
+ * BIVAMOLUNE_FILE_NAME_MOST characters and no '/', is not . or .. and does not end in .new: NAME.new is the module's. One call at
+ * a time saves or loads under a name, of all threads and processes, and nobody writes the image meanwhile; a process loads before
+ * it saves. What a killed call leaves does not hinder the next one. An open, a read, a write or a flush that a signal interrupts
+ * is made again; a close or a rename is not, and counts as failed. Where a flush fails, the system may show bytes that storage
+ * has not, so they are written again. Loading flushes too: a host that begins again from an image may send what is in it.
  *
  * Include it first, or compile with -D_POSIX_C_SOURCE=200809L. */
 #ifndef BIVAMOLUNE_SAVE_H
@@ -31,18 +33,19 @@
 /* What a save answers. Send nothing of the new image unless it is the first. */
 enum bivamolune_saving {
     BIVAMOLUNE_SAVED = 0,       /* every call succeeded: the new image is what loads, also after a power failure */
-    BIVAMOLUNE_NOT_SAVED = 1,   /* what loaded before is what loads. Save again */
-    BIVAMOLUNE_SAVE_UNSURE = 2  /* the old image loads or the new one, whole, and after a power failure perhaps the other. By
-                                   rename, save again; in places, start the machine anew and load, since the system may show
-                                   a place that storage has not */
+    BIVAMOLUNE_NOT_SAVED = 1,   /* what loaded before is what loads; of a first save nothing, in places perhaps by
+                                   BIVAMOLUNE_NOT_WHOLE. Save again */
+    BIVAMOLUNE_SAVE_UNSURE = 2  /* the old image (of a first save none) loads or the new one, whole, and after a power failure
+                                   perhaps the other. By rename, save again; in places, start the machine anew and load, since
+                                   the system may show a place that storage has not */
 };
 
 /* What loading answers. Only beside the first the buffer has an image, one that was handed to a save. Bytes that storage
  * changed later are found in places alone. */
 enum bivamolune_loading {
     BIVAMOLUNE_LOADED = 0,
-    BIVAMOLUNE_NEVER_SAVED = 1, /* the folder has no such file: right at a station's first start and never again. A volume that is
-                                   not there looks the same */
+    BIVAMOLUNE_NEVER_SAVED = 1, /* the folder has no such file: right until a first save has answered BIVAMOLUNE_SAVED, and never
+                                   again. A volume that is not there looks the same */
     BIVAMOLUNE_NOT_WHOLE = 2,   /* a file of another size, or neither place valid, as a first save that was killed leaves it.
                                    Begin with a new line, not anew with the old one */
     BIVAMOLUNE_NOT_LOADED = 3   /* a call failed: nothing is known of the image. Start the machine anew before loading again: a
@@ -53,10 +56,15 @@ enum bivamolune_loading {
 
 /* ---- files */
 
+static inline int bivamolune_is_file_name(const char *name) {
+    return name[0] != 0 && strlen(name) <= BIVAMOLUNE_FILE_NAME_MOST && strchr(name, '/') == NULL && strcmp(name, ".") != 0
+        && strcmp(name, "..") != 0;
+}
+
 /* The folder, opened to be flushed; -1 where it cannot be, or where the file's name does not do. */
 static inline int bivamolune_open_folder(const char *folder, const char *name) {
     int opened;
-    if (strlen(name) > BIVAMOLUNE_FILE_NAME_MOST || strchr(name, '/') != NULL) return -1;
+    if (!bivamolune_is_file_name(name)) return -1;
     do opened = open(folder, O_RDONLY | O_DIRECTORY | O_CLOEXEC);
     while (opened < 0 && errno == EINTR);
     return opened;
@@ -115,20 +123,20 @@ static inline enum bivamolune_loading bivamolune_close_loaded(int file, enum biv
 typedef enum bivamolune_loading bivamolune_reader(int file, uint8_t *image);
 
 /* Loads from a file of the folder, whose name is put into storage first. */
-static inline enum bivamolune_loading bivamolune_load_from(int folder, const char *name, uint8_t *image,
+static inline enum bivamolune_loading bivamolune_load_from(int folder, const char *name, int flags, uint8_t *image,
                                                            bivamolune_reader *reader) {
     int file;
     if (!bivamolune_flush(folder)) return BIVAMOLUNE_NOT_LOADED;
-    file = bivamolune_open_file(folder, name, O_RDONLY);
+    file = bivamolune_open_file(folder, name, flags);
     if (file < 0) return errno == ENOENT ? BIVAMOLUNE_NEVER_SAVED : BIVAMOLUNE_NOT_LOADED;
     return bivamolune_close_loaded(file, reader(file, image));
 }
 
-static inline enum bivamolune_loading bivamolune_load(const char *folder, const char *name, uint8_t *image,
+static inline enum bivamolune_loading bivamolune_load(const char *folder, const char *name, int flags, uint8_t *image,
                                                       bivamolune_reader *reader) {
     int opened = bivamolune_open_folder(folder, name);
     if (opened < 0) return BIVAMOLUNE_NOT_LOADED;
-    return bivamolune_close_loaded(opened, bivamolune_load_from(opened, name, image, reader));
+    return bivamolune_close_loaded(opened, bivamolune_load_from(opened, name, flags, image, reader));
 }
 
 /* ---- by rename */
@@ -167,7 +175,7 @@ static inline enum bivamolune_loading bivamolune_read_file(int file, uint8_t *im
 
 /* Loads what was saved by rename into a buffer of BIVAMOLUNE_IMAGE_SIZE bytes. */
 static inline enum bivamolune_loading bivamolune_load_by_rename(const char *folder, const char *name, uint8_t *image) {
-    return bivamolune_load(folder, name, image, bivamolune_read_file);
+    return bivamolune_load(folder, name, O_RDONLY, image, bivamolune_read_file);
 }
 
 /* ---- in places
@@ -184,9 +192,10 @@ struct bivamolune_newest {
     off_t at;
 };
 
-/* CRC-64/XZ. It finds every change that lies within 64 bits in a row; a place that is partly old and partly new in another way
- * passes by a chance of one to 2^64. It does not find what someone made to pass, nor a whole write that storage confirmed and
- * dropped. A place that storage damaged later is taken for one that was torn: then the image before it loads. */
+/* CRC-64/XZ. It finds every change that lies within 64 bits in a row of number and image, or in the checksum alone; a place
+ * that is partly old and partly new in another way passes by a chance of one to 2^64. It does not find what someone made to
+ * pass, nor a whole write that storage confirmed and dropped. A place that storage damaged later is taken for one that was torn:
+ * then the image before it loads. */
 static inline uint64_t bivamolune_checksum(const uint8_t *bytes, size_t size) {
     uint64_t rest = UINT64_MAX;
     for (size_t i = 0; i < size; i++) {
@@ -247,7 +256,7 @@ static inline enum bivamolune_saving bivamolune_write_other(int file, const uint
 static inline enum bivamolune_saving bivamolune_save_into(int folder, const char *name, const uint8_t *image) {
     int file = bivamolune_open_file(folder, name, O_RDWR | O_CREAT);
     if (file < 0) return BIVAMOLUNE_NOT_SAVED;
-    return bivamolune_close_saved(file, bivamolune_flush(folder) ? bivamolune_write_other(file, image) : BIVAMOLUNE_NOT_SAVED);
+    return bivamolune_close_saved(file, bivamolune_flush(folder) ? bivamolune_write_other(file, image) : BIVAMOLUNE_SAVE_UNSURE);
 }
 
 /* Saves an image of BIVAMOLUNE_IMAGE_SIZE bytes. A place stands on the stack meanwhile, as it does in loading. */
@@ -257,6 +266,8 @@ static inline enum bivamolune_saving bivamolune_save_in_places(const char *folde
     return bivamolune_close_saved(opened, bivamolune_save_into(opened, name, image));
 }
 
+/* Reads the newest place, and writes it again before it counts: a flush that failed is told once, perhaps to a save that was
+ * killed in it, and then the system shows a place that storage has not. */
 static inline enum bivamolune_loading bivamolune_read_newest(int file, uint8_t *image) {
     uint8_t place[BIVAMOLUNE_PLACE_SIZE];
     struct bivamolune_newest newest;
@@ -264,13 +275,15 @@ static inline enum bivamolune_loading bivamolune_read_newest(int file, uint8_t *
     if (!bivamolune_find_newest(file, place, &newest)) return BIVAMOLUNE_NOT_LOADED;
     if (newest.number == 0) return BIVAMOLUNE_NOT_WHOLE;
     if (!bivamolune_read_place(file, newest.at, place, &number) || number != newest.number) return BIVAMOLUNE_NOT_LOADED;
+    if (!bivamolune_write_at(file, place, BIVAMOLUNE_PLACE_SIZE, newest.at)) return BIVAMOLUNE_NOT_LOADED;
+    if (!bivamolune_flush(file)) return BIVAMOLUNE_NOT_LOADED;
     memcpy(image, place + 8, BIVAMOLUNE_IMAGE_SIZE);
     return BIVAMOLUNE_LOADED;
 }
 
 /* Loads the newest image that was saved in places into a buffer of BIVAMOLUNE_IMAGE_SIZE bytes. */
 static inline enum bivamolune_loading bivamolune_load_in_places(const char *folder, const char *name, uint8_t *image) {
-    return bivamolune_load(folder, name, image, bivamolune_read_newest);
+    return bivamolune_load(folder, name, O_RDWR, image, bivamolune_read_newest);
 }
 
 #endif

@@ -12,15 +12,22 @@ struct seen {
     unsigned changed, kept;
 };
 
+/* Whether what loads is what was there before: the old image, and where there was none no file, in places perhaps one that is
+ * not whole. */
+static int is_kept(const struct way *way, unsigned before, char found) {
+    if (before > 0) return found == 'o';
+    return found == '-' || (way == &in_places && found == 'w');
+}
+
 /* Kills a save: whole or not at all, and the next save does not mind what it left. Of a first save there may be nothing; then
  * nothing was sent either. Whether it was killed. */
 static unsigned check_kill(const struct way *way, unsigned before, enum deed deed, unsigned at, size_t cut, struct seen *seen) {
-    char what[100], found = kill_save(way, before, deed, at, cut), kept = before == 0 ? '-' : 'o';
+    char what[100], found = kill_save(way, before, deed, at, cut);
     if (found == 0) return 0;
     seen->changed += found == 'n';
-    seen->kept += found == kept;
+    seen->kept += (unsigned)is_kept(way, before, found);
     snprintf(what, sizeof what, "%s, save %u, %s call %u, %zu bytes", way->name, before + 1, deed_names[deed], at, cut);
-    check((found == 'n' || found == kept) && saves_again(way), what);
+    check((found == 'n' || is_kept(way, before, found)) && saves_again(way), what);
     return 1;
 }
 
@@ -50,6 +57,34 @@ static void run_kills(const struct way *way) {
     }
 }
 
+static int load_once(const struct way *way, const uint8_t *bytes) {
+    (void)bytes;
+    return (int)way->load(folder, "station", loaded);
+}
+
+/* Kills a load: the newest image loads afterwards. Whether it was killed. */
+static int check_killed_load(const struct way *way, enum deed deed, unsigned at, size_t cut) {
+    char what[100];
+    prepare(way, 2);
+    begin_plan(deed, at, cut, 0);
+    if (in_child(load_once, way, NULL) != KILLED) return 0;
+    snprintf(what, sizeof what, "%s, loading, %s call %u, %zu bytes", way->name, deed_names[deed], at, cut);
+    check(what_loads(way, 1) == 'n' && saves_again(way), what);
+    return 1;
+}
+
+static void run_load_kills(const struct way *way) {
+    unsigned all;
+    prepare(way, 2);
+    check(way->load(folder, "station", loaded) == BIVAMOLUNE_LOADED, "loaded");
+    all = calls;
+    for (unsigned at = 1; at <= all; at++) {
+        check_killed_load(way, KILL_BEFORE, at, 0);
+        for (size_t cut = SECTOR; check_killed_load(way, KILL_WITHIN, at, cut); cut += SECTOR) continue;
+    }
+    check(!check_killed_load(way, KILL_BEFORE, all + 1, 0), "these are all calls of loading");
+}
+
 /* ---- the order of the calls */
 
 /* The calls that were made since the plan began. */
@@ -73,32 +108,38 @@ static void run_order(void) {
     check_calls("open folder, openat station, fsync folder, fsync file, pread file, pread file, pwrite file, fsync file, "
         "close file, close folder", "what is there is flushed, then the other place");
     check(bivamolune_load_in_places(folder, "station", loaded) == BIVAMOLUNE_LOADED, "loaded from places");
-    check_calls("open folder, fsync folder, openat station, fsync file, pread file, pread file, pread file, close file, "
-        "close folder", "folder and file are flushed before the newest is loaded");
+    check_calls("open folder, fsync folder, openat station, fsync file, pread file, pread file, pread file, pwrite file, "
+        "fsync file, close file, close folder", "folder and file are flushed, the newest is loaded and written again");
+    begin_plan(FAIL, 8, 0, EIO);
+    check(bivamolune_save_in_places(folder, "station", saved[0]) == BIVAMOLUNE_NOT_SAVED, "a place whose flush fails");
+    check_calls("open folder, openat station, fsync folder, fsync file, pread file, pread file, pwrite file, fsync file, "
+        "pwrite file, fsync file, close file, close folder", "the place is made invalid and flushed");
     flushing = 0;
 }
 
 /* ---- calls that fail */
 
-/* For each call in turn, if it fails: the answer (S saved, N not saved, U unsure), and what then loads. */
+/* So many images were saved before. For each call in turn, if it fails: the answer (S saved, N not saved, U unsure; a dot where
+ * it reads and writes nothing that could be short), and what then loads. */
 struct failing {
     const struct way *way;
+    unsigned before;
     enum deed deed;
     int error;
     const char *answers, *loads;
 };
 
 static const struct failing failing[] = {
-    {&by_rename, FAIL, EIO, "NNNNNUUU", "oooooonn"},
-    {&by_rename, FAIL, ENOSPC, "NNNNNUUU", "oooooonn"},
-    {&by_rename, FAIL, EINTR, "SSSSNUSU", "nnnnoonn"},
-    {&by_rename, FAIL_ON, EIO, "NNNNNUUU", "oooooonn"},
-    {&by_rename, SHORTEN, 0, "SSSSSSSS", "nnnnnnnn"},
-    {&in_places, FAIL, EIO, "NNNNNNNNUU", "oooooooonn"},
-    {&in_places, FAIL, ENOSPC, "NNNNNNNNUU", "oooooooonn"},
-    {&in_places, FAIL, EINTR, "SSSSSSSSUU", "nnnnnnnnnn"},
-    {&in_places, FAIL_ON, EIO, "NNNNNNUUUU", "ooooooonnn"},
-    {&in_places, SHORTEN, 0, "SSSSSSSSSS", "nnnnnnnnnn"},
+    {&by_rename, 0, FAIL, EIO, "NNNNNUUU", "------nn"},
+    {&by_rename, 2, FAIL, EIO, "NNNNNUUU", "oooooonn"},
+    {&by_rename, 2, FAIL, EINTR, "SSSSNUSU", "nnnnoonn"},
+    {&by_rename, 2, FAIL_ON, EIO, "NNNNNUUU", "oooooonn"},
+    {&by_rename, 2, SHORTEN, 0, "..S.....", "..n....."},
+    {&in_places, 0, FAIL, EIO, "NNUNNNNNUU", "--wwwwwwnn"},
+    {&in_places, 2, FAIL, EIO, "NNUNNNNNUU", "oooooooonn"},
+    {&in_places, 2, FAIL, EINTR, "SSSSSSSSUU", "nnnnnnnnnn"},
+    {&in_places, 2, FAIL_ON, EIO, "NNUNNNUUUU", "ooooooonnn"},
+    {&in_places, 2, SHORTEN, 0, "....SSS...", "....nnn..."},
 };
 
 static void run_failures(void) {
@@ -108,41 +149,45 @@ static void run_failures(void) {
         for (unsigned at = 1; at <= all; at++) {
             char what[100];
             enum bivamolune_saving answer;
-            snprintf(what, sizeof what, "%s, %s call %u, error %d", f->way->name, deed_names[f->deed], at, f->error);
-            prepare(f->way, 2);
+            if (f->answers[at - 1] == '.') continue;
+            snprintf(what, sizeof what, "%s, %s call %u, error %d, save %u", f->way->name, deed_names[f->deed], at, f->error,
+                f->before + 1);
+            prepare(f->way, f->before);
             begin_plan(f->deed, at, 0, f->error);
-            answer = f->way->save(folder, "station", saved[2]);
-            check("SNU"[answer] == f->answers[at - 1] && what_loads(f->way, 2) == f->loads[at - 1] && saves_again(f->way), what);
+            answer = f->way->save(folder, "station", saved[f->before]);
+            check("SNU"[answer] == f->answers[at - 1] && what_loads(f->way, f->before) == f->loads[at - 1]
+                && saves_again(f->way), what);
         }
-        prepare(f->way, 2);
+        prepare(f->way, f->before);
         begin_plan(f->deed, all + 1, 0, f->error);
-        check(f->way->save(folder, "station", saved[2]) == BIVAMOLUNE_SAVED && calls == all, "these are all calls");
+        check(f->way->save(folder, "station", saved[f->before]) == BIVAMOLUNE_SAVED && calls == all, "these are all calls");
     }
 }
 
 /* The same of loading: L loaded, F not loaded. */
 static const struct failing failing_to_load[] = {
-    {&by_rename, FAIL, EIO, "FFFFFFF", ""},
-    {&by_rename, FAIL, EINTR, "LLLLLFF", ""},
-    {&by_rename, SHORTEN, 0, "LLLLLLL", ""},
-    {&in_places, FAIL, EIO, "FFFFFFFFF", ""},
-    {&in_places, FAIL, EINTR, "LLLLLLLFF", ""},
-    {&in_places, SHORTEN, 0, "LLLLLLLLL", ""},
+    {&by_rename, 2, FAIL, EIO, "FFFFFFF", ""},
+    {&by_rename, 2, FAIL, EINTR, "LLLLLFF", ""},
+    {&by_rename, 2, SHORTEN, 0, "...L...", ""},
+    {&in_places, 2, FAIL, EIO, "FFFFFFFFFFF", ""},
+    {&in_places, 2, FAIL, EINTR, "LLLLLLLLLFF", ""},
+    {&in_places, 2, SHORTEN, 0, "....LLLL...", ""},
 };
 
 static void run_load_failures(void) {
     for (size_t row = 0; row < sizeof failing_to_load / sizeof failing_to_load[0]; row++) {
         const struct failing *f = &failing_to_load[row];
         unsigned all = (unsigned)strlen(f->answers);
-        prepare(f->way, 2);
+        prepare(f->way, f->before);
         for (unsigned at = 1; at <= all + 1; at++) {
             char what[100];
             enum bivamolune_loading answer, expected = f->answers[at - 1] == 'F' ? BIVAMOLUNE_NOT_LOADED : BIVAMOLUNE_LOADED;
+            if (f->answers[at - 1] == '.') continue;
             snprintf(what, sizeof what, "%s, loading, %s call %u, error %d", f->way->name, deed_names[f->deed], at, f->error);
             begin_plan(f->deed, at, 0, f->error);
             memset(loaded, 0xEE, sizeof loaded);
             answer = f->way->load(folder, "station", loaded);
-            check(answer == expected && (answer != BIVAMOLUNE_LOADED || is_loaded(saved[1])), what);
+            check(answer == expected && (answer != BIVAMOLUNE_LOADED || is_loaded(saved[f->before - 1])), what);
         }
         check(calls == all, "these are all calls of loading");
     }
@@ -153,6 +198,8 @@ int main(void) {
     make_images();
     run_kills(&by_rename);
     run_kills(&in_places);
+    run_load_kills(&by_rename);
+    run_load_kills(&in_places);
     run_order();
     run_failures();
     run_load_failures();

@@ -93,11 +93,14 @@ static inline void prepare(const struct way *way, unsigned before) {
     clear_plan();
 }
 
-/* What loads once the next image was saved, or not: the new image, the old one, another, or none. */
+/* What loads once the next image was saved, or not: the new image, the old one, another; no file, one that is not whole, or a
+ * failure. */
 static inline char what_loads(const struct way *way, unsigned before) {
+    enum bivamolune_loading answer;
     clear_plan();
     memset(loaded, 0xEE, sizeof loaded);
-    if (way->load(folder, "station", loaded) != BIVAMOLUNE_LOADED) return '-';
+    answer = way->load(folder, "station", loaded);
+    if (answer != BIVAMOLUNE_LOADED) return "?-wf"[answer];
     if (is_loaded(saved[before])) return 'n';
     return before > 0 && is_loaded(saved[before - 1]) ? 'o' : 'x';
 }
@@ -108,15 +111,18 @@ static inline int saves_again(const struct way *way) {
         && is_loaded(fresh);
 }
 
-/* The answer of a child that saves as planned, or that it was killed. */
-static inline int save_in_child(const struct way *way, const uint8_t *bytes) {
+typedef int act(const struct way *way, const uint8_t *bytes);
+static inline int save_once(const struct way *way, const uint8_t *bytes) { return (int)way->save(folder, "station", bytes); }
+
+/* The answer of a child that saves or loads as planned, or that it was killed. */
+static inline int in_child(act *act, const struct way *way, const uint8_t *bytes) {
     int status;
     pid_t child;
     fflush(stdout);
     child = fork();
     if (child == 0) {
         flushing = 1;
-        _exit((int)way->save(folder, "station", bytes));
+        _exit(act(way, bytes));
     }
     if (child < 0 || waitpid(child, &status, 0) != child) stop("no child");
     return WIFSIGNALED(status) && WTERMSIG(status) == SIGKILL ? KILLED : WEXITSTATUS(status);
@@ -126,7 +132,7 @@ static inline int save_in_child(const struct way *way, const uint8_t *bytes) {
 static inline char kill_save(const struct way *way, unsigned before, enum deed deed, unsigned at, size_t cut) {
     prepare(way, before);
     begin_plan(deed, at, cut, 0);
-    return save_in_child(way, saved[before]) == KILLED ? what_loads(way, before) : 0;
+    return in_child(save_once, way, saved[before]) == KILLED ? what_loads(way, before) : 0;
 }
 
 #endif

@@ -142,6 +142,8 @@ static void run_names(const struct way *way) {
     check(way->save(path, "station", saved[0]) == BIVAMOLUNE_NOT_SAVED, "no folder to save in");
     check(way->save(folder, "./station", saved[0]) == BIVAMOLUNE_NOT_SAVED, "a name with a folder");
     check(way->save(folder, name, saved[0]) == BIVAMOLUNE_NOT_SAVED, "a name of 252");
+    check(way->save(folder, "", saved[0]) == BIVAMOLUNE_NOT_SAVED && way->save(folder, "..", saved[0]) == BIVAMOLUNE_NOT_SAVED
+        && way->save(folder, ".", saved[0]) == BIVAMOLUNE_NOT_SAVED, "no name of a file");
     check(way->save(folder, name + 1, saved[0]) == BIVAMOLUNE_SAVED && unlink(longest) == 0, "a name of 251");
 }
 

@@ -135,10 +135,10 @@ impl Citation<'_> {
     }
 }
 
-/// The names of a cell. One that says no place stands where the one before it does, and where
-/// none is said, anywhere.
+/// The names of a cell, without paths and edits. One that says no place stands where the one
+/// before it does, and where none is said, anywhere.
 fn citations<'a>(sources: &Sources, cell: &'a str) -> Vec<Citation<'a>> {
-    let cited = quoted(cell).into_iter().filter(|cited| !is_path(cited));
+    let cited = quoted(cell).into_iter().filter(|cited| !cited.contains('/'));
     let mut place = Place::Anywhere;
     let citation = |text: &'a str| {
         let mut name = text;
@@ -189,8 +189,8 @@ impl<'a> Row<'a> {
     }
 
     /// The cells in which definitions, laws and functions are cited.
-    fn named(&self) -> [&'a str; 2] {
-        [self.cell("Definition"), self.cell("Law or contract")]
+    fn named(&self) -> [&'a str; 3] {
+        ["Definition", "Law or contract", "Place"].map(|heading| self.cell(heading))
     }
 }
 
@@ -244,7 +244,7 @@ fn every_citation_of_promises_is_there() {
     );
 }
 
-/// The laws of the crates on which nothing stands, so that the proofs go on without them.
+/// The laws of the crates on which nothing stands, or little, so that the proofs go on without them.
 const END_THEOREMS: [&str; 3] = [
     "crates/claims/specs/Claims.antt",
     "crates/claims/specs/OwnCalls.antt",

@@ -1,5 +1,6 @@
--- What is promised of the calls as the host sees them, over what the functions for C were proved to leave behind: each promise at its full type, under the
--- words of the three demands and of documents 01 and 02. A buffer is a list of bytes; `×` is and, `⊎` or, `¬` not, `↔` exactly if, `∈` that a list has it.
+-- What is promised of the calls, each promise at its full type under the words of the three demands and of documents 01 and 02: of those for C as the host sees
+-- them, over what they were proved to leave behind; reader and texts of the library's own calls; offsets of the definitions.
+-- A buffer is a list of bytes; `×` is and, `⊎` or, `¬` not, `↔` exactly if, `∈` that a list has it.
 use mathlib.Core.Path.{_≡_}
 use mathlib.Core.Logic.{_↔_, _⊎_}
 use mathlib.Core.Bool.{true}
