@@ -102,6 +102,12 @@ fn is_path(cited: &str) -> bool {
     FOLDERS.iter().any(|folder| cited.starts_with(folder))
 }
 
+/// The must-fail edits among what a cell cites.
+fn edits_in(cell: &str) -> String {
+    let edits = quoted(cell).into_iter().filter(|cited| cited.contains('/'));
+    edits.map(|edit| format!("`{edit}`")).collect()
+}
+
 /// What a cell of must-fail edits cites in vain.
 fn missing_edits(cell: &str) -> Vec<String> {
     let mut missing = Vec::new();
@@ -138,7 +144,9 @@ impl Citation<'_> {
 /// The names of a cell, without paths and edits. One that says no place stands where the one
 /// before it does, and where none is said, anywhere.
 fn citations<'a>(sources: &Sources, cell: &'a str) -> Vec<Citation<'a>> {
-    let cited = quoted(cell).into_iter().filter(|cited| !cited.contains('/'));
+    let cited = quoted(cell)
+        .into_iter()
+        .filter(|cited| !cited.contains('/'));
     let mut place = Place::Anywhere;
     let citation = |text: &'a str| {
         let mut name = text;
@@ -224,10 +232,11 @@ fn missing(text: &str) -> Vec<String> {
         let paths = quoted(row.line).into_iter().filter(|cited| is_path(cited));
         let names = missing_names(row.cell("Example or test"));
         let edits = missing_edits(row.cell("Must-fail edit"));
+        let placed = missing_edits(&edits_in(row.cell("Place")));
         let named = row.named();
         let unknown = named.iter().flat_map(|cell| unknown_names(&sources, cell));
         let all = paths.flat_map(missing_path).chain(names).chain(edits);
-        let all = all.chain(unknown);
+        let all = all.chain(placed).chain(unknown);
         missing.extend(all.map(|what| format!("line {}: {what}", row.number)));
     }
     missing
