@@ -41,9 +41,9 @@ def laws(lines):
 
 
 def without(lines, start, name):
-    """The lines without a law: its type, what it unfolds, its clauses."""
+    """The lines without a law: its type, what it unfolds, its clauses, the brace that closes one."""
     at, edge = start + 1, depth(lines[start])
-    own = re.compile(rf'(unfolding |{re.escape(name)}( |$))')
+    own = re.compile(rf'(unfolding |{re.escape(name)}( |$)|}}$)')
     while at < len(lines) and lines[at].strip() and (depth(lines[at]) > edge or own.match(lines[at].lstrip())):
         at += 1
     return lines[:start] + lines[at:]
