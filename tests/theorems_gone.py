@@ -5,7 +5,7 @@
 
 For each public law of the files below it prints who misses it: `promises`, if the test of docs/PROMISES.md fails without it, and
 `proofs`, if `rt check claims` does (not asked of the claims themselves, on which nothing stands). Exits with 1 if nobody misses
-one. NAMEs are FILE or FILE.LAW; without any, all are tried, in some 15 minutes.
+one. NAMEs are FILE or FILE.LAW; without any, all are tried, in some 20 minutes.
 """
 import re
 import shutil
