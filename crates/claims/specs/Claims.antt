@@ -20,8 +20,8 @@ use Rattle.model.specs.Steps.{Step, undosOf, executionsOf, recordsBetween, Play
 use Rattle.model.specs.Compose.{newNumber, lastSequence}
 use Rattle.model.specs.Codes.{Conditions, lowestCode, emptyConditions, deliverConditions, composeConditions, readConditions, logMessageConditions, setpointConditions, readSequencesConditions, writeSequencesConditions}
 use Rattle.model.specs.Calls.{Emptied, empty, Delivered, deliver, Composed, compose, logMessageCode, logMessage, Setpoint, setpoint, start, Converted, convertedAnswer, front, readSequences, writeSequences}
-use Rattle.model.specs.Run.{Given, Event, imageAfter, Run, stateAfter, logAfter, oldLog, accepts?, codeFor, acceptedIn, Played, recordsRead, PairsPlayed}
-use Rattle.model.specs.RunOrder.{receivedIn}
+use Rattle.model_runs.specs.Run.{Given, Event, imageAfter, Run, stateAfter, logAfter, oldLog, accepts?, codeFor, acceptedIn, Played, recordsRead, PairsPlayed}
+use Rattle.model_runs.specs.RunOrder.{receivedIn}
 use Rattle.run_laws.specs.CalledRuns.{Began, Answered}
 use Rattle.compose_laws.specs.ComposeLaws.{messageBy}
 use Rattle.compose_laws.specs.ComposedFields.{NeededByNone}

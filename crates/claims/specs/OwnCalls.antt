@@ -4,8 +4,8 @@ use mathlib.Core.Path.{_≡_}
 use mathlib.Core.List.{List}
 use Prim.Native.Nat.{ℕ}
 use Rattle.model.specs.Calls.{Composed}
-use Rattle.model.specs.Run.{Agreement}
-use Rattle.model.specs.RunOrder.{OrderKept}
+use Rattle.model_runs.specs.Run.{Agreement}
+use Rattle.model_runs.specs.RunOrder.{OrderKept}
 use Rattle.run_laws.specs.CalledRuns.{Began, Answered}
 use Rattle.compose_laws.specs.ComposePromise.{ComposePromise}
 use Rattle.runs.specs.Runs as runs

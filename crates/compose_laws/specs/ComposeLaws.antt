@@ -22,7 +22,7 @@ use Rattle.model.specs.Compose.{newNumber, newSequence, unneeded, newDependenci
 use Rattle.model.specs.Codes.{commandsSized, composeContent, heldOn, pastLimit, manyDependencies, smallSteps, conflicts, full, present}
 use Rattle.model.specs.Calls.{Composed, composeAnswer, composeCode, compose, deliver}
 use Rattle.model.specs.PlainStation.{accepts, receive}
-use Rattle.model.specs.Run.{delivery}
+use Rattle.model_runs.specs.Run.{delivery}
 use Rattle.order.specs.TestLaws.{and-l, and-r, and-i, nor-l, nor-r, decide, has→∈, ∈→has, some-∈}
 use Rattle.order.specs.KeyOrder.{less-total}
 use Rattle.order.specs.ListingLaws.{after-has}

@@ -13,7 +13,7 @@ use Rattle.model.specs.Image.{imageOf, Valid, stateIn, isImage}
 use Rattle.model.specs.Codes.{wrongSize, smallSteps}
 use Rattle.model.specs.Calls.{Delivered, deliverAnswer, deliverCode, deliver}
 use Rattle.model.specs.PlainStation.{receive}
-use Rattle.model.specs.Run.{delivery}
+use Rattle.model_runs.specs.Run.{delivery}
 use Rattle.laws.specs.LogLaws.{log-length}
 use Rattle.laws.specs.ImageLaws.{image-own, own-valid}
 use Rattle.laws.specs.DeliverLaws.{receive-valid}

@@ -12,7 +12,7 @@ use Rattle.model.specs.Image.{messagesStart, messagesOf, valuesOf, heade
 use Rattle.model.specs.Steps.{Step, undo, execute, executionOf, undoOf, recordsOf, recordBytes}
 use Rattle.model.specs.Calls.{written, emptyAnswer, Delivered, deliverAnswer, composeAnswer, setpointAnswer, start, nextMessage}
 use Rattle.model.proofs.ExampleMessages.{A, B, a1, a2, b1, c2, holding}
-use Rattle.model.proofs.ExampleEvents.{setting}
+use Rattle.model.proofs.RecordExamples.{setting}
 
 -- the bytes used of the image of A1 and B1 in the log and C2 held: all that these answers read of it
 abbrev used : List ℕ

@@ -1,5 +1,4 @@
 pub mod ExampleMessages
-pub mod ExampleEvents
 pub mod MessageExamples
 pub mod GroundExamples
 pub mod ListingExamples
@@ -18,9 +17,5 @@ pub mod CodeLists
 pub mod ConditionExamples
 pub mod AnswerExamples
 pub mod PlainStationExamples
-pub mod RunExamples
-pub mod AcceptedExamples
 pub mod PairExamples
-pub mod NearMisses
-pub mod AgreementExamples
 pub mod ProgramExamples

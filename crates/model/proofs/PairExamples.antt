@@ -1,18 +1,15 @@
--- Records played on setpoints beside the executions that stand: what can be played, over a run too, and what can not be.
+-- Records played on setpoints beside the executions that stand: what can be played, and what can not be.
 use mathlib.Core.Path.{_≡_, refl, ap}
 use mathlib.Core.List.{List, [], _∷_}
-use Prim.Native.Nat.{ℕ, _+_}
+use Prim.Native.Nat.{ℕ}
 use native.Mathlib.Omega.{arith}
 use lib.ListN.{replicate, set}
 use lib.IntN.{ℤ, pos, negsuc}
 use Rattle.model.specs.Bytes.{word}
-use Rattle.model.specs.Layout.{tagCount, setpointsStart, valuesSize}
-use Rattle.model.specs.Image.{valuesIn}
-use Rattle.model.specs.Steps.{undo, execute, Pair, pairOf, recordBytes, readRecord, Standing, PlaysPairs}
-use Rattle.model.specs.Run.{PairsPlayed}
+use Rattle.model.specs.Layout.{tagCount}
+use Rattle.model.specs.Steps.{undo, execute, Pair, pairOf, Standing, PlaysPairs}
 use Rattle.model.proofs.ExampleMessages.{A, B}
-use Rattle.model.proofs.ExampleEvents.{setting}
-use Rattle.model.proofs.RunExamples.{two}
+use Rattle.model.proofs.RecordExamples.{setting}
 
 -- all setpoints zero but tag 3
 abbrev pub tag3 : ℤ → List ℤ
@@ -23,22 +20,10 @@ abbrev pub standing : ℕ → ℤ → Standing
 standing s value = record { sequence = s; found = pairOf 3 value ∷ [] }
 
 -- B1 stands, is undone, and is executed after A1.
-b1-then-a1 : PlaysPairs (standing (B 1) (pos 0) ∷ []) (tag3 (negsuc 19))
+pub b1-then-a1 : PlaysPairs (standing (B 1) (pos 0) ∷ []) (tag3 (negsuc 19))
     (setting (undo (B 1)) (pos 0) ∷ setting (execute (A 1)) (pos 1500) ∷ setting (execute (B 1)) (pos 1480) ∷ [])
     (standing (B 1) (pos 1500) ∷ standing (A 1) (pos 0) ∷ []) (tag3 (pos 1480))
 b1-then-a1 = ([], refl, (standing (A 1) (pos 0) ∷ [], refl, (standing (B 1) (pos 1500) ∷ standing (A 1) (pos 0) ∷ [], refl, (refl, refl))))
-
--- The same over the run of both calls, from an image of zeros on.
-over-both : PairsPlayed (replicate (setpointsStart + valuesSize) 0) two (standing (B 1) (pos 1500) ∷ standing (A 1) (pos 0) ∷ []) (tag3 (pos 1480))
-unfolding valuesIn readRecord recordBytes
-over-both = (
-  standing (B 1) (pos 0) ∷ [],
-  tag3 (negsuc 19),
-  setting (undo (B 1)) (pos 0) ∷ setting (execute (A 1)) (pos 1500) ∷ setting (execute (B 1)) (pos 1480) ∷ [],
-  ([], tag3 (pos 0), setting (execute (B 1)) (negsuc 19) ∷ [], (refl, refl), refl, (standing (B 1) (pos 0) ∷ [], refl, (refl, refl))),
-  refl,
-  b1-then-a1,
-)
 
 -- ---- an undo lists what its execution found: B1 found 999990 and added 20, which was stopped at 1000000; a subtraction gives 999980
 abbrev foundBefore : List Pair → ℕ

@@ -1,15 +1,11 @@
--- Steps played on a log, and the steps of a call: what can be played and where it leads, and what can not be.
+-- Steps played on a log: what can be played and where it leads, and what can not be.
 use mathlib.Core.Path.{_≡_, refl, sym, _∙_, ap}
-use mathlib.Core.Option.{Option, some, none}
-use mathlib.Core.List.{List, [], _∷_, _++_, map}
-use Prim.Native.Nat.{ℕ, suc}
+use mathlib.Core.List.{List, [], _∷_, _++_}
+use Prim.Native.Nat.{ℕ}
 use native.Mathlib.Omega.{arith}
-use lib.ListN.{length, getD}
-use lib.IntN.{pos}
-use Rattle.model.specs.Steps.{Step, undo, execute, recordBytes, readRecord, Plays}
-use Rattle.model.specs.Run.{Event, StepsTaken}
-use Rattle.model.proofs.ExampleMessages.{A, B, a1, b1, a1-value}
-use Rattle.model.proofs.ExampleEvents.{setting, image, event}
+use lib.ListN.{getD}
+use Rattle.model.specs.Steps.{undo, execute, Plays}
+use Rattle.model.proofs.ExampleMessages.{A, B}
 
 -- ---- what can be played
 b1-then-a1 : Plays (B 1 ∷ []) (undo (B 1) ∷ execute (A 1) ∷ execute (B 1) ∷ []) (A 1 ∷ B 1 ∷ [])
@@ -37,50 +33,3 @@ not-the-last (rest, named, left) =
 -- "an execution adds the named delta at its end"
 in-front : Plays (B 1 ∷ []) (execute (A 1) ∷ []) (A 1 ∷ B 1 ∷ []) → ⊥
 in-front log = a1-is-not-b1 (sym (ap (λ (l : List ℕ). getD l 0 0) log))
-
--- ---- "The steps of a call are the records at the front of its step buffer: as many undos as its answer counts, then as many executions"
--- A1 after B1: undo B1, execute A1, B1. The answer counts so many undos and executions.
-abbrev counting : ℕ → ℕ → Event
-counting undos executions =
-    event a1 0 undos executions (setting (undo (B 1)) (pos 0) ∷ setting (execute (A 1)) (pos 1500) ∷ setting (execute (B 1)) (pos 1480) ∷ []) (image (a1 ∷ b1 ∷ []))
-
-counted : StepsTaken (counting 1 2) (B 1 ∷ []) (A 1 ∷ B 1 ∷ [])
-unfolding readRecord recordBytes
-counted = record { read = refl; undos = refl; executions = refl }
-
--- "a refused call has none", whatever stands in its buffer
-refused : StepsTaken (event (a1-value 2) 7 0 0 (setting (execute (A 1)) (pos 1500) ∷ []) (image (a1 ∷ []))) [] []
-refused = record { read = refl; undos = refl; executions = refl }
-
--- how many of some steps are undos
-abbrev undosAmong : List Step → ℕ
-undosAmong [] = 0
-undosAmong (undo s ∷ l) = suc (undosAmong l)
-undosAmong (execute s ∷ l) = undosAmong l
-
-abbrev undosRead : Option (List Step) → ℕ
-undosRead none = 0
-undosRead (some l) = undosAmong l
-
-executions-alone : (executed : List ℕ) → undosAmong (map execute executed) ≡ 0
-executions-alone [] = refl
-executions-alone (s ∷ executed) = executions-alone executed
-
-undos-first : (undone executed : List ℕ) → undosAmong (map undo undone ++ map execute executed) ≡ length undone
-undos-first [] executed = executions-alone executed
-undos-first (s ∷ undone) executed = ap suc (undos-first undone executed)
-
--- honest steps, but counts that are not theirs: two undos and an execution, or as many steps and no undo
-counted-freely : (undone executed : List ℕ) → StepsTaken (counting 2 1) undone executed → ⊥
-unfolding readRecord recordBytes
-counted-freely undone executed taken =
-    let one : 1 ≡ length undone = ap undosRead (taken .read) ∙ undos-first undone executed in
-    let two : length undone ≡ 2 = taken .undos in
-    omega arith
-
-none-counted : (undone executed : List ℕ) → StepsTaken (counting 0 3) undone executed → ⊥
-unfolding readRecord recordBytes
-none-counted undone executed taken =
-    let one : 1 ≡ length undone = ap undosRead (taken .read) ∙ undos-first undone executed in
-    let none : length undone ≡ 0 = taken .undos in
-    omega arith

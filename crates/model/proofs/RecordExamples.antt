@@ -8,9 +8,16 @@ use lib.ListN.{take, drop, replicate}
 use lib.IntN.{ℤ, pos, negsuc}
 use Rattle.model.specs.Message.{Message}
 use Rattle.model.specs.Setpoints.{stop, raise, operate, changeOf, apply, runCommand, runDelta, changesOf}
-use Rattle.model.specs.Steps.{undo, execute, Pair, pairOf, StepRecord, executionOf, undoOf, recordsOf, recordBytes, recordsBytes, readRecord, readRecords, readSteps, setPairs, foundBy}
+use Rattle.model.specs.Steps.{Step, undo, execute, Pair, pairOf, StepRecord, executionOf, undoOf, recordsOf, recordBytes, recordsBytes, readRecord, readRecords, readSteps, setPairs, foundBy}
 use Rattle.model.proofs.ExampleMessages.{A, B, command, plain, a1, b1, stopped, raised}
-use Rattle.model.proofs.ExampleEvents.{carrying}
+
+-- ---- records
+abbrev pub carrying : Step → List Pair → StepRecord
+carrying step pairs = record { step = step; pairs = pairs }
+
+-- a step that sets tag 3 alone
+abbrev pub setting : Step → ℤ → StepRecord
+setting step value = carrying step (pairOf 3 value ∷ [])
 
 -- ---- a delta that finds these setpoints: its execution's pairs, and its undo's
 abbrev found : List ℤ

@@ -12,6 +12,4 @@ pub mod Text
 pub mod Codes
 pub mod Calls
 pub mod PlainStation
-pub mod Run
-pub mod RunOrder
 pub mod Program

@@ -5,8 +5,8 @@ use mathlib.Core.List.{List}
 use Prim.Native.Nat.{ℕ}
 use Rattle.model.specs.Message.{Message}
 use Rattle.model.specs.Calls.{Emptied, empty, Delivered, deliver}
-use Rattle.model.specs.Run.{Given, Call, delivery, Agreement, Begins, Answers}
-use Rattle.model.specs.RunOrder.{OrderKept}
+use Rattle.model_runs.specs.Run.{Given, Call, delivery, Agreement, Begins, Answers}
+use Rattle.model_runs.specs.RunOrder.{OrderKept}
 use Rattle.run_laws.specs.RunLaws.{agreement-of}
 use Rattle.run_laws.specs.OrderRuns.{order-kept-of}
 

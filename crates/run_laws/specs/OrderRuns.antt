@@ -8,8 +8,8 @@ use Rattle.model.specs.Message.{Message}
 use Rattle.model.specs.Order.{State, Ascending, Executable, Grounded, IsLog, logOf, heldOf}
 use Rattle.model.specs.Image.{imageOf, Valid, logIn, heldIn}
 use Rattle.model.specs.Calls.{Delivered}
-use Rattle.model.specs.Run.{Given, Call, Event, Run, stateAfter, Begins, Answers}
-use Rattle.model.specs.RunOrder.{receivedIn, InOrder, OrderKept}
+use Rattle.model_runs.specs.Run.{Given, Call, Event, Run, stateAfter, Begins, Answers}
+use Rattle.model_runs.specs.RunOrder.{receivedIn, InOrder, OrderKept}
 use Rattle.order.specs.TestLaws.{Same}
 use Rattle.laws.specs.LogLaws.{log-is, log-executable, log-grounded, held-executable, held-ascends, ring-stays, ring-held}
 use Rattle.laws.specs.ImageLaws.{log-back, held-back}

@@ -12,7 +12,7 @@ use Rattle.model.specs.Setpoints.{setpointsOf}
 use Rattle.model.specs.Image.{imageOf, valuesIn, Valid}
 use Rattle.model.specs.Steps.{StepRecord, recordsBetween, Standing, PlaysPairs}
 use Rattle.model.specs.Calls.{emptyState}
-use Rattle.model.specs.Run.{Event, recordsRead, PairsPlayed}
+use Rattle.model_runs.specs.Run.{Event, recordsRead, PairsPlayed}
 use Rattle.laws.specs.ValueLaws.{values-back}
 use Rattle.laws.specs.PairLaws.{standingIn, state-pairs-play, pairs-unique}
 

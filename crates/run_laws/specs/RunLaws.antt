@@ -18,7 +18,7 @@ use Rattle.model.specs.Steps.{Step, undo, execute, common, stepsOf, undosOf, ex
 use Rattle.model.specs.Codes.{lowestCode, emptyConditions}
 use Rattle.model.specs.Calls.{Delivered, deliverAnswer, emptyState, emptyAnswer, empty}
 use Rattle.model.specs.PlainStation.{accepts, receive}
-use Rattle.model.specs.Run.{Given, Call, delivery, Event, imageAfter, Run, accepts?, stateBegun, stateNext, stateAfter, logAfter, playedFrom, oldLog, codeFor, messageOfCall, acceptedIn, SameAccepted, StepsTaken, Played, Agreement, Begins, Answers}
+use Rattle.model_runs.specs.Run.{Given, Call, delivery, Event, imageAfter, Run, accepts?, stateBegun, stateNext, stateAfter, logAfter, playedFrom, oldLog, codeFor, messageOfCall, acceptedIn, SameAccepted, StepsTaken, Played, Agreement, Begins, Answers}
 use Rattle.order.specs.StepLaws.{steps-play, steps-fewest, steps-counted, common-self, plays-unique}
 use Rattle.order.specs.TestLaws.{Same}
 use Rattle.laws.specs.SetLaws.{insert-from, insert-keeps, insert-has, ascending-unique}

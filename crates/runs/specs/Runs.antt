@@ -7,8 +7,8 @@ use denote.Ref.{now, RefT}
 use contract.Lifetimes.{Lfts}
 use Rattle.model.specs.Message.{Message}
 use Rattle.model.specs.Calls.{Emptied, empty, Delivered, deliver}
-use Rattle.model.specs.Run.{Agreement}
-use Rattle.model.specs.RunOrder.{OrderKept}
+use Rattle.model_runs.specs.Run.{Agreement}
+use Rattle.model_runs.specs.RunOrder.{OrderKept}
 use Rattle.run_laws.specs.CalledRuns.{Began, Answered, called-agreement, called-order}
 use Rattle.deliver.specs.declared.answer.Delivery.{Delivery}
 use Rattle.emptying.specs.declared.Emptying.{Emptying}

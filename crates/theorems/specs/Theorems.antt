@@ -20,8 +20,8 @@ use Rattle.model.specs.Steps.{Step, common, undosOf, executionsOf, stepsOf, rec
 use Rattle.model.specs.Codes.{Conditions, lowestCode, deliverConditions, composeConditions, emptyConditions, logMessageConditions, setpointConditions, readSequencesConditions, writeSequencesConditions}
 use Rattle.model.specs.Calls.{empty, Delivered, deliver, compose, logMessageCode, logMessage, setpoint, messageAt, convertedAnswer, front, readSequences, writeSequences}
 use Rattle.model.specs.PlainStation.{receive}
-use Rattle.model.specs.Run.{delivery, Agreement, Begins, Answers}
-use Rattle.model.specs.RunOrder.{OrderKept}
+use Rattle.model_runs.specs.Run.{delivery, Agreement, Begins, Answers}
+use Rattle.model_runs.specs.RunOrder.{OrderKept}
 use Rattle.order.specs.KeyOrder.{Total}
 use Rattle.order.specs.TestLaws.{Same}
 use Rattle.order.specs.CommonLaws.{common-start, common-longest}

@@ -1,4 +1,4 @@
--- The worked run of `model` is one of the definitions' own calls: each of its answers, written there by hand, is what `deliver` gives to
+-- The worked run of `model_runs` is one of the definitions' own calls: each of its answers, written there by hand, is what `deliver` gives to
 -- the image as the last call left it, byte for byte.
 use mathlib.Core.Path.{refl}
 use Rattle.model.specs.Message.{layoutRight, numbersRight, dependenciesRight, contentRight, commandRight, passes}
@@ -7,9 +7,9 @@ use Rattle.model.specs.Setpoints.{startValues, stop, raise, operate, changeOf, 
 use Rattle.model.specs.Image.{messagesStart, messagesOf, valuesOf, headerOf, sectionsOf, usedOf, imageOf, messagesStartIn, originIn, isImage}
 use Rattle.model.specs.Steps.{executionOf, undoOf, recordsOf, recordBytes}
 use Rattle.model.specs.Calls.{empty, emptyState, deliver, deliverCode}
-use Rattle.model.specs.Run.{Run, Begins, Answers}
-use Rattle.model.proofs.ExampleEvents.{given}
-use Rattle.model.proofs.RunExamples.{whole}
+use Rattle.model_runs.specs.Run.{Run, Begins, Answers}
+use Rattle.model_runs.proofs.ExampleEvents.{given}
+use Rattle.model_runs.proofs.RunExamples.{whole}
 
 begins : Begins given (imageOf emptyState)
 unfolding empty

@@ -3,15 +3,16 @@ use mathlib.Core.Option.{Option, none, some}
 use mathlib.Core.List.{List, [], _∷_}
 use Prim.Native.Nat.{ℕ}
 use lib.ListN.{replicate}
-use lib.IntN.{ℤ, pos, negsuc}
+use lib.IntN.{pos, negsuc}
 use Rattle.model.specs.Bytes.{word}
 use Rattle.model.specs.Layout.{imageSize, stepRoom}
 use Rattle.model.specs.Message.{Message}
 use Rattle.model.specs.Image.{imageOf}
-use Rattle.model.specs.Steps.{Step, execute, Pair, pairOf, StepRecord, recordsBytes}
+use Rattle.model.specs.Steps.{execute, Pair, StepRecord, recordsBytes}
 use Rattle.model.specs.Calls.{written}
-use Rattle.model.specs.Run.{Given, delivery, Event}
+use Rattle.model_runs.specs.Run.{Given, delivery, Event}
 use Rattle.model.proofs.ExampleMessages.{A, B, a1, b1, holding}
+use Rattle.model.proofs.RecordExamples.{setting}
 
 -- what empty was given
 abbrev pub given : Given
@@ -20,13 +21,6 @@ given = record { buffer = replicate imageSize 0xEE }
 -- a step buffer as lent
 abbrev pub lent : List ℕ
 lent = replicate stepRoom 0xEE
-
-abbrev pub carrying : Step → List Pair → StepRecord
-carrying step pairs = record { step = step; pairs = pairs }
-
--- a step that sets tag 3 alone
-abbrev pub setting : Step → ℤ → StepRecord
-setting step value = carrying step (pairOf 3 value ∷ [])
 
 -- the image of these deltas, in whichever order
 abbrev pub image : List Message → List ℕ

@@ -7,17 +7,18 @@ use Prim.Native.Nat.{ℕ, _≤_}
 use native.Mathlib.Omega.{arith}
 use lib.ListN.{length, getD}
 use lib.IntN.{pos}
 use Rattle.model.specs.Bytes.{word}
 use Rattle.model.specs.Message.{Message, layoutRight, numbersRight, dependenciesRight, contentRight, commandRight, passes}
 use Rattle.model.specs.Order.{needs, logOf}
 use Rattle.model.specs.Setpoints.{startValues, stop, raise, operate, changeOf, apply, runCommand, runDelta, changesOf}
 use Rattle.model.specs.Image.{logCount, imageOf, usedOf, sectionsOf, headerOf}
 use Rattle.model.specs.Steps.{undo, execute, executionOf, undoOf, recordsOf, recordBytes, readRecord, Plays}
 use Rattle.model.specs.Calls.{Delivered}
 use Rattle.model.specs.PlainStation.{accepts, receive}
-use Rattle.model.specs.Run.{Given, Call, Event, Run, Played, Agreement}
+use Rattle.model_runs.specs.Run.{Given, Call, Event, Run, Played, Agreement}
 use Rattle.model.proofs.ExampleMessages.{A, B, command, plain, a1, a2, b1, a1-naming-b1}
-use Rattle.model.proofs.ExampleEvents.{given, setting, image, event, start, first-a1, first-b1, firstValue}
+use Rattle.model.proofs.RecordExamples.{setting}
+use Rattle.model_runs.proofs.ExampleEvents.{given, image, event, start, first-a1, first-b1, firstValue}
 
 module _ (begins : Given → List ℕ → Type 0) (answers : List ℕ → Call → Delivered → Type 0) (agreement : Agreement begins answers) (begun : begins given start) where
   -- ---- "One that plays honest undos and executions but counts them freely": an execution more

@@ -5,20 +5,21 @@ use Prim.Native.Nat.{ℕ}
 use native.Mathlib.Omega.{arith}
 use lib.ListN.{getD}
 use lib.IntN.{ℤ, pos}
 use Rattle.model.specs.Bytes.{word}
 use Rattle.model.specs.Message.{Message, layoutRight, numbersRight, dependenciesRight, contentRight, commandRight, passes}
 use Rattle.model.specs.Order.{needs, logOf, heldOf}
 use Rattle.model.specs.Setpoints.{startValues, operate, changeOf, apply, runCommand, runDelta, changesOf, setpointsOf}
 use Rattle.model.specs.Image.{messagesOf, valuesOf, headerOf, sectionsOf, usedOf, imageOf, logCount, valuesIn}
 use Rattle.model.specs.Steps.{undo, execute, pairOf, executionOf, recordsOf, recordBytes, readRecord}
 use Rattle.model.specs.Calls.{Delivered, deliverCode}
 use Rattle.model.specs.PlainStation.{accepts, receive}
-use Rattle.model.specs.Run.{Given, Call, delivery, Event, Run, PairsPlayed, Agreement}
+use Rattle.model_runs.specs.Run.{Given, Call, delivery, Event, Run, PairsPlayed, Agreement}
 use Rattle.model.proofs.ExampleMessages.{A, B, C, command, plain, a1, b1}
-use Rattle.model.proofs.ExampleEvents.{given, carrying, setting, image, event, start, first-a1, first-b1, firstValue}
-use Rattle.model.proofs.RunExamples.{a1-again, two}
-use Rattle.model.proofs.AcceptedExamples.{in-either}
+use Rattle.model.proofs.RecordExamples.{carrying, setting}
+use Rattle.model_runs.proofs.ExampleEvents.{given, image, event, start, first-a1, first-b1, firstValue}
+use Rattle.model_runs.proofs.RunExamples.{a1-again, two}
+use Rattle.model_runs.proofs.AcceptedExamples.{in-either}
 use Rattle.model.proofs.PairExamples.{tag3, standing}
 
 module _ (begins : Given → List ℕ → Type 0) (answers : List ℕ → Call → Delivered → Type 0) (agreement : Agreement begins answers) (begun : begins given start) where
   -- ---- a message that must be refused is answered with 0: tag 64

@@ -4,13 +4,14 @@ use mathlib.Core.Logic.{_↔_}
 use mathlib.Core.List.{List, [], _∷_, List·Memᴰ·head, List·Memᴰ·tail}
 use native.Mathlib.Omega.{arith}
 use lib.IntN.{pos}
 use Rattle.model.specs.Lists.{_∈_}
 use Rattle.model.specs.Message.{Message, sequenceOf}
 use Rattle.model.specs.Steps.{execute}
-use Rattle.model.specs.Run.{Event, acceptedIn, SameAccepted}
+use Rattle.model_runs.specs.Run.{Event, acceptedIn, SameAccepted}
 use Rattle.model.proofs.ExampleMessages.{B, a1, b1, c1, c2}
-use Rattle.model.proofs.ExampleEvents.{given, setting, image, event, first-a1}
-use Rattle.model.proofs.RunExamples.{a1-again, wrong-c1, two, whole}
+use Rattle.model.proofs.RecordExamples.{setting}
+use Rattle.model_runs.proofs.ExampleEvents.{given, image, event, first-a1}
+use Rattle.model_runs.proofs.RunExamples.{a1-again, wrong-c1, two, whole}
 
 -- ---- the messages that were answered with 0: none that was refused, and A1 twice
 accepted : acceptedIn whole ≡ c1 ∷ c2 ∷ a1 ∷ a1 ∷ b1 ∷ []

@@ -3,12 +3,12 @@
 use mathlib.Core.Logic.{_↔_}
 use mathlib.Core.List.{List, _++_}
 use Prim.Native.Nat.{ℕ}
 use Rattle.model.specs.Lists.{_∈_}
 use Rattle.model.specs.Message.{Message}
 use Rattle.model.specs.Order.{State, Ascending, MeetsRing, Executable, Grounded, IsLog}
 use Rattle.model.specs.Image.{logIn, heldIn}
 use Rattle.model.specs.Calls.{Delivered}
-use Rattle.model.specs.Run.{Given, Call, Event, imageAfter, Run, stateAfter, acceptedIn}
+use Rattle.model_runs.specs.Run.{Given, Call, Event, imageAfter, Run, stateAfter, acceptedIn}
 
 -- The received deltas: those that the calls accepted.
 abbrev pub receivedIn : List Event → List Message

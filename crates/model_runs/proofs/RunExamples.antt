@@ -3,19 +3,22 @@
 use mathlib.Core.Path.{_≡_, refl, ap}
 use mathlib.Core.Bool.{Bool, true, false}
 use mathlib.Core.List.{List, [], _∷_, map}
-use Prim.Native.Nat.{ℕ}
+use Prim.Native.Nat.{ℕ, _+_}
 use native.Mathlib.Omega.{arith}
 use lib.ListN.{length, replicate}
-use lib.IntN.{pos}
+use lib.IntN.{pos, negsuc}
+use Rattle.model.specs.Layout.{setpointsStart, valuesSize}
 use Rattle.model.specs.Message.{Message, layoutRight, numbersRight, dependenciesRight, contentRight, commandRight, passes}
 use Rattle.model.specs.Order.{State, sequencesOf, needs, logOf}
-use Rattle.model.specs.Image.{imageOf}
+use Rattle.model.specs.Image.{imageOf, valuesIn}
 use Rattle.model.specs.Steps.{undo, execute, pairOf, recordBytes, readRecord}
 use Rattle.model.specs.Calls.{Delivered, emptyState}
 use Rattle.model.specs.PlainStation.{accepts, receive}
-use Rattle.model.specs.Run.{Call, delivery, Event, Run, accepts?, stateNext, stateAfter, logAfter, Played}
+use Rattle.model_runs.specs.Run.{Call, delivery, Event, Run, accepts?, stateNext, stateAfter, logAfter, Played, PairsPlayed}
 use Rattle.model.proofs.ExampleMessages.{A, B, C, command, plain, a1, b1, c1, c2, holding}
-use Rattle.model.proofs.ExampleEvents.{given, carrying, setting, image, event, start, first-b1}
+use Rattle.model.proofs.RecordExamples.{carrying, setting}
+use Rattle.model.proofs.PairExamples.{tag3, standing, b1-then-a1}
+use Rattle.model_runs.proofs.ExampleEvents.{given, image, event, start, first-b1}
 
 -- ---- the calls, after `first-b1`
 abbrev pub then-a1 : Event
@@ -130,3 +133,15 @@ played-freed = (A 1 ∷ B 1 ∷ [], [], C 1 ∷ C 2 ∷ [], played-held, record 
 -- "The played log starts empty."
 starts-empty : Played [] (A 1 ∷ []) → ⊥
 starts-empty e = let one : length (A 1 ∷ []) ≡ length {A = ℕ} [] = ap length e in omega arith
+
+-- ---- the pairs of the first two calls, played from an image of zeros on
+over-both : PairsPlayed (replicate (setpointsStart + valuesSize) 0) two (standing (B 1) (pos 1500) ∷ standing (A 1) (pos 0) ∷ []) (tag3 (pos 1480))
+unfolding valuesIn readRecord recordBytes
+over-both = (
+  standing (B 1) (pos 0) ∷ [],
+  tag3 (negsuc 19),
+  setting (undo (B 1)) (pos 0) ∷ setting (execute (A 1)) (pos 1500) ∷ setting (execute (B 1)) (pos 1480) ∷ [],
+  ([], tag3 (pos 0), setting (execute (B 1)) (negsuc 19) ∷ [], (refl, refl), refl, (standing (B 1) (pos 0) ∷ [], refl, (refl, refl))),
+  refl,
+  b1-then-a1,
+)

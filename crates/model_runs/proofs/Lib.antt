@@ -1,0 +1,6 @@
+pub mod ExampleEvents
+pub mod TakenExamples
+pub mod RunExamples
+pub mod AcceptedExamples
+pub mod NearMisses
+pub mod AgreementExamples
