@@ -61,13 +61,13 @@ stateAfter given (e ∷ earlier) = stateNext (stateAfter given earlier) (e .call
 abbrev pub logAfter : Given → List Event → List ℕ
 logAfter given events = sequencesOf (logOf (stateAfter given events))
 
--- the log that a call's steps are played from: as it was left
-abbrev pub playedFrom : Call → List ℕ → List ℕ
-playedFrom (delivery m steps) log = log
+-- the log that a call's steps are played from, by the call's code: as it was left
+abbrev pub playedFrom : {A : Type 0} → Call → ℕ → List A → List A
+playedFrom (delivery m steps) code log = log
 
 -- a call's old log: the one before it, as its steps find it
 abbrev pub oldLog : Given → Event → List Event → List ℕ
-oldLog given e earlier = playedFrom (e .call) (logAfter given earlier)
+oldLog given e earlier = playedFrom (e .call) (e .answer .code) (logAfter given earlier)
 
 -- the lowest number that applies
 abbrev pub codeFor : List ℕ → Call → ℕ
@@ -97,7 +97,7 @@ abbrev pub Played : List Event → List ℕ → Type 0
 Played [] log = log ≡ []
 Played (e ∷ earlier) log =
     (old : List ℕ) × (undone : List ℕ) × (executed : List ℕ) × Played earlier old × StepsTaken e undone executed
-    × Plays (playedFrom (e .call) old) (map undo undone ++ map execute executed) log
+    × Plays (playedFrom (e .call) (e .answer .code) old) (map undo undone ++ map execute executed) log
 
 -- The records of a call, with their pairs.
 abbrev pub recordsRead : Event → Option (List StepRecord)

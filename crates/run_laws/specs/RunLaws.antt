@@ -35,13 +35,13 @@ pub record CallFacts (S next : State) (c : Call) (a : Delivered) : Type 0 where
   pub accepted : (a .code ≡ 0) ↔ T (accepts? S c)
   pub code : a .code ≡ codeFor (imageOf S) c
   pub image : a .image ≡ imageOf next
-  pub undos : a .undos ≡ undosOf (playedFrom c (sequencesOf (logOf S))) (sequencesOf (logOf next))
-  pub executions : a .executions ≡ executionsOf (playedFrom c (sequencesOf (logOf S))) (sequencesOf (logOf next))
+  pub undos : a .undos ≡ undosOf (playedFrom c (a .code) (sequencesOf (logOf S))) (sequencesOf (logOf next))
+  pub executions : a .executions ≡ executionsOf (playedFrom c (a .code) (sequencesOf (logOf S))) (sequencesOf (logOf next))
   pub records : readRecords (a .undos + a .executions) (a .steps) ≡ some (recordsBetween S next)
 
 -- the steps alone
 pub steps-read : (S next : State) (c : Call) (a : Delivered) → CallFacts S next c a
-    → readSteps (a .undos + a .executions) (a .steps) ≡ some (stepsOf (playedFrom c (sequencesOf (logOf S))) (sequencesOf (logOf next)))
+    → readSteps (a .undos + a .executions) (a .steps) ≡ some (stepsOf (playedFrom c (a .code) (sequencesOf (logOf S))) (sequencesOf (logOf next)))
 steps-read S next (delivery m steps) a facts = ap stepsIn (facts .records) ∙ ap some (records-steps (startValues S) (logOf S) (logOf next))
 
 -- no step from a log to itself
@@ -170,7 +170,7 @@ undone-length : (old new : List ℕ) → length (reverse (drop (common old new) 
 undone-length old new = length-reverse (drop (common old new) old) ∙ length-drop (common old new) old
 
 taken : (old new : List ℕ) (S next : State) (e : Event) → CallFacts S next (e .call) (e .answer)
-    → old ≡ playedFrom (e .call) (sequencesOf (logOf S)) → new ≡ sequencesOf (logOf next)
+    → old ≡ playedFrom (e .call) (e .answer .code) (sequencesOf (logOf S)) → new ≡ sequencesOf (logOf next)
     → StepsTaken e (reverse (drop (common old new) old)) (drop (common old new) new)
 taken old new S next e facts p q = record {
   read = steps-read S next (e .call) (e .answer) facts ∙ ap₂ (λ (k l : List ℕ). some (stepsOf k l)) (sym p) (sym q);
@@ -197,7 +197,7 @@ plays-log given b begun (e ∷ earlier) run log = go (event-facts given b begun 
     go facts ih = (
       λ p. plays-unique (stepsOf old new) old log new
           (subst (λ (ss : List Step). Plays old ss log) (Option·some-injective _ _ (sym (p .4 .read) ∙ steps-read (stateAfter given earlier) (stateAfter given (e ∷ earlier)) (e .call) (e .answer) facts))
-          (subst (λ (l : List ℕ). Plays (playedFrom (e .call) l) (map undo (p .1) ++ map execute (p .2)) log) (ih (p .0) .0 (p .3)) (p .5)))
+          (subst (λ (l : List ℕ). Plays (playedFrom (e .call) (e .answer .code) l) (map undo (p .1) ++ map execute (p .2)) log) (ih (p .0) .0 (p .3)) (p .5)))
           (steps-play old new),
       λ q. (
         left,
