@@ -102,15 +102,16 @@ play-undos (m ∷ l) earlier values rest end final h =
     )
 
 -- ---- between two logs
--- Records that can be played from the setpoints of a log, where its executions stand, to those of another.
-abbrev Leads : List ℤ → List Message → List StepRecord → List Message → Type 0
-Leads start old l new = PlaysPairs (standingBy [] old start) (runLog old start) l (standingBy [] new start) (runLog new start)
+-- Records that can be played from the setpoints of a log, where its executions stand on those of the past, to those of another.
+abbrev Leads : List Standing → List ℤ → List Message → List StepRecord → List Message → Type 0
+Leads past start old l new = PlaysPairs (standingBy past old start) (runLog old start) l (standingBy past new start) (runLog new start)
 
 -- both go on from one start: down to it, and up again
-parted : (start : List ℤ) (p q r : List Message) → Leads start (p ++ q) (reverseAux (along undoOf q (runLog p start)) (along executionOf r (runLog p start))) (p ++ r)
-parted start p q r =
-    rw (standing-append [] p q start, run-append p q start, standing-append [] p r start, run-append p r start)
-    (play-undos q (standingBy [] p start) (runLog p start) _ _ _ (play-executions r (standingBy [] p start) (runLog p start)))
+parted : (past : List Standing) (start : List ℤ) (p q r : List Message)
+    → Leads past start (p ++ q) (reverseAux (along undoOf q (runLog p start)) (along executionOf r (runLog p start))) (p ++ r)
+parted past start p q r =
+    rw (standing-append past p q start, run-append p q start, standing-append past p r start, run-append p r start)
+    (play-undos q (standingBy past p start) (runLog p start) _ _ _ (play-executions r (standingBy past p start) (runLog p start)))
 
 -- where the sequences of two logs agree, their deltas do
 same-start : (l k : List Message) → ((a b : Message) → a ∈ l → b ∈ k → sequenceOf a ≡ sequenceOf b → a ≡ b)
@@ -123,14 +124,14 @@ same-start (a ∷ l) (b ∷ k) f (suc n) e =
     ap₂ _∷_ (f a b (List·Memᴰ·head refl) (List·Memᴰ·head refl) (ap (λ (s : List ℕ). getD s 0 0) e))
     (same-start l k (λ x y p q. f x y (List·Memᴰ·tail p) (List·Memᴰ·tail q)) n (ap (drop 1) e))
 
-records-play : (start : List ℤ) (old new : List Message) → ((a b : Message) → a ∈ old → b ∈ new → sequenceOf a ≡ sequenceOf b → a ≡ b)
-    → Leads start old (recordsOf start old new) new
+records-play : (past : List Standing) (start : List ℤ) (old new : List Message) → ((a b : Message) → a ∈ old → b ∈ new → sequenceOf a ≡ sequenceOf b → a ≡ b)
+    → Leads past start old (recordsOf start old new) new
 unfolding recordsOf
-records-play start old new agree =
-    subst (λ (l : List StepRecord). Leads start old l new) records
-    (subst (λ (l : List Message). Leads start l between new) (take-append-drop kept old)
-    (subst (Leads start (take kept old ++ drop kept old) between) (ap (λ (l : List Message). l ++ drop kept new) same ∙ take-append-drop kept new)
-    (parted start (take kept old) (drop kept old) (drop kept new))))
+records-play past start old new agree =
+    subst (λ (l : List StepRecord). Leads past start old l new) records
+    (subst (λ (l : List Message). Leads past start l between new) (take-append-drop kept old)
+    (subst (Leads past start (take kept old ++ drop kept old) between) (ap (λ (l : List Message). l ++ drop kept new) same ∙ take-append-drop kept new)
+    (parted past start (take kept old) (drop kept old) (drop kept new))))
   where
     kept : ℕ
     kept = common (sequencesOf old) (sequencesOf new)
@@ -148,15 +149,15 @@ records-play start old new agree =
         (ap (λ (l : List Message). along executionOf (drop kept new) (runLog l start)) same ∙ sym (along-drop executionOf kept new start))
 
 -- ---- between two states, the first one's deltas among the second one's
--- The executions of a state's log.
-abbrev pub standingIn : State → List Standing
-standingIn S = standingBy [] (logOf S) (startValues S)
+-- The executions of a state's log, on top of those of the past.
+abbrev pub standingIn : List Standing → State → List Standing
+standingIn past S = standingBy past (logOf S) (startValues S)
 
-pub state-pairs-play : (S R : State) → Ascending (S .deltas) → Ascending (R .deltas) → ((m : Message) → m ∈ S .deltas → m ∈ R .deltas)
-    → PlaysPairs (standingIn S) (setpointsOf S) (recordsBetween S R) (standingIn R) (setpointsOf R)
+pub state-pairs-play : (past : List Standing) (S R : State) → Ascending (S .deltas) → Ascending (R .deltas) → ((m : Message) → m ∈ S .deltas → m ∈ R .deltas)
+    → PlaysPairs (standingIn past S) (setpointsOf S) (recordsBetween S R) (standingIn past R) (setpointsOf R)
 unfolding setpointsOf startValues
-state-pairs-play S R p q all =
-    records-play (startValues S) (logOf S) (logOf R) (λ a b j k. ascending-names (R .deltas) q a b (all a (log-received S p a j)) (log-received R q b k))
+state-pairs-play past S R p q all =
+    records-play past (startValues S) (logOf S) (logOf R) (λ a b j k. ascending-names (R .deltas) q a b (all a (log-received S p a j)) (log-received R q b k))
 
 -- ---- pairs lead to one list of values at the most, whatever stands
 pub pairs-unique : (l : List StepRecord) (s t end other : List Standing) (values final last : List ℤ)

@@ -95,11 +95,11 @@ pub step-law : (old new : List ℕ) → StepLaw old new
 step-law old new = record { start = common-start old new; longest = common-longest old new; plays = steps-play old new; counted = steps-counted old new; fewest = steps-fewest old new }
 
 -- The records of these steps, with their pairs: they have these steps, are read back from their bytes, and can be played from the
--- setpoints of the old log, where its executions stand, to those of the new one, where its own do; to no other values.
+-- setpoints of the old log, where its executions stand on any of the past, to those of the new one, where its own do; to no other values.
 pub record PairLaw (S next : State) : Type 0 where
   pub steps : map (λ r. r .step) (recordsBetween S next) ≡ stepsOf (sequencesOf (logOf S)) (sequencesOf (logOf next))
   pub read : (rest : List ℕ) → readRecords (length (recordsBetween S next)) (recordsBytes (recordsBetween S next) ++ rest) ≡ some (recordsBetween S next)
-  pub plays : PlaysPairs (standingIn S) (setpointsOf S) (recordsBetween S next) (standingIn next) (setpointsOf next)
+  pub plays : (past : List Standing) → PlaysPairs (standingIn past S) (setpointsOf S) (recordsBetween S next) (standingIn past next) (setpointsOf next)
   pub only : (before after : List Standing) (values : List ℤ) → PlaysPairs before (setpointsOf S) (recordsBetween S next) after values → values ≡ setpointsOf next
 
 pub pair-law : (S next : State) → Valid S → Valid next → ((m : Message) → m ∈ S .deltas → m ∈ next .deltas) → PairLaw S next
@@ -107,11 +107,11 @@ pair-law S next v w all = record {
   steps = records-steps (startValues S) (logOf S) (logOf next);
   read = records-back S next v w;
   plays = plays;
-  only = λ before after values p. pairs-unique (recordsBetween S next) before (standingIn S) after (standingIn next) (setpointsOf S) values (setpointsOf next) p plays;
+  only = λ before after values p. pairs-unique (recordsBetween S next) before (standingIn [] S) after (standingIn [] next) (setpointsOf S) values (setpointsOf next) p (plays []);
 }
   where
-    plays : PlaysPairs (standingIn S) (setpointsOf S) (recordsBetween S next) (standingIn next) (setpointsOf next)
-    plays = state-pairs-play S next (v .ascends) (w .ascends) all
+    plays : (past : List Standing) → PlaysPairs (standingIn past S) (setpointsOf S) (recordsBetween S next) (standingIn past next) (setpointsOf next)
+    plays past = state-pairs-play past S next (v .ascends) (w .ascends) all
 
 -- 4. The image of a valid state has 16,384 bytes and reads back to that state, its log, its held deltas and its setpoints.
 pub record ImageLaw (S : State) : Type 0 where
