@@ -74,12 +74,12 @@ abbrev pub codeFor : List ℕ → Call → ℕ
 codeFor b (delivery m steps) = deliverCode b m (length steps)
 
 -- the messages that were answered with 0
-abbrev pub messageOfCall : Call → Message
-messageOfCall (delivery m steps) = m
+abbrev pub messagesOfCall : Call → List Message
+messagesOfCall (delivery m steps) = m ∷ []
 
 abbrev pub acceptedIn : List Event → List Message
 acceptedIn [] = []
-acceptedIn (e ∷ earlier) = cond (eqb (e .answer .code) 0) (messageOfCall (e .call) ∷ acceptedIn earlier) (acceptedIn earlier)
+acceptedIn (e ∷ earlier) = cond (eqb (e .answer .code) 0) (messagesOfCall (e .call) ++ acceptedIn earlier) (acceptedIn earlier)
 
 -- two stations that are promised equal images: the same messages were accepted
 abbrev pub SameAccepted : Given → List Event → Given → List Event → Type 0

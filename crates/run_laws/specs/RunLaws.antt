@@ -3,7 +3,7 @@ use mathlib.Core.Path.{_≡_, refl, sym, _∙_, ap, ap₂, subst}
 use mathlib.Core.Logic.{⊎-elim, _↔_}
 use mathlib.Core.Bool.{Bool, true, false, cond}
 use mathlib.Core.Option.{some, Option·some-injective}
-use mathlib.Core.List.{List, [], _∷_, _++_, map, reverse, List·Memᴰ·head, List·Memᴰ·tail, List·Memᴰ·not-nil, List·Memᴰ·cases-cons, Memᴰ·cast}
+use mathlib.Core.List.{List, [], _∷_, _++_, map, reverse, List·Memᴰ·head, List·Memᴰ·tail, List·Memᴰ·not-nil, List·Memᴰ·cases-cons, List·Memᴰ·append-cases, Memᴰ·append-left, Memᴰ·append-right, Memᴰ·cast}
 use Prim.Native.Nat.{ℕ, zero, suc, _+_}
 use native.Mathlib.Omega.{arith}
 use native.Mathlib.Nat.{suc-ne-zero}
@@ -18,7 +18,7 @@ use Rattle.model.specs.Steps.{Step, undo, execute, common, stepsOf, undosOf, ex
 use Rattle.model.specs.Codes.{lowestCode, emptyConditions}
 use Rattle.model.specs.Calls.{Delivered, deliverAnswer, emptyState, emptyAnswer, empty}
 use Rattle.model.specs.PlainStation.{accepts, receive}
-use Rattle.model_runs.specs.Run.{Given, Call, delivery, Event, imageAfter, Run, accepts?, stateBegun, stateNext, stateAfter, logAfter, playedFrom, oldLog, codeFor, messageOfCall, acceptedIn, SameAccepted, StepsTaken, Played, Agreement, Begins, Answers}
+use Rattle.model_runs.specs.Run.{Given, Call, delivery, Event, imageAfter, Run, accepts?, stateBegun, stateNext, stateAfter, logAfter, playedFrom, oldLog, codeFor, messagesOfCall, acceptedIn, SameAccepted, StepsTaken, Played, Agreement, Begins, Answers}
 use Rattle.order.specs.StepLaws.{steps-play, steps-fewest, steps-counted, common-self, plays-unique}
 use Rattle.order.specs.TestLaws.{Same}
 use Rattle.laws.specs.SetLaws.{insert-from, insert-keeps, insert-has, ascending-unique}
@@ -128,7 +128,7 @@ event-facts given b begun e earlier run =
     on-image (imageAfter b earlier) (stateAfter given earlier) (state-valid given earlier) (run-image given b begun earlier (run .1)) (e .call) (e .answer) (run .0)
 
 -- ---- the accepted messages are the set
-keeps-set : (S : State) → Valid S → (c : Call) → T (accepts? S c) → Same (stateNext S c .deltas) (messageOfCall c ∷ S .deltas)
+keeps-set : (S : State) → Valid S → (c : Call) → T (accepts? S c) → Same (stateNext S c .deltas) (messagesOfCall c ++ S .deltas)
 keeps-set S valid (delivery m steps) t = subst (λ (R : State). Same (R .deltas) (m ∷ S .deltas)) (sym (receive-accepted S m (length steps) (code-zero S m (length steps) .1 t))) (λ x. (
   λ k. ⊎-elim (λ e. List·Memᴰ·head e) (λ j. List·Memᴰ·tail j) (insert-from m (S .deltas) x k),
   λ k. ⊎-elim (λ e. Memᴰ·cast e (insert-has m (S .deltas) (accepts-same S valid m (length steps) t))) (λ j. insert-keeps m (S .deltas) x j) (List·Memᴰ·cases-cons k),
@@ -145,11 +145,12 @@ accepted-set given b begun (e ∷ earlier) run = go (eqb (e .answer .code) 0) (e
     facts = event-facts given b begun e earlier run
 
     go : (t : Bool) → (T t → e .answer .code ≡ 0) → (e .answer .code ≡ 0 → T t) → Same (stateAfter given earlier .deltas) (acceptedIn earlier)
-        → Same (stateNext (stateAfter given earlier) (e .call) .deltas) (cond t (messageOfCall (e .call) ∷ acceptedIn earlier) (acceptedIn earlier))
+        → Same (stateNext (stateAfter given earlier) (e .call) .deltas) (cond t (messagesOfCall (e .call) ++ acceptedIn earlier) (acceptedIn earlier))
     go true f g ih = λ m.
-        let s = keeps-set (stateAfter given earlier) (state-valid given earlier) (e .call) (facts .accepted .0 (f tt)) m in (
-          λ k. ⊎-elim (λ q. List·Memᴰ·head q) (λ j. List·Memᴰ·tail (ih m .0 j)) (List·Memᴰ·cases-cons (s .0 k)),
-          λ k. s .1 (⊎-elim (λ q. List·Memᴰ·head q) (λ j. List·Memᴰ·tail (ih m .1 j)) (List·Memᴰ·cases-cons k)),
+        let s = keeps-set (stateAfter given earlier) (state-valid given earlier) (e .call) (facts .accepted .0 (f tt)) m in
+        let new = messagesOfCall (e .call) in (
+          λ k. ⊎-elim (Memᴰ·append-left _) (λ j. Memᴰ·append-right new (ih m .0 j)) (List·Memᴰ·append-cases new (s .0 k)),
+          λ k. s .1 (⊎-elim (Memᴰ·append-left _) (λ j. Memᴰ·append-right new (ih m .1 j)) (List·Memᴰ·append-cases new k)),
         )
     go false f g ih =
         subst (λ (R : State). Same (R .deltas) (acceptedIn earlier)) (sym (keeps-refused (stateAfter given earlier) (e .call) (λ t. g (facts .accepted .1 t)))) ih
