@@ -108,7 +108,7 @@ module _ (given : Given) (b : List ℕ) (begun : Began HostEmptied given b) wher
 -- "So a set of deltas has one image": two stations that accepted the same messages have equal images.
 pub equal-images : (given other : Given) (b c : List ℕ) → Began HostEmptied given b → Began HostEmptied other c → (calls others : List Event) → Run (Answered HostDelivered) b calls → Run (Answered HostDelivered) c others
     → ((m : Message) → (m ∈ acceptedIn calls) ↔ (m ∈ acceptedIn others)) → imageAfter b calls ≡ imageAfter c others
-equal-images = host-agreement .equal
+equal-images given other b c p q calls others run run′ same = host-agreement .equal given other b c p q calls others run run′ (record { accepted = same })
 
 -- ---- COMPOSE, as the host sees it: `bivamolune_compose` answered 0. Number, dependencies, group, block, and what was handed over; length and rest; delivery.
 module _ (b line commands : List ℕ) (flag priority : ℕ) (buffer : List ℕ) (a : Composed) (call : HostComposed b line commands flag priority buffer a) (answered : a .code ≡ 0) where

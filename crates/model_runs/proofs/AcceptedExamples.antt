@@ -7,7 +7,7 @@ use lib.IntN.{pos}
 use Rattle.model.specs.Lists.{_∈_}
 use Rattle.model.specs.Message.{Message, sequenceOf}
 use Rattle.model.specs.Steps.{execute}
-use Rattle.model_runs.specs.Run.{Event, acceptedIn, SameAccepted}
+use Rattle.model_runs.specs.Run.{Event, acceptedIn, SameStation}
 use Rattle.model.proofs.ExampleMessages.{B, a1, b1, c1, c2}
 use Rattle.model.proofs.RecordExamples.{setting}
 use Rattle.model_runs.proofs.ExampleEvents.{given, image, event, first-a1}
@@ -35,11 +35,11 @@ twice a b m (List·Memᴰ·tail (List·Memᴰ·head e)) = List·Memᴰ·head e
 pub in-either : (m : Message) → m ∈ a1 ∷ a1 ∷ b1 ∷ [] ↔ m ∈ b1 ∷ a1 ∷ []
 in-either m = (once a1 b1 m, twice a1 b1 m)
 
-same-set : SameAccepted given (wrong-c1 ∷ a1-again ∷ two) given a1-first
-same-set = in-either
+same-set : SameStation given (wrong-c1 ∷ a1-again ∷ two) given a1-first
+same-set = record { accepted = in-either }
 
 not-a1 : b1 ∈ a1 ∷ [] → ⊥
 not-a1 (List·Memᴰ·head e) = let sequences : sequenceOf b1 ≡ sequenceOf a1 = ap sequenceOf e in omega arith
 
-other-set : SameAccepted given a1-first given (first-a1 ∷ []) → ⊥
-other-set same = not-a1 (same b1 .0 (List·Memᴰ·head refl))
+other-set : SameStation given a1-first given (first-a1 ∷ []) → ⊥
+other-set same = not-a1 (same .accepted b1 .0 (List·Memᴰ·head refl))

@@ -83,5 +83,5 @@ module _ (begins : Given → List ℕ → Type 0) (answers : List ℕ → Call �
   images-differ : Run answers start (a1-again ∷ two) → Run answers start (lagging ∷ first-a1 ∷ []) → ⊥
   unfolding logOf needs imageOf usedOf sectionsOf headerOf
   images-differ run other =
-      let logs : 2 ≡ logCount (image (a1 ∷ [])) = ap logCount (agreement .equal given given start start begun begun (a1-again ∷ two) (lagging ∷ first-a1 ∷ []) run other in-either) in
+      let logs : 2 ≡ logCount (image (a1 ∷ [])) = ap logCount (agreement .equal given given start start begun begun (a1-again ∷ two) (lagging ∷ first-a1 ∷ []) run other (record { accepted = in-either })) in
       omega arith

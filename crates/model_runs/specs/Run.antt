@@ -81,9 +81,9 @@ abbrev pub acceptedIn : List Event → List Message
 acceptedIn [] = []
 acceptedIn (e ∷ earlier) = cond (eqb (e .answer .code) 0) (messagesOfCall (e .call) ++ acceptedIn earlier) (acceptedIn earlier)
 
--- two stations that are promised equal images: the same messages were accepted
-abbrev pub SameAccepted : Given → List Event → Given → List Event → Type 0
-SameAccepted given events other others = (m : Message) → m ∈ acceptedIn events ↔ m ∈ acceptedIn others
+-- what two stations share that are promised equal images: the same messages were accepted
+pub record SameStation (given : Given) (events : List Event) (other : Given) (others : List Event) : Type 0 where
+  pub accepted : (m : Message) → m ∈ acceptedIn events ↔ m ∈ acceptedIn others
 
 -- ---- "The steps of a call are the records at the front of its step buffer: as many undos as its answer counts,
 -- then as many executions as its answer counts; a refused call has none" (its counts are 0)
@@ -122,7 +122,7 @@ pub record Agreement (begins : Given → List ℕ → Type 0) (answers : List �
       → imageAfter b events ≡ imageOf (stateAfter given events)
   -- "So a set of deltas has one image": equal accepted sets give equal images, on any two stations.
   pub equal : (given other : Given) (b c : List ℕ) → begins given b → begins other c → (events others : List Event)
-      → Run answers b events → Run answers c others → SameAccepted given events other others → imageAfter b events ≡ imageAfter c others
+      → Run answers b events → Run answers c others → SameStation given events other others → imageAfter b events ≡ imageAfter c others
   -- "After each call the played log, the image's log and the plain station's log are the same sequences in the same order."
   pub played : (given : Given) (b : List ℕ) → begins given b → (events : List Event) → Run answers b events
       → (log : List ℕ) → Played events log ↔ (log ≡ logAfter given events)

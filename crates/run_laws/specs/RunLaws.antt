@@ -18,7 +18,7 @@ use Rattle.model.specs.Steps.{Step, undo, execute, common, stepsOf, undosOf, ex
 use Rattle.model.specs.Codes.{lowestCode, emptyConditions}
 use Rattle.model.specs.Calls.{Delivered, deliverAnswer, emptyState, emptyAnswer, empty}
 use Rattle.model.specs.PlainStation.{accepts, receive}
-use Rattle.model_runs.specs.Run.{Given, Call, delivery, Event, imageAfter, Run, accepts?, stateBegun, stateNext, stateAfter, logAfter, playedFrom, oldLog, codeFor, messagesOfCall, acceptedIn, SameAccepted, StepsTaken, Played, Agreement, Begins, Answers}
+use Rattle.model_runs.specs.Run.{Given, Call, delivery, Event, imageAfter, Run, accepts?, stateBegun, stateNext, stateAfter, logAfter, playedFrom, oldLog, codeFor, messagesOfCall, acceptedIn, SameStation, StepsTaken, Played, Agreement, Begins, Answers}
 use Rattle.order.specs.StepLaws.{steps-play, steps-fewest, steps-counted, common-self, plays-unique}
 use Rattle.order.specs.TestLaws.{Same}
 use Rattle.laws.specs.SetLaws.{insert-from, insert-keeps, insert-has, ascending-unique}
@@ -156,14 +156,14 @@ accepted-set given b begun (e ∷ earlier) run = go (eqb (e .answer .code) 0) (e
         subst (λ (R : State). Same (R .deltas) (acceptedIn earlier)) (sym (keeps-refused (stateAfter given earlier) (e .call) (λ t. g (facts .accepted .1 t)))) ih
 
 same-images : (given other : Given) (b c : List ℕ) → Begins given b → Begins other c → (events others : List Event)
-    → Run Answers b events → Run Answers c others → SameAccepted given events other others → imageAfter b events ≡ imageAfter c others
+    → Run Answers b events → Run Answers c others → SameStation given events other others → imageAfter b events ≡ imageAfter c others
 same-images given other b c p q events others r t f =
     run-image given b p events r ∙ ap₂ (λ (O : Origin) (l : List Message). imageOf (holding O l)) (one-origin (stateAfter given events .origin) (stateAfter other others .origin)) sets ∙ sym (run-image other c q others t)
   where
     sets : stateAfter given events .deltas ≡ stateAfter other others .deltas
     sets = ascending-unique (stateAfter given events .deltas) (stateAfter other others .deltas) (state-valid given events .ascends) (state-valid other others .ascends) (λ m. (
-      λ k. accepted-set other c q others t m .1 (f m .0 (accepted-set given b p events r m .0 k)),
-      λ k. accepted-set given b p events r m .1 (f m .1 (accepted-set other c q others t m .0 k)),
+      λ k. accepted-set other c q others t m .1 (f .accepted m .0 (accepted-set given b p events r m .0 k)),
+      λ k. accepted-set given b p events r m .1 (f .accepted m .1 (accepted-set other c q others t m .0 k)),
     ))
 
 -- ---- the played log
