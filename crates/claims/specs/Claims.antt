@@ -15,12 +15,13 @@ use Rattle.model.specs.Bytes.{number, field}
 use Rattle.model.specs.Layout.{capacity, stepRoom, priorityFlagAt, sequencesRoom, textRoom}
 use Rattle.model.specs.Message.{Message, dependencyCount, commandsStart, sequenceOf, groupOf, blockOf, priorityOf, dependenciesOf, lineOf, numberOf, predecessorOf, passes}
 use Rattle.model.specs.Order.{Ascending, sequencesOf, effectiveBlock, MeetsRing, Executable, Grounded, IsLog, logOf}
+use Rattle.model.specs.Setpoints.{startValues}
 use Rattle.model.specs.Image.{imageOf, valuesIn, logIn, heldIn, stateIn, isImage, messagesIn, messagesStartIn, offsetOf, walk, messageOffset, usedCount}
-use Rattle.model.specs.Steps.{Step, undosOf, executionsOf, recordsBetween, Plays, Standing, execute, readSteps}
+use Rattle.model.specs.Steps.{Step, undosOf, executionsOf, recordsOf, Plays, Standing, execute, readSteps}
 use Rattle.model.specs.Compose.{newNumber, lastSequence}
 use Rattle.model.specs.Codes.{Conditions, lowestCode, emptyConditions, deliverConditions, composeConditions, readConditions, logMessageConditions, setpointConditions, readSequencesConditions, writeSequencesConditions}
 use Rattle.model.specs.Calls.{Emptied, empty, Delivered, deliver, Composed, compose, logMessageCode, logMessage, Setpoint, setpoint, start, Converted, convertedAnswer, front, readSequences, writeSequences}
-use Rattle.model_runs.specs.Run.{Given, Event, imageAfter, Run, stateAfter, logAfter, oldLog, accepts?, codeFor, acceptedIn, Played, recordsRead, PairsPlayed}
+use Rattle.model_runs.specs.Run.{Given, Event, imageAfter, Run, stateAfter, logAfter, playedFrom, oldLog, accepts?, codeFor, acceptedIn, Played, recordsRead, PairsPlayed}
 use Rattle.model_runs.specs.RunOrder.{receivedIn}
 use Rattle.run_laws.specs.CalledRuns.{Began, Answered}
 use Rattle.compose_laws.specs.ComposeLaws.{messageBy}
@@ -82,7 +83,8 @@ module _ (given : Given) (b : List ℕ) (begun : Began HostEmptied given b) wher
     counts = let o = host-agreement in (o .undos given b begun call earlier run, o .executions given b begun call earlier run, o .fewest given b begun call earlier run)
 
     -- "An execution lists the value after each command; an undo lists the value restored by each command, last command first."
-    pub records : recordsRead call ≡ some (recordsBetween (stateAfter given earlier) (stateAfter given (call ∷ earlier)))
+    pub records : let S = stateAfter given earlier in let next = stateAfter given (call ∷ earlier) in
+        recordsRead call ≡ some (recordsOf (startValues next) (playedFrom (call .call) (call .answer .code) (logOf S)) (logOf next))
     records = host-agreement .records given b begun call earlier run
 
   module _ (calls : List Event) (run : Run (Answered HostDelivered) b calls) where

@@ -15,8 +15,9 @@ use lib.IntN.{ℤ}
 use Rattle.model.specs.Lists.{_∈_}
 use Rattle.model.specs.Message.{Message}
 use Rattle.model.specs.Order.{State, sequencesOf, logOf}
+use Rattle.model.specs.Setpoints.{startValues}
 use Rattle.model.specs.Image.{imageOf, valuesIn, logIn}
-use Rattle.model.specs.Steps.{Step, undo, execute, undosOf, executionsOf, StepRecord, recordsBetween, readRecords, readSteps, Plays, Standing, PlaysPairs}
+use Rattle.model.specs.Steps.{Step, undo, execute, undosOf, executionsOf, StepRecord, recordsOf, readRecords, readSteps, Plays, Standing, PlaysPairs}
 use Rattle.model.specs.Calls.{Delivered, emptyState, empty, deliverCode, deliver}
 use Rattle.model.specs.PlainStation.{accepts, receive}
 
@@ -142,7 +143,7 @@ pub record Agreement (begins : Given → List ℕ → Type 0) (answers : List �
   -- "An execution lists the value after each command; an undo lists the value restored by each command, last command first": the records
   -- of a call are those between its old log and its new one.
   pub records : (given : Given) (b : List ℕ) → begins given b → (e : Event) (earlier : List Event) → Run answers b (e ∷ earlier)
-      → recordsRead e ≡ some (recordsBetween (stateAfter given earlier) (stateAfter given (e ∷ earlier)))
+      → recordsRead e ≡ some (recordsOf (startValues (stateAfter given (e ∷ earlier))) (playedFrom (e .call) (e .answer .code) (logOf (stateAfter given earlier))) (logOf (stateAfter given (e ∷ earlier))))
   -- "Played on the setpoints, the pairs must lead to the image's values": they can be played, so that each pair of an undo restores
   -- what its execution's pair had found, and they lead to these values alone.
   pub setpoints : (given : Given) (b : List ℕ) → begins given b → (events : List Event) → Run answers b events

@@ -14,7 +14,7 @@ use Rattle.model.specs.Message.{Message}
 use Rattle.model.specs.Order.{Origin, State, holding, add, sequencesOf, logOf}
 use Rattle.model.specs.Setpoints.{startValues}
 use Rattle.model.specs.Image.{imageOf, Valid, valuesIn, logIn}
-use Rattle.model.specs.Steps.{Step, undo, execute, common, stepsOf, undosOf, executionsOf, StepRecord, recordsBetween, recordsBytes, readRecords, stepsIn, readSteps, Plays}
+use Rattle.model.specs.Steps.{Step, undo, execute, common, stepsOf, undosOf, executionsOf, StepRecord, recordsOf, recordsBetween, recordsBytes, readRecords, stepsIn, readSteps, Plays}
 use Rattle.model.specs.Codes.{lowestCode, emptyConditions}
 use Rattle.model.specs.Calls.{Delivered, deliverAnswer, emptyState, emptyAnswer, empty}
 use Rattle.model.specs.PlainStation.{accepts, receive}
@@ -37,12 +37,12 @@ pub record CallFacts (S next : State) (c : Call) (a : Delivered) : Type 0 where
   pub image : a .image ≡ imageOf next
   pub undos : a .undos ≡ undosOf (playedFrom c (a .code) (sequencesOf (logOf S))) (sequencesOf (logOf next))
   pub executions : a .executions ≡ executionsOf (playedFrom c (a .code) (sequencesOf (logOf S))) (sequencesOf (logOf next))
-  pub records : readRecords (a .undos + a .executions) (a .steps) ≡ some (recordsBetween S next)
+  pub records : readRecords (a .undos + a .executions) (a .steps) ≡ some (recordsOf (startValues next) (playedFrom c (a .code) (logOf S)) (logOf next))
 
 -- the steps alone
 pub steps-read : (S next : State) (c : Call) (a : Delivered) → CallFacts S next c a
     → readSteps (a .undos + a .executions) (a .steps) ≡ some (stepsOf (playedFrom c (a .code) (sequencesOf (logOf S))) (sequencesOf (logOf next)))
-steps-read S next (delivery m steps) a facts = ap stepsIn (facts .records) ∙ ap some (records-steps (startValues S) (logOf S) (logOf next))
+steps-read S next (delivery m steps) a facts = ap stepsIn (facts .records) ∙ ap some (records-steps (startValues next) (logOf S) (logOf next))
 
 -- no step from a log to itself
 pub undos-self : (l : List ℕ) → undosOf l l ≡ 0
@@ -53,6 +53,7 @@ module _ (S : State) (valid : Valid S) (m : Message) (steps : List ℕ) where
   code-is n e = sym e ∙ sym (deliver-code-is S valid m (length steps))
 
   accepted-facts : stateCode S m (length steps) ≡ 0 → CallFacts S (add m S) (delivery m steps) (deliverAnswer 0 S (imageOf S) m steps)
+  unfolding startValues
   accepted-facts e = record {
     accepted = (λ z. code-zero S m (length steps) .0 e, λ t. refl);
     code = code-is 0 e;
@@ -219,11 +220,16 @@ next-keeps S (delivery m steps) x k = go (accepts S m (length steps))
     go true = insert-keeps m (S .deltas) x k
     go false = k
 
+-- a delivery's steps are played from the log as it was left
+records-between : (S R : State) (c : Call) (a : Delivered) → CallFacts S R c a → readRecords (a .undos + a .executions) (a .steps) ≡ some (recordsBetween S R)
+unfolding startValues
+records-between S R (delivery m steps) a facts = facts .records
+
 pairs-lead : (given : Given) (b : List ℕ) → Begins given b → (events : List Event) → Run Answers b events → PairsLead b events (stateAfter given events)
 pairs-lead given b begun [] run = pairs-begun b (ap valuesIn (begins-image given b begun) ∙ values-back emptyState empty-valid)
 pairs-lead given b begun (e ∷ earlier) run =
     pairs-next b e earlier (stateAfter given earlier) (stateAfter given (e ∷ earlier)) (state-valid given earlier) (state-valid given (e ∷ earlier))
-    (next-keeps (stateAfter given earlier) (e .call)) (event-facts given b begun e earlier run .records) (pairs-lead given b begun earlier (run .1))
+    (next-keeps (stateAfter given earlier) (e .call)) (records-between (stateAfter given earlier) (stateAfter given (e ∷ earlier)) (e .call) (e .answer) (event-facts given b begun e earlier run)) (pairs-lead given b begun earlier (run .1))
 
 -- ---- the theorem
 pub agreement : Agreement Begins Answers
