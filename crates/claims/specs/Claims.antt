@@ -21,7 +21,7 @@ use Rattle.model.specs.Steps.{Step, undosOf, executionsOf, recordsOf, Plays, St
 use Rattle.model.specs.Compose.{newNumber, lastSequence}
 use Rattle.model.specs.Codes.{Conditions, lowestCode, emptyConditions, deliverConditions, composeConditions, readConditions, logMessageConditions, setpointConditions, readSequencesConditions, writeSequencesConditions}
 use Rattle.model.specs.Calls.{Emptied, empty, Delivered, deliver, Composed, compose, logMessageCode, logMessage, Setpoint, setpoint, start, Converted, convertedAnswer, front, readSequences, writeSequences}
-use Rattle.model_runs.specs.Run.{Given, Event, imageAfter, Run, stateAfter, logAfter, playedFrom, oldLog, accepts?, codeFor, acceptedIn, Played, recordsRead, PairsPlayed}
+use Rattle.model_runs.specs.Run.{Given, Event, imageAfter, Run, stateAfter, logAfter, oldLog, accepts?, codeFor, acceptedIn, Played, recordsRead, PairsPlayed}
 use Rattle.model_runs.specs.RunOrder.{receivedIn}
 use Rattle.run_laws.specs.CalledRuns.{Began, Answered}
 use Rattle.compose_laws.specs.ComposeLaws.{messageBy}
@@ -75,24 +75,24 @@ module _ (given : Given) (b : List ℕ) (begun : Began HostEmptied given b) wher
   module _ (call : Event) (earlier : List Event) (run : Run (Answered HostDelivered) b (call ∷ earlier)) where
     -- "Deliver answers 0 exactly where the plain station accepts, and otherwise the lowest number that applies."
     pub codes : ((call .answer .code ≡ 0) ↔ T (accepts? (stateAfter given earlier) (call .call))) × (call .answer .code ≡ codeFor (imageAfter b earlier) (call .call))
-    codes = (host-agreement .accepted given b begun call earlier run, host-agreement .code given b begun call earlier run)
+    codes = let o = host-agreement .call given b begun call earlier run in (o .accepted, o .code)
 
     -- "The number of a delivery's undos is the length of its old log less that of the longest common start ..". "Its rivals .., both kinds counted together."
-    pub counts : let old = oldLog given call earlier in let new = logAfter given (call ∷ earlier) in (call .answer .undos ≡ undosOf old new) × (call .answer .executions ≡ executionsOf old new)
+    pub counts : let old = sequencesOf (oldLog (stateAfter given earlier) (call .call) (call .answer)) in let new = logAfter given (call ∷ earlier) in (call .answer .undos ≡ undosOf old new) × (call .answer .executions ≡ executionsOf old new)
         × ((rival : List Step) → Plays old rival new → call .answer .undos + call .answer .executions ≤ length rival)
-    counts = let o = host-agreement in (o .undos given b begun call earlier run, o .executions given b begun call earlier run, o .fewest given b begun call earlier run)
+    counts = let o = host-agreement .call given b begun call earlier run in (o .undos, o .executions, o .fewest)
 
     -- "An execution lists the value after each command; an undo lists the value restored by each command, last command first."
-    pub records : let S = stateAfter given earlier in let next = stateAfter given (call ∷ earlier) in
-        recordsRead call ≡ some (recordsOf (startValues next) (playedFrom (call .call) (call .answer .code) (logOf S)) (logOf next))
-    records = host-agreement .records given b begun call earlier run
+    pub records : let next = stateAfter given (call ∷ earlier) in
+        recordsRead (call .answer) ≡ some (recordsOf (startValues next) (oldLog (stateAfter given earlier) (call .call) (call .answer)) (logOf next))
+    records = host-agreement .call given b begun call earlier run .records
 
   module _ (calls : List Event) (run : Run (Answered HostDelivered) b calls) where
     -- "Its log and image are those of the set"; "the played log, the image's log and the plain station's log are the same ..", and the pairs lead to "the image's values".
     pub played : (imageAfter b calls ≡ imageOf (stateAfter given calls))
         × ((log : List ℕ) → Played calls log ↔ (log ≡ logAfter given calls)) × (sequencesOf (logIn (imageAfter b calls)) ≡ logAfter given calls)
         × ((values : List ℤ) → ((standing : List Standing) × PairsPlayed b calls standing values) ↔ (values ≡ valuesIn (imageAfter b calls)))
-    played = let o = host-agreement in (o .image given b begun calls run, o .played given b begun calls run, o .imageLog given b begun calls run, o .setpoints given b begun calls run)
+    played = let o = host-agreement .list given b begun calls run in (o .image, o .played, o .imageLog, o .setpoints)
 
     -- "the first of all such listings"; received: accepted; "executed exactly when all it needs, step by step back, was received and contains no ring" (demand 2)
     pub executed : let S = stateAfter given calls in let log = logIn (imageAfter b calls) in IsLog S log × ((m : Message) → (m ∈ S .deltas) ↔ (m ∈ receivedIn calls))

@@ -22,7 +22,7 @@ use Rattle.model.specs.Compose.{newNumber, newSequence, unneeded, newDependenci
 use Rattle.model.specs.Codes.{commandsSized, composeContent, heldOn, pastLimit, manyDependencies, smallSteps, conflicts, full, present}
 use Rattle.model.specs.Calls.{Composed, composeAnswer, composeCode, compose, deliver}
 use Rattle.model.specs.PlainStation.{accepts, receive}
-use Rattle.model_runs.specs.Run.{delivery}
+use Rattle.model_runs.specs.Run.{delivery, CallAgrees}
 use Rattle.order.specs.TestLaws.{and-l, and-r, and-i, nor-l, nor-r, decide, has→∈, ∈→has, some-∈}
 use Rattle.order.specs.KeyOrder.{less-total}
 use Rattle.order.specs.ListingLaws.{after-has}
@@ -36,7 +36,7 @@ use Rattle.wire_laws.specs.BytesLaws.{number-range}
 use Rattle.laws.specs.ImageLaws.{log-passes, image-own, own-valid}
 use Rattle.laws.specs.CodeLaws.{compose-code}
 use Rattle.laws.specs.DeliverLaws.{code-zero, receive-accepted}
-use Rattle.run_laws.specs.RunLaws.{CallFacts, steps-read, call-facts}
+use Rattle.run_laws.specs.RunLaws.{steps-read, call-facts}
 use Rattle.compose_laws.specs.ComposedMessage.{HasParts, Parts, made-parts, made-passes}
 use Rattle.compose_laws.specs.ComposeFacts.{own-numbered, own-new, predecessor-logged, dependency-logged, dependencies-ascend, dependencies-numbered, dependencies-other, dependencies-not-predecessor, unneeded-named}
 
@@ -263,7 +263,7 @@ granted-promise b line commands flag priority room g = record {
   accepted = λ h steps r. facts steps .accepted .1 (takes h steps r);
   no-undo = λ h steps r. facts steps .undos ∙ ap (λ (R : State). undosOf (sequencesOf (logOf S′)) (sequencesOf (logOf R))) (added h steps r) ∙ composed-undos b line commands flag priority room g;
   first-step = λ h steps r. let w = composed-steps b line commands flag priority room g in
-      (w .0, steps-read S′ (receive S′ m (length steps)) (delivery m steps) (deliver b m steps) (facts steps) ∙ ap some (ap (λ (R : State). stepsOf (sequencesOf (logOf S′)) (sequencesOf (logOf R))) (added h steps r) ∙ w .1));
+      (w .0, steps-read S′ (receive S′ m (length steps)) (imageOf S′) (delivery m steps) (deliver b m steps) (facts steps) ∙ ap some (ap (λ (R : State). stepsOf (sequencesOf (logOf S′)) (sequencesOf (logOf R))) (added h steps r) ∙ w .1));
 }
   where
     S′ : State
@@ -275,8 +275,8 @@ granted-promise b line commands flag priority room g = record {
     is : b ≡ imageOf S′
     is = image-own b (g .image)
 
-    facts : (steps : List ℕ) → CallFacts S′ (receive S′ m (length steps)) (delivery m steps) (deliver b m steps)
-    facts steps = call-facts S′ (valid b line commands flag priority room g) (delivery m steps) (deliver b m steps) (ap (λ (i : List ℕ). deliver i m steps) is)
+    facts : (steps : List ℕ) → CallAgrees S′ (receive S′ m (length steps)) (imageOf S′) (delivery m steps) (deliver b m steps)
+    facts steps = call-facts S′ (valid b line commands flag priority room g) (delivery m steps) (deliver b m steps) (ap (λ (i : List ℕ). deliver i m steps) is) .agrees
 
     takes : length (S′ .deltas) < capacity → (steps : List ℕ) → stepRoom ≤ length steps → T (accepts S′ m (length steps))
     takes h steps r = composed-accepted b line commands flag priority room g h (length steps) r

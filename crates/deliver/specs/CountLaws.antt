@@ -13,11 +13,11 @@ use Rattle.model.specs.Image.{imageOf, Valid, stateIn, isImage}
 use Rattle.model.specs.Codes.{wrongSize, smallSteps}
 use Rattle.model.specs.Calls.{Delivered, deliverAnswer, deliverCode, deliver}
 use Rattle.model.specs.PlainStation.{receive}
-use Rattle.model_runs.specs.Run.{delivery}
+use Rattle.model_runs.specs.Run.{delivery, CallAgrees}
 use Rattle.laws.specs.LogLaws.{log-length}
 use Rattle.laws.specs.ImageLaws.{image-own, own-valid}
 use Rattle.laws.specs.DeliverLaws.{receive-valid}
-use Rattle.run_laws.specs.RunLaws.{CallFacts, call-facts}
+use Rattle.run_laws.specs.RunLaws.{call-facts}
 
 pub record Counted (d : Delivered) : Type 0 where
   pub undos : d .undos ≤ capacity
@@ -51,8 +51,8 @@ accepted-counts b m steps image = record {
     is : b ≡ imageOf S
     is = image-own b image
 
-    facts : CallFacts S (receive S m (length steps)) (delivery m steps) (deliver b m steps)
-    facts = call-facts S valid (delivery m steps) (deliver b m steps) (ap (λ (i : List ℕ). deliver i m steps) is)
+    facts : CallAgrees S (receive S m (length steps)) (imageOf S) (delivery m steps) (deliver b m steps)
+    facts = call-facts S valid (delivery m steps) (deliver b m steps) (ap (λ (i : List ℕ). deliver i m steps) is) .agrees
 
 refused-is : (b : List ℕ) (m : Message) (steps : List ℕ) (n : ℕ) → deliverCode b m (length steps) ≡ suc n
     → deliver b m steps ≡ record { code = suc n; undos = 0; executions = 0; image = b; steps = steps }

@@ -28,7 +28,7 @@ module _ (begins : Given → List ℕ → Type 0) (answers : List ℕ → Call �
 
   accepts-wrong : Run answers start (accepting ∷ []) → ⊥
   unfolding accepts passes layoutRight numbersRight dependenciesRight contentRight commandRight
-  accepts-wrong run = agreement .accepted given start begun accepting [] run .0 refl
+  accepts-wrong run = agreement .call given start begun accepting [] run .accepted .0 refl
 
   -- ---- two numbers apply, and the higher one is answered: tag 64, and no step buffer
   abbrev higher : Event
@@ -39,7 +39,7 @@ module _ (begins : Given → List ℕ → Type 0) (answers : List ℕ → Call �
 
   answers-higher : Run answers start (higher ∷ []) → ⊥
   unfolding deliverCode imageOf usedOf sectionsOf headerOf valuesOf setpointsOf startValues messagesOf logOf heldOf
-  answers-higher run = let lowest : higher .answer .code ≡ 1 = agreement .code given start begun higher [] run in omega arith
+  answers-higher run = let lowest : higher .answer .code ≡ 1 = agreement .call given start begun higher [] run .code in omega arith
 
   -- ---- an execution is counted as an undo
   abbrev counting : Event
@@ -48,7 +48,7 @@ module _ (begins : Given → List ℕ → Type 0) (answers : List ℕ → Call �
 
   counts-undos : Run answers start (counting ∷ first-b1 ∷ []) → ⊥
   unfolding accepts receive passes layoutRight numbersRight dependenciesRight contentRight commandRight logOf needs
-  counts-undos run = let one : counting .answer .undos ≡ 1 = agreement .undos given start begun counting (first-b1 ∷ []) run in omega arith
+  counts-undos run = let one : counting .answer .undos ≡ 1 = agreement .call given start begun counting (first-b1 ∷ []) run .undos in omega arith
 
   -- ---- "Played on the setpoints, the pairs must lead to the image's values": A1 sets tag 3 to 1500, and its pair says 1501
   abbrev straying : Event
@@ -61,7 +61,7 @@ module _ (begins : Given → List ℕ → Type 0) (answers : List ℕ → Call �
   pairs-lead-elsewhere : Run answers start (straying ∷ []) → ⊥
   unfolding valuesIn imageOf usedOf sectionsOf headerOf valuesOf setpointsOf startValues runDelta runCommand apply changeOf operate logOf needs
   pairs-lead-elsewhere run =
-      let values = agreement .setpoints given start begun (straying ∷ []) run (tag3 (pos 1501)) .0 (standing (A 1) (pos 0) ∷ [], strayed) in
+      let values = agreement .list given start begun (straying ∷ []) run .setpoints (tag3 (pos 1501)) .0 (standing (A 1) (pos 0) ∷ [], strayed) in
       let tag-3 : 1501 ≡ word (pos 1500) = ap (λ (v : List ℤ). word (getD v 3 (pos 0))) values in
       omega arith
 
@@ -74,7 +74,7 @@ module _ (begins : Given → List ℕ → Type 0) (answers : List ℕ → Call �
 
   hides-a-pair : Run answers start (hiding ∷ []) → ⊥
   unfolding accepts receive passes layoutRight numbersRight dependenciesRight contentRight commandRight logOf needs readRecord recordBytes recordsOf executionOf changesOf startValues runDelta runCommand apply changeOf operate
-  hides-a-pair run = let first : 0 ≡ word (pos 5) = ap firstValue (agreement .records given start begun hiding [] run) in omega arith
+  hides-a-pair run = let first : 0 ≡ word (pos 5) = ap firstValue (agreement .call given start begun hiding [] run .records) in omega arith
 
   -- ---- "equal accepted sets give byte-equal images": B1 is answered with 0, but is not in the image
   abbrev lagging : Event

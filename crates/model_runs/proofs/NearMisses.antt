@@ -27,7 +27,7 @@ module _ (begins : Given → List ℕ → Type 0) (answers : List ℕ → Call �
 
   counts-freely : Run answers start (counting ∷ []) → ⊥
   unfolding accepts receive passes layoutRight numbersRight dependenciesRight contentRight commandRight logOf needs
-  counts-freely run = let one : counting .answer .executions ≡ 1 = agreement .executions given start begun counting [] run in omega arith
+  counts-freely run = let one : counting .answer .executions ≡ 1 = agreement .call given start begun counting [] run .executions in omega arith
 
   -- ---- "One that undoes everything each time": A1, though B1 follows it. A rival executes B1 alone.
   abbrev undoing : Event
@@ -40,7 +40,7 @@ module _ (begins : Given → List ℕ → Type 0) (answers : List ℕ → Call �
   undoes-everything : Run answers start (undoing ∷ first-a1 ∷ []) → ⊥
   unfolding accepts receive passes layoutRight numbersRight dependenciesRight contentRight commandRight logOf needs
   undoes-everything run =
-      let three-at-most-one : 3 ≤ 1 = agreement .fewest given start begun undoing (first-a1 ∷ []) run (execute (B 1) ∷ []) rival in
+      let three-at-most-one : 3 ≤ 1 = agreement .call given start begun undoing (first-a1 ∷ []) run .fewest (execute (B 1) ∷ []) rival in
       omega arith
 
   -- ---- "One that rebuilds on the first delivery and only echoes later": B1 after A1 is answered with 0, and nothing is done
@@ -50,7 +50,7 @@ module _ (begins : Given → List ℕ → Type 0) (answers : List ℕ → Call �
   echoes : Run answers start (echoing ∷ first-a1 ∷ []) → ⊥
   unfolding accepts receive passes layoutRight numbersRight dependenciesRight contentRight commandRight logOf needs imageOf usedOf sectionsOf headerOf
   echoes run =
-      let log : 1 ≡ logCount (image (a1 ∷ b1 ∷ [])) = ap logCount (agreement .image given start begun (echoing ∷ first-a1 ∷ []) run) in
+      let log : 1 ≡ logCount (image (a1 ∷ b1 ∷ [])) = ap logCount (agreement .list given start begun (echoing ∷ first-a1 ∷ []) run .image) in
       omega arith
 
   -- ---- "One that holds every delta, or leaves the image as it was"
@@ -59,14 +59,14 @@ module _ (begins : Given → List ℕ → Type 0) (answers : List ℕ → Call �
 
   holds-all : Run answers start (keeping ∷ []) → ⊥
   unfolding accepts receive passes layoutRight numbersRight dependenciesRight contentRight commandRight logOf needs
-  holds-all run = let none : keeping .answer .executions ≡ 1 = agreement .executions given start begun keeping [] run in omega arith
+  holds-all run = let none : keeping .answer .executions ≡ 1 = agreement .call given start begun keeping [] run .executions in omega arith
 
   abbrev leaving : Event
   leaving = event a1 0 0 1 (setting (execute (A 1)) (pos 1500) ∷ []) start
 
   leaves-the-image : Run answers start (leaving ∷ []) → ⊥
   unfolding accepts receive passes layoutRight numbersRight dependenciesRight contentRight commandRight logOf needs imageOf usedOf sectionsOf headerOf
-  leaves-the-image run = let log : 0 ≡ length (A 1 ∷ []) = ap length (agreement .imageLog given start begun (leaving ∷ []) run) in omega arith
+  leaves-the-image run = let log : 0 ≡ length (A 1 ∷ []) = ap length (agreement .list given start begun (leaving ∷ []) run .imageLog) in omega arith
 
   -- ---- "or refuses all": with 8, on an empty station
   abbrev refusing : Event
@@ -74,7 +74,7 @@ module _ (begins : Given → List ℕ → Type 0) (answers : List ℕ → Call �
 
   refuses-all : Run answers start (refusing ∷ []) → ⊥
   unfolding accepts receive passes layoutRight numbersRight dependenciesRight contentRight commandRight
-  refuses-all run = let accepted : refusing .answer .code ≡ 0 = agreement .accepted given start begun refusing [] run .1 tt in omega arith
+  refuses-all run = let accepted : refusing .answer .code ≡ 0 = agreement .call given start begun refusing [] run .accepted .1 tt in omega arith
 
   -- ---- "One with the same log always": B1, whatever follows
   abbrev staying : Event
@@ -87,7 +87,7 @@ module _ (begins : Given → List ℕ → Type 0) (answers : List ℕ → Call �
   same-log-always : Run answers start (staying ∷ first-b1 ∷ []) → ⊥
   unfolding accepts receive passes layoutRight numbersRight dependenciesRight contentRight commandRight logOf needs
   same-log-always run =
-      let log : B 1 ∷ [] ≡ A 1 ∷ B 1 ∷ [] = agreement .played given start begun (staying ∷ first-b1 ∷ []) run (B 1 ∷ []) .0 b1-stays in
+      let log : B 1 ∷ [] ≡ A 1 ∷ B 1 ∷ [] = agreement .list given start begun (staying ∷ first-b1 ∷ []) run .played (B 1 ∷ []) .0 b1-stays in
       let lengths : 1 ≡ length (A 1 ∷ B 1 ∷ []) = ap length log in
       omega arith
 
@@ -105,7 +105,7 @@ module _ (begins : Given → List ℕ → Type 0) (answers : List ℕ → Call �
   sorts-by-key-alone : Run answers start (sorting ∷ holding-a1 ∷ []) → ⊥
   unfolding accepts receive passes layoutRight numbersRight dependenciesRight contentRight commandRight logOf needs
   sorts-by-key-alone run =
-      let log : A 1 ∷ B 1 ∷ [] ≡ B 1 ∷ A 1 ∷ [] = agreement .played given start begun (sorting ∷ holding-a1 ∷ []) run (A 1 ∷ B 1 ∷ []) .0 user-first in
+      let log : A 1 ∷ B 1 ∷ [] ≡ B 1 ∷ A 1 ∷ [] = agreement .list given start begun (sorting ∷ holding-a1 ∷ []) run .played (A 1 ∷ B 1 ∷ []) .0 user-first in
       let first : A 1 ≡ B 1 = ap (λ (l : List ℕ). getD l 0 0) log in
       omega arith
 
@@ -118,7 +118,7 @@ module _ (begins : Given → List ℕ → Type 0) (answers : List ℕ → Call �
 
   waits : Run answers start (waiting ∷ first-a2 ∷ []) → ⊥
   unfolding accepts receive passes layoutRight numbersRight dependenciesRight contentRight commandRight logOf needs
-  waits run = let none : waiting .answer .executions ≡ 1 = agreement .executions given start begun waiting (first-a2 ∷ []) run in omega arith
+  waits run = let none : waiting .answer .executions ≡ 1 = agreement .call given start begun waiting (first-a2 ∷ []) run .executions in omega arith
 
   -- ---- "Undoing an addition by subtracting, wrong once the sum was stopped": A1 sets 999990, B1 adds 20, which gives 1000000; A2 comes between
   -- them. The undo of B1 restores 999990, and not 1000000 - 20.
@@ -140,4 +140,4 @@ module _ (begins : Given → List ℕ → Type 0) (answers : List ℕ → Call �
 
   subtracts : Run answers start (subtracting ∷ before) → ⊥
   unfolding accepts receive passes layoutRight numbersRight dependenciesRight contentRight commandRight logOf needs readRecord recordBytes recordsOf executionOf undoOf changesOf startValues runDelta runCommand apply changeOf operate raise stop
-  subtracts run = let restored : 999980 ≡ word (pos 999990) = ap firstValue (agreement .records given start begun subtracting before run) in omega arith
+  subtracts run = let restored : 999980 ≡ word (pos 999990) = ap firstValue (agreement .call given start begun subtracting before run .records) in omega arith

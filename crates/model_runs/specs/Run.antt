@@ -67,8 +67,8 @@ abbrev pub playedFrom : {A : Type 0} → Call → ℕ → List A → List A
 playedFrom (delivery m steps) code log = log
 
 -- a call's old log: the one before it, as its steps find it
-abbrev pub oldLog : Given → Event → List Event → List ℕ
-oldLog given e earlier = playedFrom (e .call) (e .answer .code) (logAfter given earlier)
+abbrev pub oldLog : State → Call → Delivered → List Message
+oldLog S c a = playedFrom c (a .code) (logOf S)
 
 -- the lowest number that applies
 abbrev pub codeFor : List ℕ → Call → ℕ
@@ -101,53 +101,52 @@ Played (e ∷ earlier) log =
     × Plays (playedFrom (e .call) (e .answer .code) old) (map undo undone ++ map execute executed) log
 
 -- The records of a call, with their pairs.
-abbrev pub recordsRead : Event → Option (List StepRecord)
-recordsRead e = readRecords (e .answer .undos + e .answer .executions) (e .answer .steps)
+abbrev pub recordsRead : Delivered → Option (List StepRecord)
+recordsRead a = readRecords (a .undos + a .executions) (a .steps)
 
 -- The pairs of all steps, played in turn on setpoints that start as the image's do, beside the executions that stand.
 abbrev pub PairsPlayed : List ℕ → List Event → List Standing → List ℤ → Type 0
 PairsPlayed begun [] standing values = (standing ≡ []) × (values ≡ valuesIn begun)
 PairsPlayed begun (e ∷ earlier) standing values =
     (before : List Standing) × (old : List ℤ) × (records : List StepRecord) × PairsPlayed begun earlier before old
-    × (recordsRead e ≡ some records) × PlaysPairs before old records standing values
+    × (recordsRead (e .answer) ≡ some records) × PlaysPairs before old records standing values
 
--- ---- the demand, of every list of calls from an image that empty wrote
-pub record Agreement (begins : Given → List ℕ → Type 0) (answers : List ℕ → Call → Delivered → Type 0) : Type 0 where
+-- ---- the demand
+-- What it says of a call on the image b that answered a: S is the plain station's state before it, `next` the one after it.
+pub record CallAgrees (S next : State) (b : List ℕ) (c : Call) (a : Delivered) : Type 0 where
   -- "Deliver answers 0 exactly where the plain station accepts, and otherwise the lowest number that applies."
-  pub accepted : (given : Given) (b : List ℕ) → begins given b → (e : Event) (earlier : List Event) → Run answers b (e ∷ earlier)
-      → (e .answer .code ≡ 0) ↔ T (accepts? (stateAfter given earlier) (e .call))
-  pub code : (given : Given) (b : List ℕ) → begins given b → (e : Event) (earlier : List Event) → Run answers b (e ∷ earlier)
-      → e .answer .code ≡ codeFor (imageAfter b earlier) (e .call)
+  pub accepted : (a .code ≡ 0) ↔ T (accepts? S c)
+  pub code : a .code ≡ codeFor b c
+  -- "The number of a delivery's undos is the length of its old log less that of the longest common start,
+  -- and of its executions the length of its new log less the same."
+  pub undos : a .undos ≡ undosOf (sequencesOf (oldLog S c a)) (sequencesOf (logOf next))
+  pub executions : a .executions ≡ executionsOf (sequencesOf (oldLog S c a)) (sequencesOf (logOf next))
+  -- "Its rivals are all lists of undos and executions that can be played from its old log to its new one, both kinds counted
+  -- together": no rival is shorter.
+  pub fewest : (rival : List Step) → Plays (sequencesOf (oldLog S c a)) rival (sequencesOf (logOf next)) → a .undos + a .executions ≤ length rival
+  -- "An execution lists the value after each command; an undo lists the value restored by each command, last command first": the records
+  -- of a call are those between its old log and its new one.
+  pub records : recordsRead a ≡ some (recordsOf (startValues next) (oldLog S c a) (logOf next))
+
+-- What it says after a list of calls.
+pub record ListAgrees (given : Given) (b : List ℕ) (events : List Event) : Type 0 where
   -- "Its log and image are those of the set": the image is the plain station's.
-  pub image : (given : Given) (b : List ℕ) → begins given b → (events : List Event) → Run answers b events
-      → imageAfter b events ≡ imageOf (stateAfter given events)
+  pub image : imageAfter b events ≡ imageOf (stateAfter given events)
+  -- "After each call the played log, the image's log and the plain station's log are the same sequences in the same order."
+  pub played : (log : List ℕ) → Played events log ↔ (log ≡ logAfter given events)
+  pub imageLog : sequencesOf (logIn (imageAfter b events)) ≡ logAfter given events
+  -- "Played on the setpoints, the pairs must lead to the image's values": they can be played, so that each pair of an undo restores
+  -- what its execution's pair had found, and they lead to these values alone.
+  pub setpoints : (values : List ℤ) → ((standing : List Standing) × PairsPlayed b events standing values) ↔ (values ≡ valuesIn (imageAfter b events))
+
+-- "a single claim over whole lists": over every list of calls from an image that empty wrote, and its latest call.
+pub record Agreement (begins : Given → List ℕ → Type 0) (answers : List ℕ → Call → Delivered → Type 0) : Type 0 where
+  pub call : (given : Given) (b : List ℕ) → begins given b → (e : Event) (earlier : List Event) → Run answers b (e ∷ earlier)
+      → CallAgrees (stateAfter given earlier) (stateAfter given (e ∷ earlier)) (imageAfter b earlier) (e .call) (e .answer)
+  pub list : (given : Given) (b : List ℕ) → begins given b → (events : List Event) → Run answers b events → ListAgrees given b events
   -- "So a set of deltas has one image": equal accepted sets give equal images, on any two stations.
   pub equal : (given other : Given) (b c : List ℕ) → begins given b → begins other c → (events others : List Event)
       → Run answers b events → Run answers c others → SameStation given events other others → imageAfter b events ≡ imageAfter c others
-  -- "After each call the played log, the image's log and the plain station's log are the same sequences in the same order."
-  pub played : (given : Given) (b : List ℕ) → begins given b → (events : List Event) → Run answers b events
-      → (log : List ℕ) → Played events log ↔ (log ≡ logAfter given events)
-  pub imageLog : (given : Given) (b : List ℕ) → begins given b → (events : List Event) → Run answers b events
-      → sequencesOf (logIn (imageAfter b events)) ≡ logAfter given events
-  -- "The number of a delivery's undos is the length of its old log less that of the longest common start,
-  -- and of its executions the length of its new log less the same."
-  pub undos : (given : Given) (b : List ℕ) → begins given b → (e : Event) (earlier : List Event) → Run answers b (e ∷ earlier)
-      → e .answer .undos ≡ undosOf (oldLog given e earlier) (logAfter given (e ∷ earlier))
-  pub executions : (given : Given) (b : List ℕ) → begins given b → (e : Event) (earlier : List Event) → Run answers b (e ∷ earlier)
-      → e .answer .executions ≡ executionsOf (oldLog given e earlier) (logAfter given (e ∷ earlier))
-  -- "Its rivals are all lists of undos and executions that can be played from its old log to its new one, both kinds counted
-  -- together": no rival is shorter.
-  pub fewest : (given : Given) (b : List ℕ) → begins given b → (e : Event) (earlier : List Event) → Run answers b (e ∷ earlier)
-      → (rival : List Step) → Plays (oldLog given e earlier) rival (logAfter given (e ∷ earlier))
-      → e .answer .undos + e .answer .executions ≤ length rival
-  -- "An execution lists the value after each command; an undo lists the value restored by each command, last command first": the records
-  -- of a call are those between its old log and its new one.
-  pub records : (given : Given) (b : List ℕ) → begins given b → (e : Event) (earlier : List Event) → Run answers b (e ∷ earlier)
-      → recordsRead e ≡ some (recordsOf (startValues (stateAfter given (e ∷ earlier))) (playedFrom (e .call) (e .answer .code) (logOf (stateAfter given earlier))) (logOf (stateAfter given (e ∷ earlier))))
-  -- "Played on the setpoints, the pairs must lead to the image's values": they can be played, so that each pair of an undo restores
-  -- what its execution's pair had found, and they lead to these values alone.
-  pub setpoints : (given : Given) (b : List ℕ) → begins given b → (events : List Event) → Run answers b events
-      → (values : List ℤ) → ((standing : List Standing) × PairsPlayed b events standing values) ↔ (values ≡ valuesIn (imageAfter b events))
 
 -- ---- the calls of the definitions
 abbrev pub Begins : Given → List ℕ → Type 0

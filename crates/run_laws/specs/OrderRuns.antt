@@ -48,14 +48,14 @@ run-before answers b (e ∷ later) events run = run-before answers b later event
 -- ---- the theorem
 pub order-kept : OrderKept Begins Answers
 order-kept = record {
-  in-order = λ given b begun events run. subst (InOrder (receivedIn events) (stateAfter given events)) (sym (agreement .image given b begun events run))
+  in-order = λ given b begun events run. subst (InOrder (receivedIn events) (stateAfter given events)) (sym (agreement .list given b begun events run .image))
       (image-in-order (stateAfter given events) (state-valid given events) (receivedIn events) (accepted-set given b begun events run));
   ring-held = λ given b begun later events run m k ring.
       let all : List Event = later ++ events in
       let here : m ∈ stateAfter given events .deltas = accepted-set given b begun events (run-before Answers b later events run) m .1 k in
       let there : m ∈ heldOf (stateAfter given all) = ring-held (stateAfter given all) (state-valid given all .ascends) m (state-keeps given later events m here)
       (ring-stays (stateAfter given events) (stateAfter given all) (state-keeps given later events) m ring) in
-      subst (λ (l : List Message). m ∈ l) (sym (ap heldIn (agreement .image given b begun all run) ∙ held-back (stateAfter given all) (state-valid given all))) there;
+      subst (λ (l : List Message). m ∈ l) (sym (ap heldIn (agreement .list given b begun all run .image) ∙ held-back (stateAfter given all) (state-valid given all))) there;
 }
 
 -- and so of every empty and deliver that promise what the definitions answer

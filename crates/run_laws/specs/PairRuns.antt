@@ -27,7 +27,7 @@ unfolding logOf
 pairs-begun b e = record { past = []; played = (refl, sym e); only = λ standing values p. p .1 ∙ e }
 
 pub pairs-next : (b : List ℕ) (e : Event) (earlier : List Event) (S R : State) → Valid S → Valid R → ((m : Message) → m ∈ S .deltas → m ∈ R .deltas)
-    → recordsRead e ≡ some (recordsBetween S R)
+    → recordsRead (e .answer) ≡ some (recordsBetween S R)
     → PairsLead b earlier S → PairsLead b (e ∷ earlier) R
 pairs-next b e earlier S R p q all read before = record {
   past = before .past;

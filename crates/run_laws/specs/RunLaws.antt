@@ -4,7 +4,7 @@ use mathlib.Core.Logic.{⊎-elim, _↔_}
 use mathlib.Core.Bool.{Bool, true, false, cond}
 use mathlib.Core.Option.{some, Option·some-injective}
 use mathlib.Core.List.{List, [], _∷_, _++_, map, reverse, List·Memᴰ·head, List·Memᴰ·tail, List·Memᴰ·not-nil, List·Memᴰ·cases-cons, List·Memᴰ·append-cases, Memᴰ·append-left, Memᴰ·append-right, Memᴰ·cast}
-use Prim.Native.Nat.{ℕ, zero, suc, _+_}
+use Prim.Native.Nat.{ℕ, zero, suc, _+_, _≤_}
 use native.Mathlib.Omega.{arith}
 use native.Mathlib.Nat.{suc-ne-zero}
 use lib.ListN.{length, length-reverse, length-drop, drop}
@@ -14,11 +14,11 @@ use Rattle.model.specs.Message.{Message}
 use Rattle.model.specs.Order.{Origin, State, holding, add, sequencesOf, logOf}
 use Rattle.model.specs.Setpoints.{startValues}
 use Rattle.model.specs.Image.{imageOf, Valid, valuesIn, logIn}
-use Rattle.model.specs.Steps.{Step, undo, execute, common, stepsOf, undosOf, executionsOf, StepRecord, recordsOf, recordsBetween, recordsBytes, readRecords, stepsIn, readSteps, Plays}
+use Rattle.model.specs.Steps.{Step, undo, execute, common, stepsOf, undosOf, StepRecord, recordsBetween, recordsBytes, readRecords, stepsIn, readSteps, Plays}
 use Rattle.model.specs.Codes.{lowestCode, emptyConditions}
 use Rattle.model.specs.Calls.{Delivered, deliverAnswer, emptyState, emptyAnswer, empty}
 use Rattle.model.specs.PlainStation.{accepts, receive}
-use Rattle.model_runs.specs.Run.{Given, Call, delivery, Event, imageAfter, Run, accepts?, stateBegun, stateNext, stateAfter, logAfter, playedFrom, oldLog, codeFor, messagesOfCall, acceptedIn, SameStation, StepsTaken, Played, Agreement, Begins, Answers}
+use Rattle.model_runs.specs.Run.{Given, Call, delivery, Event, imageAfter, Run, accepts?, stateBegun, stateNext, stateAfter, logAfter, playedFrom, oldLog, codeFor, messagesOfCall, acceptedIn, SameStation, StepsTaken, Played, recordsRead, CallAgrees, Agreement, Begins, Answers}
 use Rattle.order.specs.StepLaws.{steps-play, steps-fewest, steps-counted, common-self, plays-unique}
 use Rattle.order.specs.TestLaws.{Same}
 use Rattle.laws.specs.SetLaws.{insert-from, insert-keeps, insert-has, ascending-unique}
@@ -32,17 +32,13 @@ use Rattle.run_laws.specs.PairRuns.{PairsLead, pairs-begun, pairs-next, 
 
 -- ---- one call on the image of a valid state, after which the plain station's state is `next`
 pub record CallFacts (S next : State) (c : Call) (a : Delivered) : Type 0 where
-  pub accepted : (a .code ≡ 0) ↔ T (accepts? S c)
-  pub code : a .code ≡ codeFor (imageOf S) c
+  pub agrees : CallAgrees S next (imageOf S) c a
   pub image : a .image ≡ imageOf next
-  pub undos : a .undos ≡ undosOf (playedFrom c (a .code) (sequencesOf (logOf S))) (sequencesOf (logOf next))
-  pub executions : a .executions ≡ executionsOf (playedFrom c (a .code) (sequencesOf (logOf S))) (sequencesOf (logOf next))
-  pub records : readRecords (a .undos + a .executions) (a .steps) ≡ some (recordsOf (startValues next) (playedFrom c (a .code) (logOf S)) (logOf next))
 
 -- the steps alone
-pub steps-read : (S next : State) (c : Call) (a : Delivered) → CallFacts S next c a
-    → readSteps (a .undos + a .executions) (a .steps) ≡ some (stepsOf (playedFrom c (a .code) (sequencesOf (logOf S))) (sequencesOf (logOf next)))
-steps-read S next (delivery m steps) a facts = ap stepsIn (facts .records) ∙ ap some (records-steps (startValues next) (logOf S) (logOf next))
+pub steps-read : (S next : State) (b : List ℕ) (c : Call) (a : Delivered) → CallAgrees S next b c a
+    → readSteps (a .undos + a .executions) (a .steps) ≡ some (stepsOf (sequencesOf (oldLog S c a)) (sequencesOf (logOf next)))
+steps-read S next b c a agrees = ap stepsIn (agrees .records) ∙ ap some (records-steps (startValues next) (oldLog S c a) (logOf next))
 
 -- no step from a log to itself
 pub undos-self : (l : List ℕ) → undosOf l l ≡ 0
@@ -55,15 +51,24 @@ module _ (S : State) (valid : Valid S) (m : Message) (steps : List ℕ) where
   accepted-facts : stateCode S m (length steps) ≡ 0 → CallFacts S (add m S) (delivery m steps) (deliverAnswer 0 S (imageOf S) m steps)
   unfolding startValues
   accepted-facts e = record {
-    accepted = (λ z. code-zero S m (length steps) .0 e, λ t. refl);
-    code = code-is 0 e;
+    agrees = record {
+      accepted = (λ z. code-zero S m (length steps) .0 e, λ t. refl);
+      code = code-is 0 e;
+      undos = refl;
+      executions = refl;
+      fewest = λ rival plays. subst (λ (n : ℕ). n ≤ length rival) (steps-counted old new) (steps-fewest old new rival plays);
+      records = subst (λ (n : ℕ). readRecords n (recordsBytes made ++ behind) ≡ some made) (records-counted (startValues S) (logOf S) (logOf (add m S)))
+          (records-back S (add m S) valid valid-next behind);
+    };
     image = refl;
-    undos = refl;
-    executions = refl;
-    records = subst (λ (n : ℕ). readRecords n (recordsBytes made ++ behind) ≡ some made) (records-counted (startValues S) (logOf S) (logOf (add m S)))
-        (records-back S (add m S) valid valid-next behind);
   }
     where
+      old : List ℕ
+      old = sequencesOf (logOf S)
+
+      new : List ℕ
+      new = sequencesOf (logOf (add m S))
+
       made : List StepRecord
       made = recordsBetween S (add m S)
 
@@ -75,12 +80,15 @@ module _ (S : State) (valid : Valid S) (m : Message) (steps : List ℕ) where
 
   refused-facts : (n : ℕ) → stateCode S m (length steps) ≡ suc n → CallFacts S S (delivery m steps) (deliverAnswer (suc n) S (imageOf S) m steps)
   refused-facts n e = record {
-    accepted = (λ z. absurd (suc-ne-zero n z), λ t. absurd (suc-ne-zero n (sym e ∙ code-zero S m (length steps) .1 t)));
-    code = code-is (suc n) e;
+    agrees = record {
+      accepted = (λ z. absurd (suc-ne-zero n z), λ t. absurd (suc-ne-zero n (sym e ∙ code-zero S m (length steps) .1 t)));
+      code = code-is (suc n) e;
+      undos = sym (undos-self (sequencesOf (logOf S)));
+      executions = sym (undos-self (sequencesOf (logOf S)));
+      fewest = λ rival plays. omega arith;
+      records = ap some (sym (records-self (startValues S) (logOf S)));
+    };
     image = refl;
-    undos = sym (undos-self (sequencesOf (logOf S)));
-    executions = sym (undos-self (sequencesOf (logOf S)));
-    records = ap some (sym (records-self (startValues S) (logOf S)));
   }
 
   answer-facts : (n : ℕ) → stateCode S m (length steps) ≡ n
@@ -148,13 +156,13 @@ accepted-set given b begun (e ∷ earlier) run = go (eqb (e .answer .code) 0) (e
     go : (t : Bool) → (T t → e .answer .code ≡ 0) → (e .answer .code ≡ 0 → T t) → Same (stateAfter given earlier .deltas) (acceptedIn earlier)
         → Same (stateNext (stateAfter given earlier) (e .call) .deltas) (cond t (messagesOfCall (e .call) ++ acceptedIn earlier) (acceptedIn earlier))
     go true f g ih = λ m.
-        let s = keeps-set (stateAfter given earlier) (state-valid given earlier) (e .call) (facts .accepted .0 (f tt)) m in
+        let s = keeps-set (stateAfter given earlier) (state-valid given earlier) (e .call) (facts .agrees .accepted .0 (f tt)) m in
         let new = messagesOfCall (e .call) in (
           λ k. ⊎-elim (Memᴰ·append-left _) (λ j. Memᴰ·append-right new (ih m .0 j)) (List·Memᴰ·append-cases new (s .0 k)),
           λ k. s .1 (⊎-elim (Memᴰ·append-left _) (λ j. Memᴰ·append-right new (ih m .1 j)) (List·Memᴰ·append-cases new k)),
         )
     go false f g ih =
-        subst (λ (R : State). Same (R .deltas) (acceptedIn earlier)) (sym (keeps-refused (stateAfter given earlier) (e .call) (λ t. g (facts .accepted .1 t)))) ih
+        subst (λ (R : State). Same (R .deltas) (acceptedIn earlier)) (sym (keeps-refused (stateAfter given earlier) (e .call) (λ t. g (facts .agrees .accepted .1 t)))) ih
 
 same-images : (given other : Given) (b c : List ℕ) → Begins given b → Begins other c → (events others : List Event)
     → Run Answers b events → Run Answers c others → SameStation given events other others → imageAfter b events ≡ imageAfter c others
@@ -171,43 +179,51 @@ same-images given other b c p q events others r t f =
 undone-length : (old new : List ℕ) → length (reverse (drop (common old new) old)) ≡ undosOf old new
 undone-length old new = length-reverse (drop (common old new) old) ∙ length-drop (common old new) old
 
-taken : (old new : List ℕ) (S next : State) (e : Event) → CallFacts S next (e .call) (e .answer)
-    → old ≡ playedFrom (e .call) (e .answer .code) (sequencesOf (logOf S)) → new ≡ sequencesOf (logOf next)
-    → StepsTaken e (reverse (drop (common old new) old)) (drop (common old new) new)
-taken old new S next e facts p q = record {
-  read = steps-read S next (e .call) (e .answer) facts ∙ ap₂ (λ (k l : List ℕ). some (stepsOf k l)) (sym p) (sym q);
-  undos = undone-length old new ∙ ap₂ undosOf p q ∙ sym (facts .undos);
-  executions = length-drop (common old new) new ∙ ap₂ executionsOf p q ∙ sym (facts .executions);
-}
+taken : (S next : State) (e : Event) → CallFacts S next (e .call) (e .answer)
+    → let old = sequencesOf (oldLog S (e .call) (e .answer)) in let new = sequencesOf (logOf next) in
+    StepsTaken e (reverse (drop (common old new) old)) (drop (common old new) new)
+taken S next e facts =
+    let old = sequencesOf (oldLog S (e .call) (e .answer)) in let new = sequencesOf (logOf next) in record {
+      read = steps-read S next (imageOf S) (e .call) (e .answer) (facts .agrees);
+      undos = undone-length old new ∙ sym (facts .agrees .undos);
+      executions = length-drop (common old new) new ∙ sym (facts .agrees .executions);
+    }
+
+-- the log that the steps are played from, as sequences
+played-names : (c : Call) (code : ℕ) (l : List Message) → playedFrom c code (sequencesOf l) ≡ sequencesOf (playedFrom c code l)
+played-names (delivery m steps) code l = refl
 
 pub plays-log : (given : Given) (b : List ℕ) → Begins given b → (events : List Event) → Run Answers b events → (log : List ℕ) → Played events log ↔ (log ≡ logAfter given events)
 unfolding logOf
 plays-log given b begun [] run log = (λ e. e, λ e. e)
 plays-log given b begun (e ∷ earlier) run log = go (event-facts given b begun e earlier run) (plays-log given b begun earlier (run .1))
   where
-    left : List ℕ
-    left = logAfter given earlier
+    S : State
+    S = stateAfter given earlier
 
     old : List ℕ
-    old = oldLog given e earlier
+    old = sequencesOf (oldLog S (e .call) (e .answer))
 
     new : List ℕ
     new = logAfter given (e ∷ earlier)
 
-    go : CallFacts (stateAfter given earlier) (stateAfter given (e ∷ earlier)) (e .call) (e .answer) → ((l : List ℕ) → Played earlier l ↔ (l ≡ left))
+    named : playedFrom (e .call) (e .answer .code) (logAfter given earlier) ≡ old
+    named = played-names (e .call) (e .answer .code) (logOf S)
+
+    go : CallFacts S (stateAfter given (e ∷ earlier)) (e .call) (e .answer) → ((l : List ℕ) → Played earlier l ↔ (l ≡ logAfter given earlier))
         → Played (e ∷ earlier) log ↔ (log ≡ new)
     go facts ih = (
       λ p. plays-unique (stepsOf old new) old log new
-          (subst (λ (ss : List Step). Plays old ss log) (Option·some-injective _ _ (sym (p .4 .read) ∙ steps-read (stateAfter given earlier) (stateAfter given (e ∷ earlier)) (e .call) (e .answer) facts))
-          (subst (λ (l : List ℕ). Plays (playedFrom (e .call) (e .answer .code) l) (map undo (p .1) ++ map execute (p .2)) log) (ih (p .0) .0 (p .3)) (p .5)))
+          (subst (λ (ss : List Step). Plays old ss log) (Option·some-injective _ _ (sym (p .4 .read) ∙ taken S (stateAfter given (e ∷ earlier)) e facts .read))
+          (subst (λ (l : List ℕ). Plays l (map undo (p .1) ++ map execute (p .2)) log) (ap (playedFrom (e .call) (e .answer .code)) (ih (p .0) .0 (p .3)) ∙ named) (p .5)))
           (steps-play old new),
       λ q. (
-        left,
+        logAfter given earlier,
         reverse (drop (common old new) old),
         drop (common old new) new,
-        ih left .1 refl,
-        taken old new (stateAfter given earlier) (stateAfter given (e ∷ earlier)) e facts refl refl,
-        subst (Plays old (stepsOf old new)) (sym q) (steps-play old new),
+        ih (logAfter given earlier) .1 refl,
+        taken S (stateAfter given (e ∷ earlier)) e facts,
+        subst (λ (l : List ℕ). Plays l (stepsOf old new) log) (sym named) (subst (Plays old (stepsOf old new)) (sym q) (steps-play old new)),
       ),
     )
 
@@ -221,9 +237,9 @@ next-keeps S (delivery m steps) x k = go (accepts S m (length steps))
     go false = k
 
 -- a delivery's steps are played from the log as it was left
-records-between : (S R : State) (c : Call) (a : Delivered) → CallFacts S R c a → readRecords (a .undos + a .executions) (a .steps) ≡ some (recordsBetween S R)
+records-between : (S R : State) (c : Call) (a : Delivered) → CallFacts S R c a → recordsRead a ≡ some (recordsBetween S R)
 unfolding startValues
-records-between S R (delivery m steps) a facts = facts .records
+records-between S R (delivery m steps) a facts = facts .agrees .records
 
 pairs-lead : (given : Given) (b : List ℕ) → Begins given b → (events : List Event) → Run Answers b events → PairsLead b events (stateAfter given events)
 pairs-lead given b begun [] run = pairs-begun b (ap valuesIn (begins-image given b begun) ∙ values-back emptyState empty-valid)
@@ -234,20 +250,16 @@ pairs-lead given b begun (e ∷ earlier) run =
 -- ---- the theorem
 pub agreement : Agreement Begins Answers
 agreement = record {
-  accepted = λ given b begun e earlier run. event-facts given b begun e earlier run .accepted;
-  code = λ given b begun e earlier run. event-facts given b begun e earlier run .code ∙ ap (λ (i : List ℕ). codeFor i (e .call)) (sym (run-image given b begun earlier (run .1)));
-  image = run-image;
+  call = λ given b begun e earlier run.
+      subst (λ (i : List ℕ). CallAgrees (stateAfter given earlier) (stateAfter given (e ∷ earlier)) i (e .call) (e .answer)) (sym (run-image given b begun earlier (run .1)))
+      (event-facts given b begun e earlier run .agrees);
+  list = λ given b begun events run. record {
+    image = run-image given b begun events run;
+    played = plays-log given b begun events run;
+    imageLog = ap (λ (i : List ℕ). sequencesOf (logIn i)) (run-image given b begun events run) ∙ ap sequencesOf (log-back (stateAfter given events) (state-valid given events));
+    setpoints = pairs-values b events (stateAfter given events) (state-valid given events) (imageAfter b events) (run-image given b begun events run) (pairs-lead given b begun events run);
+  };
   equal = same-images;
-  played = plays-log;
-  imageLog = λ given b begun events run. ap (λ (i : List ℕ). sequencesOf (logIn i)) (run-image given b begun events run) ∙ ap sequencesOf (log-back (stateAfter given events) (state-valid given events));
-  undos = λ given b begun e earlier run. event-facts given b begun e earlier run .undos;
-  executions = λ given b begun e earlier run. event-facts given b begun e earlier run .executions;
-  fewest = λ given b begun e earlier run rival plays.
-      let f = event-facts given b begun e earlier run in
-      omega (arith, f .undos, f .executions, steps-counted (oldLog given e earlier) (logAfter given (e ∷ earlier)), steps-fewest (oldLog given e earlier) (logAfter given (e ∷ earlier)) rival plays);
-  records = λ given b begun e earlier run. event-facts given b begun e earlier run .records;
-  setpoints = λ given b begun events run.
-      pairs-values b events (stateAfter given events) (state-valid given events) (imageAfter b events) (run-image given b begun events run) (pairs-lead given b begun events run);
 }
 
 -- ---- and so of every empty and deliver that promise what the definitions answer
@@ -259,18 +271,7 @@ run-of answers f b (e ∷ earlier) run = (f (imageAfter b earlier) (e .call) (e 
 pub agreement-of : (begins : Given → List ℕ → Type 0) (answers : List ℕ → Call → Delivered → Type 0) → ((given : Given) (b : List ℕ) → begins given b → Begins given b)
     → ((b : List ℕ) (c : Call) (a : Delivered) → answers b c a → Answers b c a) → Agreement begins answers
 agreement-of begins answers f g = record {
-  accepted = λ given b begun e earlier run. agreement .accepted given b (f given b begun) e earlier (same-run b (e ∷ earlier) run);
-  code = λ given b begun e earlier run. agreement .code given b (f given b begun) e earlier (same-run b (e ∷ earlier) run);
-  image = λ given b begun events run. agreement .image given b (f given b begun) events (same-run b events run);
-  equal = λ given other b c p q events others r t. agreement .equal given other b c (f given b p) (f other c q) events others (same-run b events r) (same-run c others t);
-  played = λ given b begun events run. agreement .played given b (f given b begun) events (same-run b events run);
-  imageLog = λ given b begun events run. agreement .imageLog given b (f given b begun) events (same-run b events run);
-  undos = λ given b begun e earlier run. agreement .undos given b (f given b begun) e earlier (same-run b (e ∷ earlier) run);
-  executions = λ given b begun e earlier run. agreement .executions given b (f given b begun) e earlier (same-run b (e ∷ earlier) run);
-  fewest = λ given b begun e earlier run. agreement .fewest given b (f given b begun) e earlier (same-run b (e ∷ earlier) run);
-  records = λ given b begun e earlier run. agreement .records given b (f given b begun) e earlier (same-run b (e ∷ earlier) run);
-  setpoints = λ given b begun events run. agreement .setpoints given b (f given b begun) events (same-run b events run);
+  call = λ given b begun e earlier run. agreement .call given b (f given b begun) e earlier (run-of answers g b (e ∷ earlier) run);
+  list = λ given b begun events run. agreement .list given b (f given b begun) events (run-of answers g b events run);
+  equal = λ given other b c p q events others r t. agreement .equal given other b c (f given b p) (f other c q) events others (run-of answers g b events r) (run-of answers g c others t);
 }
-  where
-    same-run : (b : List ℕ) (events : List Event) → Run answers b events → Run Answers b events
-    same-run = run-of answers g
