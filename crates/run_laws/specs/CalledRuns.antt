@@ -1,14 +1,14 @@
 -- Runs of calls that are known by what they were given and what they answered: demands 2 and 3 hold of them if they answer what the
 -- definitions do.
 use mathlib.Core.Path.{_≡_, sym, _∙_, ap}
-use mathlib.Core.List.{List}
+use mathlib.Core.List.{List, [], _∷_, _++_}
 use Prim.Native.Nat.{ℕ}
 use Rattle.model.specs.Message.{Message}
 use Rattle.model.specs.Calls.{Emptied, empty, Delivered, deliver}
-use Rattle.model_runs.specs.Run.{Given, Call, delivery, Agreement, Begins, Answers}
+use Rattle.model_runs.specs.Run.{Given, Call, delivery, Event, imageAfter, Run, Agreement, Begins, Answers}
 use Rattle.model_runs.specs.RunOrder.{OrderKept}
-use Rattle.run_laws.specs.RunLaws.{agreement-of}
-use Rattle.run_laws.specs.OrderRuns.{order-kept-of}
+use Rattle.run_laws.specs.RunLaws.{agreement}
+use Rattle.run_laws.specs.OrderRuns.{order-kept}
 
 -- `emptied buffer a`: a call of empty on this buffer answered a. A run begins with one that answered 0 and left the image b.
 pub record Began (emptied : List ℕ → Emptied → Type 0) (given : Given) (b : List ℕ) : Type 0 where
@@ -32,8 +32,19 @@ module _ (emptied : List ℕ → Emptied → Type 0) (delivered : List ℕ → M
   answers : (b : List ℕ) (c : Call) (a : Delivered) → Answered delivered b c a → Answers b c a
   answers b (delivery m steps) a c = delivers b m steps a c
 
+  run-of : (b : List ℕ) (events : List Event) → Run (Answered delivered) b events → Run Answers b events
+  run-of b [] run = tt
+  run-of b (e ∷ earlier) run = (answers (imageAfter b earlier) (e .call) (e .answer) (run .0), run-of b earlier (run .1))
+
   pub called-agreement : Agreement (Began emptied) (Answered delivered)
-  called-agreement = agreement-of (Began emptied) (Answered delivered) begins answers
+  called-agreement = record {
+    call = λ given b begun e earlier run. agreement .call given b (begins given b begun) e earlier (run-of b (e ∷ earlier) run);
+    list = λ given b begun events run. agreement .list given b (begins given b begun) events (run-of b events run);
+    equal = λ given other b c p q events others r t. agreement .equal given other b c (begins given b p) (begins other c q) events others (run-of b events r) (run-of c others t);
+  }
 
   pub called-order : OrderKept (Began emptied) (Answered delivered)
-  called-order = order-kept-of (Began emptied) (Answered delivered) begins answers
+  called-order = record {
+    in-order = λ given b begun events run. order-kept .in-order given b (begins given b begun) events (run-of b events run);
+    ring-held = λ given b begun later events run. order-kept .ring-held given b (begins given b begun) later events (run-of b (later ++ events) run);
+  }

@@ -1,4 +1,4 @@
--- Demand 2 after every call: `OrderKept` holds of the definitions' own calls, and of every pair of calls that promises what they answer.
+-- Demand 2 after every call: `OrderKept` holds of the definitions' own calls.
 use mathlib.Core.Path.{_≡_, sym, _∙_, ap, subst}
 use mathlib.Core.Logic.{_↔_}
 use mathlib.Core.List.{List, [], _∷_, _++_}
@@ -13,7 +13,7 @@ use Rattle.model_runs.specs.RunOrder.{receivedIn, InOrder, OrderKept}
 use Rattle.order.specs.TestLaws.{Same}
 use Rattle.laws.specs.LogLaws.{log-is, log-executable, log-grounded, held-executable, held-ascends, ring-stays, ring-held}
 use Rattle.laws.specs.ImageLaws.{log-back, held-back}
-use Rattle.run_laws.specs.RunLaws.{state-valid, accepted-set, next-keeps, agreement, run-of}
+use Rattle.run_laws.specs.RunLaws.{state-valid, accepted-set, next-keeps, agreement}
 
 -- ---- the image of a valid state is in order
 image-in-order : (S : State) → Valid S → (received : List Message) → Same (S .deltas) received → InOrder received S (imageOf S)
@@ -56,12 +56,4 @@ order-kept = record {
       let there : m ∈ heldOf (stateAfter given all) = ring-held (stateAfter given all) (state-valid given all .ascends) m (state-keeps given later events m here)
       (ring-stays (stateAfter given events) (stateAfter given all) (state-keeps given later events) m ring) in
       subst (λ (l : List Message). m ∈ l) (sym (ap heldIn (agreement .list given b begun all run .image) ∙ held-back (stateAfter given all) (state-valid given all))) there;
-}
-
--- and so of every empty and deliver that promise what the definitions answer
-pub order-kept-of : (begins : Given → List ℕ → Type 0) (answers : List ℕ → Call → Delivered → Type 0) → ((given : Given) (b : List ℕ) → begins given b → Begins given b)
-    → ((b : List ℕ) (c : Call) (a : Delivered) → answers b c a → Answers b c a) → OrderKept begins answers
-order-kept-of begins answers f g = record {
-  in-order = λ given b begun events run. order-kept .in-order given b (f given b begun) events (run-of answers g b events run);
-  ring-held = λ given b begun later events run. order-kept .ring-held given b (f given b begun) later events (run-of answers g b (later ++ events) run);
 }

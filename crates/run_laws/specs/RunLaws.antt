@@ -1,4 +1,4 @@
--- Demand 3 of the definitions' own calls: `Agreement` holds of them, and of every pair of calls that promises what they answer.
+-- Demand 3 of the definitions' own calls: `Agreement` holds of them.
 use mathlib.Core.Path.{_≡_, refl, sym, _∙_, ap, ap₂, subst}
 use mathlib.Core.Logic.{⊎-elim, _↔_}
 use mathlib.Core.Bool.{Bool, true, false, cond}
@@ -18,7 +18,7 @@ use Rattle.model.specs.Steps.{Step, undo, execute, common, stepsOf, undosOf, St
 use Rattle.model.specs.Codes.{lowestCode, emptyConditions}
 use Rattle.model.specs.Calls.{Delivered, deliverAnswer, emptyState, emptyAnswer, empty}
 use Rattle.model.specs.PlainStation.{accepts, receive}
-use Rattle.model_runs.specs.Run.{Given, Call, delivery, Event, imageAfter, Run, accepts?, stateBegun, stateNext, stateAfter, logAfter, playedFrom, oldLog, codeFor, messagesOfCall, acceptedIn, SameStation, StepsTaken, Played, recordsRead, CallAgrees, Agreement, Begins, Answers}
+use Rattle.model_runs.specs.Run.{Given, Call, delivery, Event, imageAfter, Run, accepts?, stateBegun, stateNext, stateAfter, logAfter, playedFrom, oldLog, codeFor, messagesOfCall, acceptedIn, SameStation, Played, recordsRead, CallAgrees, Agreement, Begins, Answers}
 use Rattle.order.specs.StepLaws.{steps-play, steps-fewest, steps-counted, common-self, plays-unique}
 use Rattle.order.specs.TestLaws.{Same}
 use Rattle.laws.specs.SetLaws.{insert-from, insert-keeps, insert-has, ascending-unique}
@@ -56,19 +56,15 @@ module _ (S : State) (valid : Valid S) (m : Message) (steps : List ℕ) where
       code = code-is 0 e;
       undos = refl;
       executions = refl;
-      fewest = λ rival plays. subst (λ (n : ℕ). n ≤ length rival) (steps-counted old new) (steps-fewest old new rival plays);
+      fewest = λ rival plays.
+          let old = sequencesOf (logOf S) in let new = sequencesOf (logOf (add m S)) in
+          subst (λ (n : ℕ). n ≤ length rival) (steps-counted old new) (steps-fewest old new rival plays);
       records = subst (λ (n : ℕ). readRecords n (recordsBytes made ++ behind) ≡ some made) (records-counted (startValues S) (logOf S) (logOf (add m S)))
           (records-back S (add m S) valid valid-next behind);
     };
     image = refl;
   }
     where
-      old : List ℕ
-      old = sequencesOf (logOf S)
-
-      new : List ℕ
-      new = sequencesOf (logOf (add m S))
-
       made : List StepRecord
       made = recordsBetween S (add m S)
 
@@ -122,19 +118,19 @@ begins-image given b r = r .1 ∙ go (lowestCode (emptyConditions (given .buffer
     go zero e = refl
     go (suc n) e = absurd (suc-ne-zero n e)
 
--- a call on the image that the last one left
-on-image : (b : List ℕ) (S : State) → Valid S → b ≡ imageOf S → (c : Call) (a : Delivered) → Answers b c a → CallFacts S (stateNext S c) c a
-on-image b S valid e c a h = call-facts S valid c a (subst (λ (i : List ℕ). Answers i c a) e h)
+-- a list of calls from the image that empty wrote
+module _ (given : Given) (b : List ℕ) (begun : Begins given b) where
+  facts-after : (e : Event) (earlier : List Event) → imageAfter b earlier ≡ imageOf (stateAfter given earlier) → Answers (imageAfter b earlier) (e .call) (e .answer)
+      → CallFacts (stateAfter given earlier) (stateAfter given (e ∷ earlier)) (e .call) (e .answer)
+  facts-after e earlier is h =
+      call-facts (stateAfter given earlier) (state-valid given earlier) (e .call) (e .answer) (subst (λ (i : List ℕ). Answers i (e .call) (e .answer)) is h)
 
-run-image : (given : Given) (b : List ℕ) → Begins given b → (events : List Event) → Run Answers b events → imageAfter b events ≡ imageOf (stateAfter given events)
-run-image given b begun [] run = begins-image given b begun
-run-image given b begun (e ∷ earlier) run =
-    on-image (imageAfter b earlier) (stateAfter given earlier) (state-valid given earlier) (run-image given b begun earlier (run .1)) (e .call) (e .answer) (run .0) .image
+  run-image : (events : List Event) → Run Answers b events → imageAfter b events ≡ imageOf (stateAfter given events)
+  run-image [] run = begins-image given b begun
+  run-image (e ∷ earlier) run = facts-after e earlier (run-image earlier (run .1)) (run .0) .image
 
-event-facts : (given : Given) (b : List ℕ) → Begins given b → (e : Event) (earlier : List Event) → Run Answers b (e ∷ earlier)
-    → CallFacts (stateAfter given earlier) (stateAfter given (e ∷ earlier)) (e .call) (e .answer)
-event-facts given b begun e earlier run =
-    on-image (imageAfter b earlier) (stateAfter given earlier) (state-valid given earlier) (run-image given b begun earlier (run .1)) (e .call) (e .answer) (run .0)
+  event-facts : (e : Event) (earlier : List Event) → Run Answers b (e ∷ earlier) → CallFacts (stateAfter given earlier) (stateAfter given (e ∷ earlier)) (e .call) (e .answer)
+  event-facts e earlier run = facts-after e earlier (run-image earlier (run .1)) (run .0)
 
 -- ---- the accepted messages are the set
 keeps-set : (S : State) → Valid S → (c : Call) → T (accepts? S c) → Same (stateNext S c .deltas) (messagesOfCall c ++ S .deltas)
@@ -176,19 +172,6 @@ same-images given other b c p q events others r t f =
     ))
 
 -- ---- the played log
-undone-length : (old new : List ℕ) → length (reverse (drop (common old new) old)) ≡ undosOf old new
-undone-length old new = length-reverse (drop (common old new) old) ∙ length-drop (common old new) old
-
-taken : (S next : State) (e : Event) → CallFacts S next (e .call) (e .answer)
-    → let old = sequencesOf (oldLog S (e .call) (e .answer)) in let new = sequencesOf (logOf next) in
-    StepsTaken e (reverse (drop (common old new) old)) (drop (common old new) new)
-taken S next e facts =
-    let old = sequencesOf (oldLog S (e .call) (e .answer)) in let new = sequencesOf (logOf next) in record {
-      read = steps-read S next (imageOf S) (e .call) (e .answer) (facts .agrees);
-      undos = undone-length old new ∙ sym (facts .agrees .undos);
-      executions = length-drop (common old new) new ∙ sym (facts .agrees .executions);
-    }
-
 -- the log that the steps are played from, as sequences
 played-names : (c : Call) (code : ℕ) (l : List Message) → playedFrom c code (sequencesOf l) ≡ sequencesOf (playedFrom c code l)
 played-names (delivery m steps) code l = refl
@@ -196,7 +179,7 @@ played-names (delivery m steps) code l = refl
 pub plays-log : (given : Given) (b : List ℕ) → Begins given b → (events : List Event) → Run Answers b events → (log : List ℕ) → Played events log ↔ (log ≡ logAfter given events)
 unfolding logOf
 plays-log given b begun [] run log = (λ e. e, λ e. e)
-plays-log given b begun (e ∷ earlier) run log = go (event-facts given b begun e earlier run) (plays-log given b begun earlier (run .1))
+plays-log given b begun (e ∷ earlier) run log = go (plays-log given b begun earlier (run .1))
   where
     S : State
     S = stateAfter given earlier
@@ -210,11 +193,16 @@ plays-log given b begun (e ∷ earlier) run log = go (event-facts given b begun 
     named : playedFrom (e .call) (e .answer .code) (logAfter given earlier) ≡ old
     named = played-names (e .call) (e .answer .code) (logOf S)
 
-    go : CallFacts S (stateAfter given (e ∷ earlier)) (e .call) (e .answer) → ((l : List ℕ) → Played earlier l ↔ (l ≡ logAfter given earlier))
-        → Played (e ∷ earlier) log ↔ (log ≡ new)
-    go facts ih = (
+    facts : CallFacts S (stateAfter given (e ∷ earlier)) (e .call) (e .answer)
+    facts = event-facts given b begun e earlier run
+
+    read : readSteps (e .answer .undos + e .answer .executions) (e .answer .steps) ≡ some (stepsOf old new)
+    read = steps-read S (stateAfter given (e ∷ earlier)) (imageOf S) (e .call) (e .answer) (facts .agrees)
+
+    go : ((l : List ℕ) → Played earlier l ↔ (l ≡ logAfter given earlier)) → Played (e ∷ earlier) log ↔ (log ≡ new)
+    go ih = (
       λ p. plays-unique (stepsOf old new) old log new
-          (subst (λ (ss : List Step). Plays old ss log) (Option·some-injective _ _ (sym (p .4 .read) ∙ taken S (stateAfter given (e ∷ earlier)) e facts .read))
+          (subst (λ (ss : List Step). Plays old ss log) (Option·some-injective _ _ (sym (p .4 .read) ∙ read))
           (subst (λ (l : List ℕ). Plays l (map undo (p .1) ++ map execute (p .2)) log) (ap (playedFrom (e .call) (e .answer .code)) (ih (p .0) .0 (p .3)) ∙ named) (p .5)))
           (steps-play old new),
       λ q. (
@@ -222,7 +210,11 @@ plays-log given b begun (e ∷ earlier) run log = go (event-facts given b begun 
         reverse (drop (common old new) old),
         drop (common old new) new,
         ih (logAfter given earlier) .1 refl,
-        taken S (stateAfter given (e ∷ earlier)) e facts,
+        record {
+          read = read;
+          undos = length-reverse (drop (common old new) old) ∙ length-drop (common old new) old ∙ sym (facts .agrees .undos);
+          executions = length-drop (common old new) new ∙ sym (facts .agrees .executions);
+        },
         subst (λ (l : List ℕ). Plays l (stepsOf old new) log) (sym named) (subst (Plays old (stepsOf old new)) (sym q) (steps-play old new)),
       ),
     )
@@ -260,18 +252,4 @@ agreement = record {
     setpoints = pairs-values b events (stateAfter given events) (state-valid given events) (imageAfter b events) (run-image given b begun events run) (pairs-lead given b begun events run);
   };
   equal = same-images;
-}
-
--- ---- and so of every empty and deliver that promise what the definitions answer
-pub run-of : (answers : List ℕ → Call → Delivered → Type 0) → ((b : List ℕ) (c : Call) (a : Delivered) → answers b c a → Answers b c a)
-    → (b : List ℕ) (events : List Event) → Run answers b events → Run Answers b events
-run-of answers f b [] run = tt
-run-of answers f b (e ∷ earlier) run = (f (imageAfter b earlier) (e .call) (e .answer) (run .0), run-of answers f b earlier (run .1))
-
-pub agreement-of : (begins : Given → List ℕ → Type 0) (answers : List ℕ → Call → Delivered → Type 0) → ((given : Given) (b : List ℕ) → begins given b → Begins given b)
-    → ((b : List ℕ) (c : Call) (a : Delivered) → answers b c a → Answers b c a) → Agreement begins answers
-agreement-of begins answers f g = record {
-  call = λ given b begun e earlier run. agreement .call given b (f given b begun) e earlier (run-of answers g b (e ∷ earlier) run);
-  list = λ given b begun events run. agreement .list given b (f given b begun) events (run-of answers g b events run);
-  equal = λ given other b c p q events others r t. agreement .equal given other b c (f given b p) (f other c q) events others (run-of answers g b events r) (run-of answers g c others t);
 }
