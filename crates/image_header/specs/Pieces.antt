@@ -1,11 +1,11 @@
 -- An image in pieces: a piece pasted at a place, and the bytes of the header in its two halves.
 use mathlib.Core.Path.{_≡_}
-use mathlib.Core.List.{List, _++_}
-use Prim.Native.Nat.{ℕ, _+_, _-_}
-use lib.ListN.{length, drop}
+use mathlib.Core.List.{List, [], _∷_, _++_}
+use Prim.Native.Nat.{ℕ, _+_}
+use lib.ListN.{length, take, drop}
 use lib.Seq.{paste}
-use Rattle.model.specs.Bytes.{bytes}
-use Rattle.model.specs.Layout.{zerosAt, setpointsStart}
+use Rattle.model.specs.Bytes.{fieldsBytes}
+use Rattle.model.specs.Layout.{setpointsStart, imageFields}
 use Rattle.model.specs.Order.{State}
 use Rattle.model.specs.Image.{usedOf}
 
@@ -15,11 +15,11 @@ pasted d at b = paste d at b (length b)
 
 -- L and H.
 abbrev pub countsBytes : ℕ → ℕ → List ℕ
-countsBytes log held = bytes 2 log ++ bytes 2 held
+countsBytes log held = fieldsBytes (take 2 imageFields) (log ∷ held ∷ [])
 
 -- The offsets of setpoints and messages, the bytes used, zeros.
 abbrev pub offsetsBytes : ℕ → ℕ → List ℕ
-offsetsBytes start used = bytes 2 setpointsStart ++ bytes 2 start ++ bytes 2 used ++ bytes (setpointsStart - zerosAt) 0
+offsetsBytes start used = fieldsBytes (drop 2 imageFields) (setpointsStart ∷ start ∷ used ∷ 0 ∷ [])
 
 abbrev pub headerBytes : ℕ → ℕ → ℕ → ℕ → List ℕ
 headerBytes log held start used = countsBytes log held ++ offsetsBytes start used

@@ -6,21 +6,21 @@ use mathlib.Core.Bool.{_&&_}
 use mathlib.Core.List.{List, [], _∷_, _++_, map, List·Memᴰ·head, List·Memᴰ·tail, Memᴰ·of-map, append-assoc, append-nil}
 use Prim.Native.Nat.{ℕ, _+_, _*_, _-_, _≤_}
 use native.Mathlib.Omega.{arith}
-use lib.ListN.{length, length-append, length-map, length-set, length-replicate, take, drop, replicate}
+use lib.ListN.{length, length-append, length-map, length-set, length-replicate, take, drop, getD, replicate}
 use lib.Seq.{drop-at, take-at}
 use lib.Dec.{T, leb, leb→le, le→leb}
 use lib.IntN.{ℤ}
 use Rattle.model.specs.Lists.{_∈_, every, same}
-use Rattle.model.specs.Bytes.{bytes, field, join, word}
-use Rattle.model.specs.Layout.{lengthAt, valueSize, tagCount, valuesSize, imageSize, setpointsStart, capacity, messageRoom}
+use Rattle.model.specs.Bytes.{bytes, field, numbersIn, join, word}
+use Rattle.model.specs.Layout.{lengthAt, valueSize, tagCount, valuesSize, imageSize, setpointsStart, imageFields, capacity, messageRoom}
 use Rattle.model.specs.Message.{Message, commandsOf, passes}
 use Rattle.model.specs.Order.{State, holding, logOf, heldOf}
 use Rattle.model.specs.Setpoints.{startValues, apply, runCommand, runCommands, runDelta, runLog, setpointsOf}
-use Rattle.model.specs.Image.{messagesStart, messagesOf, valuesOf, headerOf, sectionsOf, usedOf, imageOf, Valid, IsImage, cut, logCount, heldCount, messagesStartIn, logIn, messagesIn, heldIn, setOf, stateIn, isImage}
+use Rattle.model.specs.Image.{messagesStart, messagesOf, valuesOf, headerNumbers, headerOf, sectionsOf, usedOf, imageOf, Valid, IsImage, cut, logCount, heldCount, usedCount, messagesStartIn, logIn, messagesIn, heldIn, setOf, stateIn, isImage}
 use Rattle.order.specs.TestLaws.{and-l, and-r, and-i, every-∈, ∈-every, same-refl, same→eq}
 use Rattle.laws.specs.OriginLaws.{origin-back}
 use Rattle.laws.specs.SetLaws.{setOf-ascending, setOf-same}
-use Rattle.wire_laws.specs.BytesLaws.{length-bytes, number-bytes, length-join, section-at, field-append, join-append}
+use Rattle.wire_laws.specs.BytesLaws.{length-bytes, fields-back, length-join, section-at, field-append, join-append}
 use Rattle.laws.specs.LogLaws.{log-received, log-held, log-length, held-length, places}
 use Rattle.wire_laws.specs.MessageLaws.{Sized, passes-sized, sized-range}
 
@@ -103,13 +103,36 @@ module _ (S : State) (valid : Valid S) where
   pub log-passes : (m : Message) → m ∈ logOf S → T (passes m)
   log-passes m k = valid .pass m (log-received S (valid .ascends) m k)
 
-  count-log : logCount (imageOf S) ≡ length (logOf S)
+  -- the messages of a valid state fit behind what stands before them
+  pub messages-room : messagesStart S + length (messagesOf S) ≤ imageSize
+  unfolding messagesStart messagesOf
+  messages-room = omega (
+    arith,
+    places S (valid .ascends),
+    valid .fits,
+    ap length (join-append (logOf S) (heldOf S)),
+    join-length (logOf S ++ heldOf S) (λ m k. sized-range m (sized m k) .1),
+  )
+
+  -- the header reads back to its numbers
+  header-back : numbersIn imageFields (imageOf S) ≡ headerNumbers S
   unfolding imageOf usedOf sectionsOf headerOf
-  count-log = number-bytes 2 (length (logOf S)) (omega (arith, log-length S (valid .ascends), valid .fits))
+  header-back =
+      let room = messages-room in
+      let few = valid .fits in
+      let logged = log-length S (valid .ascends) in
+      let waiting = held-length S (valid .ascends) in
+      fields-back imageFields (headerNumbers S) [] (join (valuesOf S ∷ messagesOf S ∷ []) ++ replicate (imageSize - length (usedOf S)) 0)
+      (refl, (refl, (refl, (refl, (refl, (refl, tt)))))) (omega arith, (omega arith, (omega arith, (omega arith, (omega arith, (omega arith, tt))))))
+
+  count-log : logCount (imageOf S) ≡ length (logOf S)
+  count-log = ap (λ (l : List ℕ). getD l 0 0) header-back
 
   count-held : heldCount (imageOf S) ≡ length (heldOf S)
-  unfolding imageOf usedOf sectionsOf headerOf
-  count-held = number-bytes 2 (length (heldOf S)) (omega (arith, held-length S (valid .ascends), valid .fits))
+  count-held = ap (λ (l : List ℕ). getD l 1 0) header-back
+
+  pub used-back : usedCount (imageOf S) ≡ messagesStart S + length (messagesOf S)
+  used-back = ap (λ (l : List ℕ). getD l 4 0) header-back
 
   -- of the image they start where the state's do
   pub start-back : messagesStartIn (imageOf S) ≡ messagesStart S
@@ -148,17 +171,6 @@ module _ (S : State) (valid : Valid S) where
   -- the image reads back to its state
   pub state-back : stateIn (imageOf S) ≡ S
   state-back = ap₂ holding (origin-back S) (ap setOf messages-back ∙ setOf-same (S .deltas) (logOf S ++ heldOf S) (valid .ascends) (log-held S (valid .ascends)))
-
-  -- the messages of a valid state fit behind what stands before them
-  pub messages-room : messagesStart S + length (messagesOf S) ≤ imageSize
-  unfolding messagesStart messagesOf
-  messages-room = omega (
-    arith,
-    places S (valid .ascends),
-    valid .fits,
-    ap length (join-append (logOf S) (heldOf S)),
-    join-length (logOf S ++ heldOf S) (λ m k. sized-range m (sized m k) .1),
-  )
 
   pub used-fits : length (usedOf S) ≤ imageSize
   used-fits = omega (arith, used-length S, messages-room)

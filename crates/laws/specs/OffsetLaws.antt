@@ -16,12 +16,12 @@ use Rattle.model.specs.Bytes.{number, field, join}
 use Rattle.model.specs.Layout.{lengthAt}
 use Rattle.model.specs.Message.{Message, passes}
 use Rattle.model.specs.Order.{State, logOf, heldOf}
-use Rattle.model.specs.Image.{messagesStart, messagesOf, headerOf, sectionsOf, usedOf, imageOf, Valid, cut, logCount, heldCount, messagesStartIn, logIn, messagesIn, offsetOf, walk, messageOffset, usedCount, stateIn, isImage}
+use Rattle.model.specs.Image.{messagesStart, messagesOf, imageOf, Valid, cut, logCount, heldCount, messagesStartIn, logIn, messagesIn, offsetOf, walk, messageOffset, usedCount, stateIn, isImage}
 use Rattle.model.specs.Calls.{messageAt}
 use Rattle.order.specs.ListLaws.{getD-∈, ∈-take}
-use Rattle.wire_laws.specs.BytesLaws.{number-bytes, sum-lengths, join-append}
+use Rattle.wire_laws.specs.BytesLaws.{sum-lengths, join-append}
 use Rattle.wire_laws.specs.MessageLaws.{Sized, passes-sized, sized-range, sized-cut}
-use Rattle.laws.specs.ImageLaws.{messages-back, start-back, messages-room, image-own, own-valid}
+use Rattle.laws.specs.ImageLaws.{messages-back, start-back, used-back, image-own, own-valid}
 use Rattle.laws.specs.ImageSetLaws.{length-cut, image-messages}
 
 -- ---- messages one behind the other, the first of them at `first`
@@ -161,10 +161,6 @@ module _ (b : List ℕ) where
   log-offset k h = ap (λ (l : List Message). offsetOf (messagesStartIn b) l k) log-first ∙ offset-front (messagesStartIn b) (messagesIn b) (logCount b) k h
 
 -- ---- the messages of an image
-used-back : (S : State) → Valid S → usedCount (imageOf S) ≡ messagesStart S + length (messagesOf S)
-unfolding imageOf usedOf sectionsOf headerOf
-used-back S valid = number-bytes 2 (messagesStart S + length (messagesOf S)) (omega (arith, messages-room S valid))
-
 module _ (b : List ℕ) (image : T (isImage b)) where
   abbrev message : ℕ → Message
   message k = getD (messagesIn b) k []

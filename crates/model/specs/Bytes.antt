@@ -1,6 +1,6 @@
 -- Numbers in buffers. A buffer is a list of bytes, numbers below 256. Any list is a legal argument of every definition.
 use mathlib.Core.Bool.{Bool, cond}
-use mathlib.Core.List.{List, [], _∷_, _++_}
+use mathlib.Core.List.{List, [], _∷_, _++_, map}
 use Prim.Native.Nat.{ℕ, zero, suc, _+_, _*_, _-_, _/_, _%_, _^_}
 use lib.ListN.{take, drop}
 use lib.Dec.{ltb}
@@ -26,6 +26,15 @@ bytes (suc size) n = n / 256 ^ size % 256 ∷ bytes size n
 -- The number of `size` bytes from `at` on.
 abbrev pub field : List ℕ → ℕ → ℕ → ℕ
 field b at size = number (take size (drop at b))
+
+-- Fields, each by its place and its size: the bytes of numbers in them, one behind the other, and the numbers that a buffer has in them.
+abbrev pub fieldsBytes : List (ℕ × ℕ) → List ℕ → List ℕ
+fieldsBytes [] k = []
+fieldsBytes (f ∷ l) [] = []
+fieldsBytes (f ∷ l) (n ∷ k) = bytes (f .1) n ++ fieldsBytes l k
+
+abbrev pub numbersIn : List (ℕ × ℕ) → List ℕ → List ℕ
+numbersIn l b = map (λ f. field b (f .0) (f .1)) l
 
 -- The first `count` parts of `size` bytes each.
 abbrev pub parts : ℕ → ℕ → List ℕ → List (List ℕ)

@@ -7,8 +7,8 @@ use lib.ListN.{length, take, drop, replicate}
 use lib.Dec.{leb}
 use lib.IntN.{ℤ}
 use Rattle.model.specs.Lists.{every, sum, same}
-use Rattle.model.specs.Bytes.{number, bytes, field, parts, join, integer, word}
-use Rattle.model.specs.Layout.{lengthAt, valueSize, tagCount, valuesSize, imageSize, logCountAt, heldCountAt, usedAt, zerosAt, setpointsStart, capacity}
+use Rattle.model.specs.Bytes.{number, bytes, field, fieldsBytes, parts, join, integer, word}
+use Rattle.model.specs.Layout.{lengthAt, valueSize, tagCount, valuesSize, imageSize, logCountAt, heldCountAt, usedAt, setpointsStart, imageFields, capacity}
 use Rattle.model.specs.Message.{Message, passes}
 use Rattle.model.specs.Order.{Origin, firstOrigin, State, holding, RightSet, insert, logOf, heldOf}
 use Rattle.model.specs.Setpoints.{setpointsOf}
@@ -27,10 +27,12 @@ unfoldable pub valuesOf : State → List ℕ
 valuesOf S = join (map (λ v. bytes valueSize (word v)) (setpointsOf S))
 
 -- The header: log count, held count, the offsets of setpoints and of messages, the bytes used, zeros.
+abbrev pub headerNumbers : State → List ℕ
+headerNumbers S =
+    length (logOf S) ∷ length (heldOf S) ∷ setpointsStart ∷ messagesStart S ∷ (messagesStart S + length (messagesOf S)) ∷ 0 ∷ []
+
 unfoldable pub headerOf : State → List ℕ
-headerOf S =
-    bytes 2 (length (logOf S)) ++ bytes 2 (length (heldOf S)) ++ bytes 2 setpointsStart ++ bytes 2 (messagesStart S)
-    ++ bytes 2 (messagesStart S + length (messagesOf S)) ++ bytes (setpointsStart - zerosAt) 0
+headerOf S = fieldsBytes imageFields (headerNumbers S)
 
 unfoldable pub sectionsOf : State → List (List ℕ)
 sectionsOf S = headerOf S ∷ valuesOf S ∷ messagesOf S ∷ []

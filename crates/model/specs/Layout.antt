@@ -1,4 +1,5 @@
 -- The offsets, sizes and limits of document 01 and of Papers 1 and 2 of document 02, in bytes unless said otherwise.
+use mathlib.Core.List.{List, [], _∷_}
 use Prim.Native.Nat.{ℕ, _+_, _*_, _-_}
 use lib.IntN.{ℤ, pos, negsuc}
 
@@ -127,6 +128,11 @@ zerosAt = 10
 -- the setpoints, past the header. Where the messages start depends on the image: see `messagesStart` in `Image`.
 abbrev pub setpointsStart : ℕ
 setpointsStart = 16
+
+-- the header's fields, each by its place and its size
+abbrev pub imageFields : List (ℕ × ℕ)
+imageFields =
+    (logCountAt, 2) ∷ (heldCountAt, 2) ∷ (setpointsOffsetAt, 2) ∷ (messagesOffsetAt, 2) ∷ (usedAt, 2) ∷ (zerosAt, setpointsStart - zerosAt) ∷ []
 
 -- the most deltas that an image holds
 abbrev pub capacity : ℕ

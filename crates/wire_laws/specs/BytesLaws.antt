@@ -16,7 +16,7 @@ use mir.Syntax.{w32}
 use mir.Val.{toZ, ofZ, sel}
 use mir.Facts.{toZ-ofZ}
 use Rattle.model.specs.Lists.{_∈_, sum}
-use Rattle.model.specs.Bytes.{isBytes, numberFrom, number, bytes, field, parts, join, integer, word}
+use Rattle.model.specs.Bytes.{isBytes, numberFrom, number, bytes, field, fieldsBytes, numbersIn, parts, join, integer, word}
 use Rattle.order.specs.TestLaws.{and-l, and-r, and-i}
 
 -- ---- a number's bytes
@@ -96,6 +96,47 @@ field-part b at n i size h = ap number (take-drop-take n i size (drop at b) h �
 
 pub field-part-start : (b : List ℕ) (at n size : ℕ) → size ≤ n → field (take n (drop at b)) 0 size ≡ field b at size
 field-part-start b at n size h = ap number (take-take size n (drop at b) h)
+
+-- ---- fields, one behind the other
+abbrev pub InOrder : ℕ → List (ℕ × ℕ) → Type 0
+InOrder at [] = Unit {0}
+InOrder at (f ∷ l) = (f .0 ≡ at) × InOrder (at + f .1) l
+
+-- each has room for its number
+abbrev pub Roomy : List (ℕ × ℕ) → List ℕ → Type 0
+Roomy [] [] = Unit {0}
+Roomy [] (n ∷ k) = ⊥
+Roomy (f ∷ l) [] = ⊥
+Roomy (f ∷ l) (n ∷ k) = (n < 256 ^ f .1) × Roomy l k
+
+-- what is written in fields is read back from them
+pub fields-back : (l : List (ℕ × ℕ)) (k front rest : List ℕ) → InOrder (length front) l → Roomy l k → numbersIn l (front ++ (fieldsBytes l k ++ rest)) ≡ k
+fields-back [] [] front rest o r = refl
+fields-back [] (n ∷ k) front rest o r = absurd r
+fields-back (f ∷ l) [] front rest o r = absurd r
+fields-back (f ∷ l) (n ∷ k) front rest o r = ap₂ _∷_ here (ap (numbersIn l) moved
+    ∙ fields-back l k (front ++ first) rest (subst (λ (at : ℕ). InOrder at l) (sym length-front) (o .1)) (r .1))
+  where
+    first : List ℕ
+    first = bytes (f .1) n
+
+    behind : List ℕ
+    behind = fieldsBytes l k ++ rest
+
+    length-front : length (front ++ first) ≡ length front + f .1
+    length-front = length-append front first ∙ ap (λ (x : ℕ). length front + x) (length-bytes (f .1) n)
+
+    whole : (first ++ fieldsBytes l k) ++ rest ≡ first ++ behind
+    whole = append-assoc first (fieldsBytes l k) rest
+
+    moved : front ++ ((first ++ fieldsBytes l k) ++ rest) ≡ (front ++ first) ++ behind
+    moved = ap (λ (x : List ℕ). front ++ x) whole ∙ sym (append-assoc front first behind)
+
+    here : field (front ++ ((first ++ fieldsBytes l k) ++ rest)) (f .0) (f .1) ≡ n
+    here =
+        ap₂ (λ (x : List ℕ) (at : ℕ). field (front ++ x) at (f .1)) whole (o .0)
+        ∙ ap (λ (x : List ℕ). number (take (f .1) x)) (drop-at front (first ++ behind) (length front) refl)
+        ∙ ap number (take-at first behind (f .1) (length-bytes (f .1) n)) ∙ number-bytes (f .1) n (r .0)
 
 -- ---- parts of equal size, end to end
 pub length-parts : (n size : ℕ) (b : List ℕ) → length (parts n size b) ≡ n
