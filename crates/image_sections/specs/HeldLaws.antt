@@ -11,6 +11,7 @@ use lib.Seq.{take-suc, take-length}
 use Rattle.model.specs.Lists.{_∈_, has, keep}
 use Rattle.model.specs.Message.{Message, sequenceOf}
 use Rattle.model.specs.Order.{sequencesOf, logOf, heldOf}
+use Rattle.order.specs.ListLaws.{keep-snoc}
 use Rattle.order.specs.TestLaws.{keep-∈, keep-length, same-eqb}
 use Rattle.laws.specs.LogLaws.{held-by-log}
 use Rattle.table.specs.Table.{messageFrom, deltasOf, deltasAt, setIn}
@@ -19,15 +20,6 @@ use Rattle.image_sections.specs.LogPlaces.{below, othersBelow, TablePlac
 use Rattle.image_sections.specs.LogPlaceLaws.{log-inside}
 
 -- ---- one number more
-keep-snoc : {A : Type 0} (p : A → Bool) (l : List A) (x : A) → keep p (l ++ (x ∷ [])) ≡ keep p l ++ cond (p x) (x ∷ []) []
-keep-snoc p [] x = refl
-keep-snoc {A} p (y ∷ l) x = go (p y) (keep-snoc p l x)
-  where
-    go : (b : Bool) → keep p (l ++ (x ∷ [])) ≡ keep p l ++ cond (p x) (x ∷ []) []
-        → cond b (y ∷ keep p (l ++ (x ∷ []))) (keep p (l ++ (x ∷ []))) ≡ cond b (y ∷ keep p l) (keep p l) ++ cond (p x) (x ∷ []) []
-    go true e = ap (λ (k : List A). y ∷ k) e
-    go false e = e
-
 others-snoc : (count : ℕ) (places : List ℕ) → othersBelow (count + 1) places ≡ othersBelow count places ++ cond (not (has count places)) (count ∷ []) []
 others-snoc count places = rw (add-one) (keep-snoc (λ i. not (has i places)) (below count) count)
 

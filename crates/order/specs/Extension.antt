@@ -2,18 +2,16 @@
 use mathlib.Core.Path.{_≡_, refl, sym, _∙_, ap, subst}
 use mathlib.Core.Logic.{_⊎_, inl, inr, ⊎-elim}
 use mathlib.Core.Bool.{Bool, not}
-use mathlib.Core.Option.{Option, some, none}
-use mathlib.Core.List.{List, [], _∷_, _++_, List·Memᴰ·head, List·Memᴰ·tail, List·Memᴰ·not-nil, List·Memᴰ·cases-cons, List·Memᴰ·append-cases, List·Memᴰ·eq-of-singleton, Memᴰ·cast}
-use Prim.Native.Nat.{ℕ, suc, _+_, _-_, _≤_}
-use native.Mathlib.Omega.{arith}
-use native.Mathlib.Nat.{zero-add, suc-add}
-use lib.ListN.{length, length-append}
+use mathlib.Core.List.{List, [], _∷_, _++_, append-assoc, List·Memᴰ·head, List·Memᴰ·tail, List·Memᴰ·not-nil, List·Memᴰ·cases-cons, Memᴰ·cast}
+use Prim.Native.Nat.{ℕ, _-_}
+use lib.ListN.{length}
 use lib.Dec.{T, T-not, not-T}
-use Rattle.model.specs.Lists.{_∈_, has, hasAll, keep}
-use Rattle.model.specs.Listing.{after, ready, Listing, Complete, lowestOf, place, grow, firstOf}
+use Rattle.model.specs.Lists.{_∈_, has, hasAll}
+use Rattle.model.specs.Listing.{after, ready, Listing, Complete, lowestOf, grow, firstOf}
 use Rattle.order.specs.TestLaws.{has→∈, ∈→has, hasAll→∈, ∈→hasAll, and-i}
 use Rattle.order.specs.KeyOrder.{Total}
-use Rattle.order.specs.ListingLaws.{stuck-placed, Next, Next?, next-is, grow-ind, first-complete, ready-fresh, ready-needs, listing-snoc, listing-length, complete-stuck, after-has, after-from, not-self}
+use Rattle.order.specs.ListingLaws.{stuck-placed, Next, first-complete, ready-fresh, ready-needs, complete-stuck, after-has, after-from, not-self}
+use Rattle.order.specs.Greedy.{Greedy, grow-greedy, greedy-snoc, greedy-begins}
 
 module _ {A : Type 0} (name : A → ℕ) (needs : A → List ℕ) where
   -- each of l is needed by m, or by one that stands before, or by one of l
@@ -47,16 +45,6 @@ module _ {A : Type 0} (name : A → ℕ) (needs : A → List ℕ) where
       first ih (inr r) = ⊎-elim (λ q. absurd (no-x (old (r .0) q (name x) (r .2))))
           (λ q. ⊎-elim (λ e. absurd (no-x (mine (name x) (subst (λ (y : A). name x ∈ needs y) e (r .2))))) (λ j. closed (r .0) q (ih (r .0) j) (name x) (r .2)) (List·Memᴰ·cases-cons q)) (r .1)
 
-  module _ {K : Type 0} (key : A → K) (less : K → K → Bool) (tot : Total less) (S : List A) (keys : (a b : A) → a ∈ S → b ∈ S → key a ≡ key b → a ≡ b) where
-    -- the next one is placed
-    pub grow-next : (n : ℕ) (done : List ℕ) (a : A) → Next name needs key less tot S done a → grow name needs (lowestOf key less) S (suc n) done ≡ a ∷ grow name needs (lowestOf key less) S n (name a ∷ done)
-    grow-next n done a x = go (lowestOf key less (keep (ready name needs done) S)) (next-is name needs key less tot S done)
-      where
-        go : (o : Option A) → Next? name needs key less tot S done o → place name (grow name needs (lowestOf key less) S n) done o ≡ a ∷ grow name needs (lowestOf key less) S n (name a ∷ done)
-        go none st = absurd (st a (x .of) (x .is-ready))
-        go (some b) y = ap (λ (c : A). c ∷ grow name needs (lowestOf key less) S n (name c ∷ done)) (keys b a (y .of) (x .of)
-            (tot .tri (key b) (key a) (x .is-least b (y .of) (y .is-ready)) (y .is-least a (x .of) (x .is-ready))))
-
   module _ {K : Type 0} (less : K → K → Bool) (tot : Total less) (key key′ : A → K) (S R : List A) (m : A)
       (names : (a b : A) → a ∈ S → b ∈ S → name a ≡ name b → a ≡ b)
       (keys : (a b : A) → a ∈ S → b ∈ S → key a ≡ key b → a ≡ b)
@@ -67,9 +55,6 @@ module _ {A : Type 0} (name : A → ℕ) (needs : A → List ℕ) where
 
     full : Complete name needs S L
     full = first-complete name needs key less tot S names keys
-
-    end : List ℕ
-    end = after name [] L
 
     -- what is ready while the log is placed is of the log
     ready-in : (d : List ℕ) → ((s : ℕ) → s ∈ d → s ∈ after name [] L) → (b : A) → b ∈ S → T (ready name needs d b) → b ∈ L
@@ -106,17 +91,11 @@ module _ {A : Type 0} (name : A → ℕ) (needs : A → List ℕ) where
             (λ i′. pl .closed b j i′ s q) (List·Memᴰ·cases-cons i));
       }
 
-      abbrev Run : List ℕ → List A → Type 0
-      Run d [] = Unit {0}
-      Run d (a ∷ l) = Next name needs key less tot S d a × Run (name a ∷ d) l
-
-      goes-on : (l : List A) (d : List ℕ) (n : ℕ) → Placing d → ((b : A) → b ∈ l → b ∈ L) → Run d l
-          → grow name needs (lowestOf key′ less) R (length l + n) d ≡ l ++ grow name needs (lowestOf key′ less) R n (after name d l)
-      goes-on [] d n pl all r = rw zero-add
-      goes-on (a ∷ l) d n pl all r =
-          ap (λ (i : ℕ). grow name needs (lowestOf key′ less) R i d) (suc-add (length l) n)
-          ∙ grow-next key′ less tot R keys′ (length l + n) d a (next-too d a pl (all a (List·Memᴰ·head refl)) (r .0))
-          ∙ ap (λ (k : List A). a ∷ k) (goes-on l (name a ∷ d) n (placing-next d a pl (all a (List·Memᴰ·head refl)) (r .0 .is-ready)) (λ b j. all b (List·Memᴰ·tail j)) (r .1))
+      greedy-too : (l : List A) (d : List ℕ) → Placing d → ((b : A) → b ∈ l → b ∈ L) → Greedy name needs key less tot S d l → Greedy name needs key′ less tot R d l
+      greedy-too [] d pl all g = tt
+      greedy-too (a ∷ l) d pl all g =
+          let k : a ∈ L = all a (List·Memᴰ·head refl) in
+          (next-too d a pl k (g .0), greedy-too l (name a ∷ d) (placing-next d a pl k (g .0 .is-ready)) (λ b j. all b (List·Memᴰ·tail j)) (g .1))
 
       m-ready : T (ready name needs (after name [] L) m)
       m-ready = and-i (not (has (name m) (after name [] L))) (hasAll (needs m) (after name [] L))
@@ -134,28 +113,14 @@ module _ {A : Type 0} (name : A → ℕ) (needs : A → List ℕ) where
         is-least = λ b j t. ⊎-elim (λ e. subst (λ (y : A). T (not (less (key′ y) (key′ m)))) (sym e) (not-self less tot (key′ m))) (λ i. absurd (complete-stuck name needs S L full b i t)) (only b j);
       }
 
-      fits : suc (length L) ≤ length R
-      fits = omega (
-        arith,
-        length-append L (m ∷ []),
-        listing-length name needs R (L ++ m ∷ []) (listing-snoc name needs L [] m (full .listing) m-ready)
-            (λ b j. ⊎-elim (λ i. stay b (full .sound b i .0)) (λ i. Memᴰ·cast (List·Memᴰ·eq-of-singleton i) new) (List·Memᴰ·append-cases L j)),
-      )
-
       -- The list goes on with m: nothing is taken back, and m comes first.
       pub extends : (rest : List A) × (firstOf name needs key′ less R ≡ L ++ m ∷ rest)
-      extends = (
-        grow name needs (lowestOf key′ less) R k (name m ∷ after name [] L),
-        ap (λ (i : ℕ). grow name needs (lowestOf key′ less) R i []) enough
-            ∙ goes-on L [] (suc k) start (λ b j. j) (grow-ind name needs key less tot S Run (λ d. tt) (λ d a l x ih. (x, ih)) (length S) [])
-            ∙ ap (λ (l : List A). L ++ l) (grow-next key′ less tot R keys′ k (after name [] L) m last-one),
-      )
+      extends =
+          let rest : List A = grow name needs (lowestOf key′ less) R (length R - length (L ++ m ∷ [])) (after name [] (L ++ m ∷ [])) in
+          (rest, greedy-begins name needs key′ less tot R keys′ (L ++ m ∷ []) (greedy-snoc name needs key′ less tot R L [] m along last-one) ∙ append-assoc L (m ∷ []) rest)
         where
-          k : ℕ
-          k = length R - suc (length L)
-
-          enough : length R ≡ length L + suc k
-          enough = omega (arith, fits)
-
           start : Placing []
           start = record { within = λ s j. absurd (List·Memᴰ·not-nil j); closed = λ b j i. absurd (List·Memᴰ·not-nil i) }
+
+          along : Greedy name needs key′ less tot R [] L
+          along = greedy-too L [] start (λ b j. j) (grow-greedy name needs key less tot S (length S) [])

@@ -1,20 +1,20 @@
 -- A complete listing is the first exactly if no item stands behind a greater key at or after the place where it became ready.
-use mathlib.Core.Path.{_≡_, refl, sym, _∙_, ap, subst}
+use mathlib.Core.Path.{_≡_, refl, sym, ap, subst}
 use mathlib.Core.Logic.{_⊎_, ⊎-elim}
 use mathlib.Core.Bool.{Bool, not}
-use mathlib.Core.List.{List, [], _∷_, List·Memᴰ·head, List·Memᴰ·tail, List·Memᴰ·not-nil, List·Memᴰ·cases-cons, Memᴰ·cast}
-use Prim.Native.Nat.{ℕ, zero, suc, _≤_, _<_, zero-le, suc-le-suc}
+use mathlib.Core.List.{List, [], _∷_, List·Memᴰ·head, List·Memᴰ·tail, List·Memᴰ·cases-cons, Memᴰ·cast}
+use Prim.Native.Nat.{ℕ, zero, suc, _<_, zero-le, suc-le-suc}
 use native.Mathlib.Omega.{arith}
 use native.Mathlib.Nat.{le-of-suc-le-suc}
 use lib.ListN.{length, take, getD}
-use lib.Dec.{T, T-not, not-T}
+use lib.Dec.{T, T-not}
 use Rattle.model.specs.Lists.{_∈_, has}
-use Rattle.model.specs.Listing.{after, ready, Listing, lowestOf, grow, firstOf}
+use Rattle.model.specs.Listing.{after, ready, Listing, firstOf}
 use Rattle.order.specs.ListLaws.{getD-∈, ∈-getD}
 use Rattle.order.specs.TestLaws.{decide, ∈→has, hasAll→∈}
 use Rattle.order.specs.KeyOrder.{Total}
-use Rattle.order.specs.ListingLaws.{Stuck, stuck-placed, Next, grow-ind, ready-fresh, ready-needs, after-keeps, after-from, listing-length}
-use Rattle.order.specs.Extension.{grow-next}
+use Rattle.order.specs.ListingLaws.{Stuck, stuck-placed, Next, not-after, not-self, ready-fresh, ready-needs, after-keeps, after-from}
+use Rattle.order.specs.Greedy.{Greedy, grow-greedy, greedy-listing, greedy-received, greedy-first}
 use Rattle.order.specs.ListingPlaces.{listing-at}
 
 module _ {A : Type 0} (name : A → ℕ) (needs : A → List ℕ) (d : A) {K : Type 0} (key : A → K) (less : K → K → Bool) where
@@ -27,47 +27,32 @@ module _ {A : Type 0} (name : A → ℕ) (needs : A → List ℕ) (d : A) {K : T
   InPlace l = InPlaceAfter [] l
 
   module _ (tot : Total less) (S : List A) (keys : (a b : A) → a ∈ S → b ∈ S → key a ≡ key b → a ≡ b) where
-    -- what holds of the rest of the first listing, after the names `done`
-    record Rest (done : List ℕ) (l : List A) : Type 0 where
-      listing : Listing name needs done l
-      received : (b : A) → b ∈ l → b ∈ S
-      in-place : InPlaceAfter done l
-
-    rest-nil : (done : List ℕ) → Rest done []
-    rest-nil done = record { listing = tt; received = λ b m. absurd (List·Memᴰ·not-nil m); in-place = λ i k p q. let z : ⊥ = omega arith in absurd z }
-
-    rest-next : (done : List ℕ) (a : A) (l : List A) → Next name needs key less tot S done a → Rest (name a ∷ done) l → Rest done (a ∷ l)
-    rest-next done a l x r = record {
-      listing = (x .is-ready, r .listing);
-      received = λ b m. ⊎-elim (λ e. Memᴰ·cast e (x .of)) (λ j. r .received b j) (List·Memᴰ·cases-cons m);
-      in-place = at;
-    }
+    greedy-in-place : (l : List A) (done : List ℕ) → Greedy name needs key less tot S done l → InPlaceAfter done l
+    greedy-in-place [] done g i k p q t = let z : ⊥ = omega arith in absurd z
+    greedy-in-place (a ∷ l) done g i zero p q t = let z : ⊥ = omega arith in absurd z
+    greedy-in-place (a ∷ l) done g zero (suc k) p q t = ⊎-elim (λ u. u) (λ u. absurd (other (keys a b (g .0 .of) of (tot .tri (key a) (key b) u (g .0 .is-least b of t))))) (decide (less (key a) (key b)))
       where
-        -- an item of the rest is not a
-        other : (k : ℕ) → k < length l → a ≡ getD l k d → ⊥
-        other k q e = T-not (has (name (getD l k d)) (after name (name a ∷ done) (take k l)))
-            (ready-fresh name needs (after name (name a ∷ done) (take k l)) (getD l k d) (listing-at name needs d l (name a ∷ done) .0 (r .listing) k q))
-            (∈→has (after-keeps name (take k l) (name a ∷ done) (List·Memᴰ·head (sym (ap name e)))))
+        b : A
+        b = getD l k d
 
-        at : InPlaceAfter done (a ∷ l)
-        at i zero p q t = let z : ⊥ = omega arith in absurd z
-        at zero (suc k) p q t =
-            let b : A = getD l k d in
-            let m : b ∈ S = r .received b (getD-∈ l k d (le-of-suc-le-suc q)) in
-            ⊎-elim (λ u. u) (λ u. absurd (other k (le-of-suc-le-suc q) (keys a b (x .of) m (tot .tri (key a) (key b) u (x .is-least b m t))))) (decide (less (key a) (key b)))
-        at (suc i) (suc k) p q t = r .in-place i k (le-of-suc-le-suc p) (le-of-suc-le-suc q) t
+        of : b ∈ S
+        of = greedy-received name needs key less tot S l (name a ∷ done) (g .1) b (getD-∈ l k d (le-of-suc-le-suc q))
+
+        -- an item of the rest is not a
+        other : a ≡ b → ⊥
+        other e = T-not (has (name b) (after name (name a ∷ done) (take k l)))
+            (ready-fresh name needs (after name (name a ∷ done) (take k l)) b (listing-at name needs d l (name a ∷ done) .0 (greedy-listing name needs key less tot S l (name a ∷ done) (g .1)) k (le-of-suc-le-suc q)))
+            (∈→has (after-keeps name (take k l) (name a ∷ done) (List·Memᴰ·head (sym (ap name e)))))
+    greedy-in-place (a ∷ l) done g (suc i) (suc k) p q t = greedy-in-place l (name a ∷ done) (g .1) i k (le-of-suc-le-suc p) (le-of-suc-le-suc q) t
 
     pub first-in-place : InPlace (firstOf name needs key less S)
-    first-in-place = grow-ind name needs key less tot S Rest rest-nil rest-next (length S) [] .in-place
-
-    -- nothing is placed where nothing can follow
-    grow-end : (n : ℕ) (done : List ℕ) → Stuck name needs S done → grow name needs (lowestOf key less) S n done ≡ []
-    grow-end = grow-ind name needs key less tot S (λ done l. Stuck name needs S done → l ≡ []) (λ done st. refl) (λ done a l x ih st. absurd (st a (x .of) (x .is-ready)))
+    first-in-place = greedy-in-place (firstOf name needs key less S) [] (grow-greedy name needs key less tot S (length S) [])
 
     module _ (names : (a b : A) → a ∈ S → b ∈ S → name a ≡ name b → a ≡ b) where
       -- its first is the next one
-      next-in-place : (a : A) (l : List A) (done : List ℕ) → Rest done (a ∷ l) → Stuck name needs S (after name done (a ∷ l)) → Next name needs key less tot S done a
-      next-in-place a l done r st = record { of = r .received a (List·Memᴰ·head refl); is-ready = r .listing .0; is-least = λ b m t. least b m t (after-from name (a ∷ l) done (there b m t)) }
+      next-in-place : (a : A) (l : List A) (done : List ℕ) → Listing name needs done (a ∷ l) → ((b : A) → b ∈ a ∷ l → b ∈ S) → InPlaceAfter done (a ∷ l)
+          → Stuck name needs S (after name done (a ∷ l)) → Next name needs key less tot S done a
+      next-in-place a l done h all ip st = record { of = all a (List·Memᴰ·head refl); is-ready = h .0; is-least = λ b m t. least b m t (after-from name (a ∷ l) done (there b m t)) }
         where
           there : (b : A) → b ∈ S → T (ready name needs done b) → name b ∈ after name done (a ∷ l)
           there b m t = stuck-placed name needs S (after name done (a ∷ l)) st b m
@@ -76,28 +61,19 @@ module _ {A : Type 0} (name : A → ℕ) (needs : A → List ℕ) (d : A) {K : T
           behind : (b : A) → b ∈ l → T (ready name needs done b) → T (not (less (key b) (key a)))
           behind b m t =
               let p = ∈-getD d m in
-              let u : T (less (key a) (key b)) = rw (p .2) at (r .in-place 0 (suc (p .0)) (suc-le-suc zero-le) (suc-le-suc (p .1)) (subst (λ (y : A). T (ready name needs done y)) (sym (p .2)) t)) in
-              not-T (less (key b) (key a)) (λ v. tot .irr (key a) (tot .trans (key a) (key b) (key a) u v))
+              not-after less tot (key a) (key b) (rw (p .2) at (ip 0 (suc (p .0)) (suc-le-suc zero-le) (suc-le-suc (p .1)) (subst (λ (y : A). T (ready name needs done y)) (sym (p .2)) t)))
 
           least : (b : A) → b ∈ S → T (ready name needs done b) → (name b ∈ done) ⊎ ((c : A) × (c ∈ a ∷ l) × (name c ≡ name b)) → T (not (less (key b) (key a)))
           least b m t = ⊎-elim (λ q. absurd (T-not (has (name b) done) (ready-fresh name needs done b t) (∈→has q)))
-              (λ c. ⊎-elim (λ e. not-T (less (key b) (key a)) (λ v. tot .irr (key a) (subst (λ (y : A). T (less (key y) (key a))) e v))) (λ j. behind b j t)
-              (List·Memᴰ·cases-cons (Memᴰ·cast (names b (c .0) m (r .received (c .0) (c .1)) (sym (c .2))) (c .1))))
+              (λ c. ⊎-elim (λ e. subst (λ (y : A). T (not (less (key y) (key a)))) (sym e) (not-self less tot (key a))) (λ j. behind b j t)
+              (List·Memᴰ·cases-cons (Memᴰ·cast (names b (c .0) m (all (c .0) (c .1)) (sym (c .2))) (c .1))))
 
-      rest-grows : (l : List A) (n : ℕ) (done : List ℕ) → length l ≤ n → Rest done l → Stuck name needs S (after name done l) → l ≡ grow name needs (lowestOf key less) S n done
-      rest-grows [] n done h r st = sym (grow-end n done st)
-      rest-grows (a ∷ l) zero done h r st = let z : ⊥ = omega arith in absurd z
-      rest-grows (a ∷ l) (suc n) done h r st =
-          ap (λ (k : List A). a ∷ k) (rest-grows l n (name a ∷ done) (le-of-suc-le-suc h) tail st)
-          ∙ sym (grow-next name needs key less tot S keys n done a (next-in-place a l done r st))
-        where
-          tail : Rest (name a ∷ done) l
-          tail = record {
-            listing = r .listing .1;
-            received = λ b m. r .received b (List·Memᴰ·tail m);
-            in-place = λ i k p q. r .in-place (suc i) (suc k) (suc-le-suc p) (suc-le-suc q);
-          }
+      in-place-greedy : (l : List A) (done : List ℕ) → Listing name needs done l → ((b : A) → b ∈ l → b ∈ S) → InPlaceAfter done l → Stuck name needs S (after name done l) → Greedy name needs key less tot S done l
+      in-place-greedy [] done h all ip st = tt
+      in-place-greedy (a ∷ l) done h all ip st = (
+        next-in-place a l done h all ip st,
+        in-place-greedy l (name a ∷ done) (h .1) (λ b m. all b (List·Memᴰ·tail m)) (λ i k p q. ip (suc i) (suc k) (suc-le-suc p) (suc-le-suc q)) st,
+      )
 
       pub in-place-first : (l : List A) → Listing name needs [] l → ((b : A) → b ∈ l → b ∈ S) → Stuck name needs S (after name [] l) → InPlace l → l ≡ firstOf name needs key less S
-      in-place-first l h all st ip =
-          rest-grows l (length S) [] (listing-length name needs S l h all) (record { listing = h; received = all; in-place = ip }) st
+      in-place-first l h all st ip = sym (greedy-first name needs key less tot S keys l (in-place-greedy l [] h all ip st) st)

@@ -5,6 +5,7 @@ pub mod KeyOrder
 pub mod StepLaws
 pub mod CommonLaws
 pub mod ListingLaws
+pub mod Greedy
 pub mod Extension
 pub mod ListingPlaces
 pub mod InPlace

@@ -1,6 +1,7 @@
 -- Laws of lists that every crate uses: items by their places, the greatest of a list, and the members of its parts.
 use mathlib.Core.Path.{_≡_, refl, sym, _∙_, ap, ap₂, subst}
 use mathlib.Core.Logic.{_⊎_, inl, inr, ⊎-elim}
+use mathlib.Core.Bool.{Bool, true, false, cond}
 use mathlib.Core.List.{List, [], _∷_, _++_, map, reverse, reverseAux, List·Memᴰ·head, List·Memᴰ·tail, List·Memᴰ·not-nil, List·Memᴰ·cases-cons, Memᴰ·of-map}
 use Prim.Native.Nat.{ℕ, zero, suc, _+_, _≤_, _<_, zero-le, suc-le-suc}
 use native.Mathlib.Omega.{arith}
@@ -8,7 +9,7 @@ use native.Mathlib.Nat.{le-of-suc-le-suc}
 use native.Mathlib.Numerals.{add-one}
 use lib.ListN.{length, take, drop, getD}
 use lib.Seq.{getD-take, getD-drop, take-suc}
-use Rattle.model.specs.Lists.{_∈_, greatest}
+use Rattle.model.specs.Lists.{_∈_, keep, greatest}
 
 pub getD-∈ : {A : Type 0} (l : List A) (k : ℕ) (d : A) → k < length l → getD l k d ∈ l
 getD-∈ [] k d h = let z : ⊥ = omega arith in absurd z
@@ -56,6 +57,16 @@ map-reversed f (a ∷ l) r = map-reversed f l (a ∷ r)
 
 pub map-reverse : {A B : Type 0} (f : A → B) (l : List A) → map f (reverse l) ≡ reverse (map f l)
 map-reverse f l = map-reversed f l []
+
+-- what is kept of a list with one item more
+pub keep-snoc : {A : Type 0} (p : A → Bool) (l : List A) (x : A) → keep p (l ++ (x ∷ [])) ≡ keep p l ++ cond (p x) (x ∷ []) []
+keep-snoc p [] x = refl
+keep-snoc {A} p (y ∷ l) x = go (p y) (keep-snoc p l x)
+  where
+    go : (b : Bool) → keep p (l ++ (x ∷ [])) ≡ keep p l ++ cond (p x) (x ∷ []) []
+        → cond b (y ∷ keep p (l ++ (x ∷ []))) (keep p (l ++ (x ∷ []))) ≡ cond b (y ∷ keep p l) (keep p l) ++ cond (p x) (x ∷ []) []
+    go true e = ap (λ (k : List A). y ∷ k) e
+    go false e = e
 
 -- ---- an item of a part
 pub getD-part : {A : Type 0} (l : List A) (from n i : ℕ) (d : A) → i < n → getD (take n (drop from l)) i d ≡ getD l (from + i) d
