@@ -12,8 +12,8 @@ use lib.Dec.{T, eqb, eqb→eq}
 use borrow.Author.Tests.{eq-eqb, ne-eqb}
 use Rattle.model.specs.Lists.{_∈_, has}
 use Rattle.model.specs.Layout.{capacity}
-use Rattle.model.specs.Message.{Message, sequenceOf, blockOf}
-use Rattle.model.specs.Order.{State, RightSet, sequencesOf, needs, placedBy, ready, Executable, effectiveBlock}
+use Rattle.model.specs.Message.{Message, sequenceOf}
+use Rattle.model.specs.Order.{State, RightSet, sequencesOf, needs, placedBy, ready, Executable, ownBlock, effectiveBlock}
 use Rattle.order.specs.ListLaws.{getD-∈}
 use Rattle.order.specs.TestLaws.{decide, not-eqb}
 use Rattle.order.specs.ListingLaws.{stuck-complete, listing-snoc, listing-length, after-snoc, after-has}
@@ -149,7 +149,7 @@ module _ (S : State) (right : RightSet S) where
       tried-idle e = record { closing = c; grows = omega arith; idle = λ x. (refl, e) }
 
       pub tried-more : RowsRight S rows counts → i < length (S .deltas) → readyIn rows counts placed i ≡ true
-          → (e : ℕ) → e ≡ effectiveIn rows counts blocks i (blockOf (getD (S .deltas) i []))
+          → (e : ℕ) → e ≡ effectiveIn rows counts blocks i (ownBlock S (getD (S .deltas) i []))
           → Tried S rows counts placed count i (set placed i 1) (set blocks i e) (set order count i) (count + 1)
       tried-more rr inside r e q = record {
         closing = closing-more i e inside is-ready (q ∙ block-is S placed so-far (c .placing) rows counts rr right blocks (c .effective) i inside is-ready);

@@ -8,15 +8,15 @@ ghost use mathlib.Core.Path.{_≡_};
 ghost use mathlib.Core.List.{[]};
 ghost use Prim.Native.Nat.{_<_};
 ghost use lib.ListN.{length, getD};
-ghost use Rattle.model.specs.Message.{blockOf};
+ghost use Rattle.model.specs.Order.{ownBlock};
 ghost use Rattle.table.specs.Table.{deltasOf, setIn, Holds};
 ghost use Rattle.needs.specs.Rows.{RowsRight};
 ghost use Rattle.closure.specs.Closing.{Closing, Tried};
 
-// A delta's own block, as its message states it.
+// A delta's own block, as it counts at a station: the one that its message states.
 fn own_block(pool: &[u8], starts: &[u16], i: usize) -> u32
     requires { ⌜ Holds (now pool) (now starts) × (i < length (now starts)) ⌝ }
-    ensures { λ r. ⌜ r ≡ blockOf (getD (deltasOf (now (pool .entry)) (now (starts .entry))) i []) ⌝ }
+    ensures { λ r. ⌜ r ≡ ownBlock (setIn (now (pool .entry)) (now (starts .entry))) (getD (deltasOf (now (pool .entry)) (now (starts .entry))) i []) ⌝ }
 {
     get_u32(message_at(pool, starts, i), BLOCK_AT)
 }

@@ -96,12 +96,16 @@ unfoldable pub heldOf : State → List Message
 heldOf S = let executable = sequencesOf (executablesOf S) in keep (λ m. not (has (sequenceOf m) executable)) (S .deltas)
 
 -- ---- the key
+-- A delta's own block, as it counts at a station of this state: "its own block (0 without priority)", which its message states.
+abbrev pub ownBlock : State → Message → ℕ
+ownBlock S m = blockOf m
+
 -- "The effective block is the greater of its own block (0 without priority) and the effective blocks of its needs":
 -- along needs of needs, 64 deep, which is as far as the needs of an executable delta reach among 64. `laws` shows that
 -- equation of every executable delta; the number of a held one is used nowhere.
 abbrev pub blockAlong : State → ℕ → ℕ → ℕ
 blockAlong S zero s = 0
-blockAlong S (suc n) s = max (blockOf (find (S .deltas) s)) (greatest (blockAlong S n) (needs S (find (S .deltas) s)))
+blockAlong S (suc n) s = max (ownBlock S (find (S .deltas) s)) (greatest (blockAlong S n) (needs S (find (S .deltas) s)))
 
 abbrev pub effectiveBlock : State → Message → ℕ
 effectiveBlock S m = blockAlong S capacity (sequenceOf m)

@@ -8,8 +8,8 @@ use native.Mathlib.Omega.{arith}
 use lib.ListN.{length, getD, drop, length-map}
 use lib.Dec.{T, T-not, not-T}
 use Rattle.model.specs.Lists.{_∈_, has, hasAll, every, greatest}
-use Rattle.model.specs.Message.{Message, sequenceOf, blockOf}
-use Rattle.model.specs.Order.{State, RightSet, sequencesOf, find, needs, placedBy, ready, effectiveBlock}
+use Rattle.model.specs.Message.{Message, sequenceOf}
+use Rattle.model.specs.Order.{State, RightSet, sequencesOf, find, needs, placedBy, ready, ownBlock, effectiveBlock}
 use Rattle.order.specs.ListLaws.{getD-∈, ∈-getD}
 use Rattle.order.specs.ScanLaws.{every-step, every-end, greatest-step, greatest-end}
 use Rattle.order.specs.TestLaws.{is-false, has→∈, hasAll→∈}
@@ -101,10 +101,10 @@ module _ (S : State) (placed : List ℕ) (l : List Message) (p : Placing S place
               ∙ ap (effectiveBlock S) (sym (find-here (S .deltas) (set .ascends) (getD (S .deltas) (r .0) []) (getD-∈ (S .deltas) (r .0) [] h)) ∙ ap (find (S .deltas)) (sym (sequence-at (S .deltas) (r .0)) ∙ r .2))
 
       pub block-is : (i : ℕ) → i < length (S .deltas) → T (ready S (placedBy l) (getD (S .deltas) i []))
-          → effectiveIn rows counts blocks i (blockOf (getD (S .deltas) i [])) ≡ effectiveBlock S (getD (S .deltas) i [])
+          → effectiveIn rows counts blocks i (ownBlock S (getD (S .deltas) i [])) ≡ effectiveBlock S (getD (S .deltas) i [])
       unfolding effectiveIn
       block-is i h t =
-          ap (max (blockOf m))
+          ap (max (ownBlock S m))
           (ap (greatest (λ j. getD blocks j 0)) (right .row i h)
           ∙ greatest-named (λ j. getD blocks j 0) (λ s. effectiveBlock S (find (S .deltas) s)) (indexOf names) (needs S m)
           (λ s k. block-named s (hasAll→∈ (needs S m) (placedBy l) (ready-needs sequenceOf (needs S) (placedBy l) m t) s k)))

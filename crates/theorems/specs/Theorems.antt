@@ -12,8 +12,8 @@ use lib.IntN.{ℤ, pos}
 use Rattle.model.specs.Lists.{_∈_, greatest}
 use Rattle.model.specs.Bytes.{join}
 use Rattle.model.specs.Layout.{imageSize, sequencesRoom, textRoom}
-use Rattle.model.specs.Message.{Message, blockOf}
-use Rattle.model.specs.Order.{State, Ascending, find, sequencesOf, needs, MeetsRing, effectiveBlock, keyOf, less, Executable, Grounded, IsLog, logOf, heldOf}
+use Rattle.model.specs.Message.{Message}
+use Rattle.model.specs.Order.{State, Ascending, find, sequencesOf, needs, MeetsRing, ownBlock, effectiveBlock, keyOf, less, Executable, Grounded, IsLog, logOf, heldOf}
 use Rattle.model.specs.Setpoints.{startValues, setpointsOf}
 use Rattle.model.specs.Image.{imageOf, Valid, IsImage, stateIn, valuesIn, logCount, messagesStartIn, logIn, messagesIn, heldIn, walk, messageOffset, usedCount, isImage}
 use Rattle.model.specs.Steps.{Step, common, undosOf, executionsOf, stepsOf, recordsBetween, recordsBytes, readRecords, Plays, Standing, PlaysPairs}
@@ -75,9 +75,9 @@ pub record KeyLaw (S : State) : Type 0 where
   pub order : Total less
   pub differ : (a b : Message) → a ∈ S .deltas → b ∈ S .deltas → keyOf S a ≡ keyOf S b → a ≡ b
   pub effective : (m : Message) → m ∈ S .deltas → Executable S m
-      → effectiveBlock S m ≡ max (blockOf m) (greatest (λ s. effectiveBlock S (find (S .deltas) s)) (needs S m))
+      → effectiveBlock S m ≡ max (ownBlock S m) (greatest (λ s. effectiveBlock S (find (S .deltas) s)) (needs S m))
   pub only-effective : (f : Message → ℕ)
-      → ((m : Message) → m ∈ S .deltas → Executable S m → f m ≡ max (blockOf m) (greatest (λ s. f (find (S .deltas) s)) (needs S m)))
+      → ((m : Message) → m ∈ S .deltas → Executable S m → f m ≡ max (ownBlock S m) (greatest (λ s. f (find (S .deltas) s)) (needs S m)))
       → (m : Message) → m ∈ S .deltas → Executable S m → f m ≡ effectiveBlock S m
 
 pub key-law : (S : State) → Valid S → KeyLaw S
