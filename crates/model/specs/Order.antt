@@ -1,6 +1,7 @@
 -- What runs, and in which order: the state of a station, executable deltas, the effective block, the key, the log and the held ones.
 use mathlib.Core.Logic.{_⊎_}
 use mathlib.Core.Bool.{Bool, true, false, cond, not, _&&_, _||_}
+use mathlib.Core.Option.{Option, some, none}
 use mathlib.Core.List.{List, [], _∷_, map}
 use Prim.Native.Nat.{ℕ, zero, suc, _-_, _≤_, _<_, max}
 use lib.ListN.{length}
@@ -110,13 +111,27 @@ blockAlong S (suc n) s = max (ownBlock S (find (S .deltas) s)) (greatest (blockA
 abbrev pub effectiveBlock : State → Message → ℕ
 effectiveBlock S m = blockAlong S capacity (sequenceOf m)
 
+-- The priority that a delta states, where it has one.
+abbrev pub statedPriority : Message → Option ℕ
+statedPriority m = cond (hasPriority m) (some (priorityOf m)) none
+
+-- "explicit priority before none"
+abbrev pub turnOf : Option ℕ → ℕ
+turnOf (some p) = 0
+turnOf none = 1
+
+-- "and the greater priority first": how far it lies below the limit. All without one are level.
+abbrev pub rankOf : Option ℕ → ℕ
+rankOf (some p) = fieldLimit - p
+rankOf none = fieldLimit
+
 -- "effective block, lower first; then explicit priority before none, and the greater priority first;
 -- then group, lower first; then sequence, lower first": five numbers, each lower first.
-abbrev pub keyWith : ℕ → Message → List ℕ
-keyWith effective m = effective ∷ cond (hasPriority m) 0 1 ∷ (fieldLimit - priorityOf m) ∷ groupOf m ∷ sequenceOf m ∷ []
+abbrev pub keyWith : ℕ → Option ℕ → Message → List ℕ
+keyWith effective priority m = effective ∷ turnOf priority ∷ rankOf priority ∷ groupOf m ∷ sequenceOf m ∷ []
 
 abbrev pub keyOf : State → Message → List ℕ
-keyOf S m = keyWith (effectiveBlock S m) m
+keyOf S m = keyWith (effectiveBlock S m) (statedPriority m) m
 
 abbrev pub less : List ℕ → List ℕ → Bool
 less [] [] = false

@@ -1,12 +1,13 @@
 -- A strict total order, as a test, and that keys are under one: lists of numbers, compared place by place.
-use mathlib.Core.Path.{_≡_, refl, sym, _∙_, ap₂, subst}
+use mathlib.Core.Path.{_≡_, refl, sym, _∙_, ap, ap₂, subst}
 use mathlib.Core.Logic.{_⊎_, inl, inr, ⊎-elim}
-use mathlib.Core.Bool.{Bool, not, _&&_}
+use mathlib.Core.Bool.{Bool, not, _&&_, _||_, or-false}
 use mathlib.Core.List.{List, [], _∷_}
 use Prim.Native.Nat.{ℕ, _<_}
 use native.Mathlib.Omega.{arith}
 use native.Mathlib.Nat.{lt-irrefl}
 use lib.Dec.{T, eqb, ltb, eqb→eq, eqb-refl, ltb→lt, lt→ltb, T-not, not-T}
+use borrow.Author.Tests.{eq-eqb, ne-eqb, le-ltb}
 use Rattle.model.specs.Order.{less}
 use Rattle.order.specs.TestLaws.{and-l, and-r, and-i, or-l, or-r, or-e}
 
@@ -61,3 +62,16 @@ less-tri (a ∷ l) (b ∷ k) p q = ap₂ _∷_ heads (less-tri l k
 
 pub less-total : Total less
 less-total = record { irr = less-irr; trans = less-trans; tri = less-tri }
+
+-- ---- two keys by their first numbers
+-- they differ, and decide
+pub less-apart : (a b : ℕ) (l k : List ℕ) → (a ≡ b → ⊥) → less (a ∷ l) (b ∷ k) ≡ ltb a b
+less-apart a b l k h = ap (λ (t : Bool). ltb a b || (t && less l k)) (ne-eqb a b h) ∙ or-false (ltb a b)
+
+-- they are level, and the rest decides
+pub less-level : (a b : ℕ) (l k : List ℕ) → a ≡ b → less (a ∷ l) (b ∷ k) ≡ less l k
+less-level a b l k e = ap₂ (λ (t u : Bool). t || (u && less l k)) (le-ltb a b (omega arith)) (eq-eqb a b e)
+
+-- whichever they are, what the rests say counts alone
+pub less-behind : (a b : ℕ) {t u : Bool} → t ≡ u → (ltb a b || (eqb a b && t)) ≡ (ltb a b || (eqb a b && u))
+less-behind a b e = ap (λ (t : Bool). ltb a b || (eqb a b && t)) e

@@ -11,9 +11,8 @@ use lib.Seq.{paste, length-paste, take-suc, take-all}
 use lib.Dec.{T, eqb, eqb→eq}
 use Rattle.model.specs.Lists.{_∈_}
 use Rattle.model.specs.Layout.{capacity}
-use Rattle.model.specs.Message.{Message, passes}
-use Rattle.model.specs.Order.{State, RightSet, keyWith, less}
-use Rattle.order.specs.ListLaws.{getD-∈}
+use Rattle.model.specs.Message.{Message}
+use Rattle.model.specs.Order.{State, RightSet, statedPriority, keyWith, less}
 use Rattle.order.specs.TestLaws.{decide, not-eqb, eq→eqb}
 use Rattle.message.specs.Header.{headerOf}
 use Rattle.key.specs.Key.{keySize, headerKey, keyIn}
@@ -27,7 +26,7 @@ pub keys-none : (l : List Message) (blocks indices keys : List ℕ) → Keyed ke
 keys-none l blocks indices keys size = record { size = size; made = λ i k. absurd (List·Memᴰ·not-nil k) }
 
 pub keys-more : (l : List Message) (blocks indices keys : List ℕ) (n : ℕ) (key : List ℕ) → n < length indices → getD indices n 0 < capacity → KeysMade l blocks (take n indices) keys
-    → key ≡ headerKey (getD blocks (getD indices n 0) 0) (headerOf (getD l (getD indices n 0) [])) → KeysMade l blocks (take (n + 1) indices) (paste keys (keySize * getD indices n 0) key keySize)
+    → key ≡ headerKey (getD blocks (getD indices n 0) 0) (statedPriority (getD l (getD indices n 0) [])) (headerOf (getD l (getD indices n 0) [])) → KeysMade l blocks (take (n + 1) indices) (paste keys (keySize * getD indices n 0) key keySize)
 keys-more l blocks indices keys n key inside small old new = record {
   size = length-paste keys (keySize * at) key keySize (omega (arith, old .size)) (omega (arith, long)) ∙ old .size;
   made = λ i k. ⊎-elim (λ q. ⊎-elim (same i) (other i q) (decide (eqb i at))) (λ q. same i (eq→eqb (List·Memᴰ·eq-of-singleton q)))
@@ -40,12 +39,12 @@ keys-more l blocks indices keys n key inside small old new = record {
     long : length key ≡ keySize
     long = ap length new
 
-    same : (i : ℕ) → T (eqb i (getD indices n 0)) → keyIn (paste keys (keySize * getD indices n 0) key keySize) i ≡ headerKey (getD blocks i 0) (headerOf (getD l i []))
+    same : (i : ℕ) → T (eqb i (getD indices n 0)) → keyIn (paste keys (keySize * getD indices n 0) key keySize) i ≡ headerKey (getD blocks i 0) (statedPriority (getD l i [])) (headerOf (getD l i []))
     same i t =
-        subst (λ (k : ℕ). keyIn (paste keys (keySize * getD indices n 0) key keySize) k ≡ headerKey (getD blocks k 0) (headerOf (getD l k []))) (sym (eqb→eq i (getD indices n 0) t))
+        subst (λ (k : ℕ). keyIn (paste keys (keySize * getD indices n 0) key keySize) k ≡ headerKey (getD blocks k 0) (statedPriority (getD l k [])) (headerOf (getD l k []))) (sym (eqb→eq i (getD indices n 0) t))
         (put-here keys (getD indices n 0) key (omega (arith, old .size)) long ∙ new)
 
-    other : (i : ℕ) → i ∈ take n indices → T (not (eqb i (getD indices n 0))) → keyIn (paste keys (keySize * getD indices n 0) key keySize) i ≡ headerKey (getD blocks i 0) (headerOf (getD l i []))
+    other : (i : ℕ) → i ∈ take n indices → T (not (eqb i (getD indices n 0))) → keyIn (paste keys (keySize * getD indices n 0) key keySize) i ≡ headerKey (getD blocks i 0) (statedPriority (getD l i [])) (headerOf (getD l i []))
     other i q t = put-other keys (getD indices n 0) i key (omega (arith, old .size)) long (not-eqb i (getD indices n 0) t) ∙ old .made i q
 
 pub keys-all : (l : List Message) (blocks indices keys : List ℕ) (n : ℕ) → length indices ≤ n → KeysMade l blocks (take n indices) keys → KeysMade l blocks indices keys
@@ -58,9 +57,6 @@ keys-closed S right rows counts rr blocks order count c keys made = record {
   size = made .size;
   compared = λ i j p q x y.
       ap₂ less (made .made i (closed-placed S right rows counts rr blocks order count c i p x)) (made .made j (closed-placed S right rows counts rr blocks order count c j q y))
-      ∙ key-says (getD blocks i 0) (getD blocks j 0) (getD (S .deltas) i []) (getD (S .deltas) j []) (passing i p) (passing j q)
-      ∙ ap₂ (λ (a b : ℕ). less (keyWith a (getD (S .deltas) i [])) (keyWith b (getD (S .deltas) j []))) (closed-block S right rows counts rr blocks order count c i p x) (closed-block S right rows counts rr blocks order count c j q y);
+      ∙ key-says (getD blocks i 0) (getD blocks j 0) (statedPriority (getD (S .deltas) i [])) (statedPriority (getD (S .deltas) j [])) (getD (S .deltas) i []) (getD (S .deltas) j [])
+      ∙ ap₂ (λ (a b : ℕ). less (keyWith a (statedPriority (getD (S .deltas) i [])) (getD (S .deltas) i [])) (keyWith b (statedPriority (getD (S .deltas) j [])) (getD (S .deltas) j []))) (closed-block S right rows counts rr blocks order count c i p x) (closed-block S right rows counts rr blocks order count c j q y);
 }
-  where
-    passing : (i : ℕ) → i < length (S .deltas) → T (passes (getD (S .deltas) i []))
-    passing i h = right .pass (getD (S .deltas) i []) (getD-∈ (S .deltas) i [] h)

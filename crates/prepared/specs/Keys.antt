@@ -6,7 +6,7 @@ use lib.ListN.{length, getD}
 use Rattle.model.specs.Lists.{_∈_}
 use Rattle.model.specs.Layout.{capacity}
 use Rattle.model.specs.Message.{Message}
-use Rattle.model.specs.Order.{State, Executable, keyOf, less}
+use Rattle.model.specs.Order.{State, Executable, statedPriority, keyOf, less}
 use Rattle.message.specs.Header.{headerOf}
 use Rattle.key.specs.Key.{keySize, headerKey, keyIn}
 use Rattle.needs.specs.Rows.{RowsRight}
@@ -18,10 +18,10 @@ Keyed keys = length keys ≡ keySize * capacity
 abbrev pub InTable : List ℕ → List ℕ → Type 0
 InTable starts indices = (i : ℕ) → i ∈ indices → i < length starts
 
--- The keys at these indices, each of its delta with the block beside it.
+-- The keys at these indices, each of its delta with the block beside it and the priority that it states.
 pub record KeysMade (l : List Message) (blocks indices keys : List ℕ) : Type 0 where
   pub size : Keyed keys
-  pub made : (i : ℕ) → i ∈ indices → keyIn keys i ≡ headerKey (getD blocks i 0) (headerOf (getD l i []))
+  pub made : (i : ℕ) → i ∈ indices → keyIn keys i ≡ headerKey (getD blocks i 0) (statedPriority (getD l i [])) (headerOf (getD l i []))
 
 -- The keys of executable deltas are compared as the definitions' keys are.
 pub record KeysRight (S : State) (keys : List ℕ) : Type 0 where

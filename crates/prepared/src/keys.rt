@@ -18,7 +18,8 @@ pub fn fill_keys(keys: &mut [u64], pool: &[u8], starts: &[u16], blocks: &[u32], 
     while k < indices.len() {
         let i = indices[k] as usize;
         let header = read_header(message_at(pool, starts, i));
-        let key = make_key(blocks[i], header);
+        let priority = header.priority;
+        let key = make_key(blocks[i], priority, header);
         put_key(keys, i, key);
         k += 1;
     }

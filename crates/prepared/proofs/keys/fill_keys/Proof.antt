@@ -1,13 +1,17 @@
--- The keys at the first k indices are made, each from its delta's header and its block.
+-- The keys at the first k indices are made, each from its block, and from its delta's priority and header.
 use Prim.Native.Nat.{ℕ, _+_, _-_, _≤_, _<_}
 use mathlib.Core.Path.{sym, _∙_, ap, subst}
-use mathlib.Core.List.{List}
+use mathlib.Core.Option.{Option}
+use mathlib.Core.List.{List, []}
 use lib.ListN.{length, getD, take, length-map}
 use native.Mathlib.Omega.{arith}
 use Rattle.model.specs.Layout.{capacity}
+use Rattle.model.specs.Message.{Message}
 use Rattle.order.specs.ListLaws.{getD-∈}
 use Rattle.message.specs.Header.{headerOf}
-use Rattle.key.specs.Key.{headerKey}
+use Rattle.message.specs.declared.header.Header.{Header}
+use Rattle.key.specs.Key.{priorityNumber, headerKey}
+use Rattle.key.specs.KeyLaws.{stated-is}
 use Rattle.table.specs.Table.{messageFrom, deltasOf}
 use Rattle.table.specs.PlaceLaws.{entry-long}
 use Rattle.prepared.specs.Keys.{KeysMade}
@@ -95,11 +99,13 @@ loop-again c =
     let i = indexed at in
     let l = turn i in
     let s = entry l in
-    let header = m .before .before .read-header .ensures ∙ ap headerOf (at .message-at .ensures) in (
+    let header = m .before .before .read-header .ensures ∙ ap headerOf (at .message-at .ensures) in
+    let delta : Message = getD (deltasOf (s .args .pool .now) (s .args .starts .now)) (getD (s .args .indices .now) (l .loop .k) 0) [] in
+    let block : ℕ = getD (s .args .blocks .now) (getD (s .args .indices .now) (l .loop .k) 0) 0 in (
       omega arith,
       subst (λ (x : List ℕ). KeysMade (deltasOf (s .args .pool .now) (s .args .starts .now)) (s .args .blocks .now) (take (l .loop .k + 1) (s .args .indices .now)) x) (sym (put .put-key .ensures))
           (keys-more (deltasOf (s .args .pool .now) (s .args .starts .now)) (s .args .blocks .now) (s .args .indices .now) (l .loop .keys) (l .loop .k) (m .make-key .result) (omega arith) (omega (arith, inside i, few s)) (l .loop .inv .1)
-          (m .make-key .ensures ∙ ap (headerKey (getD (s .args .blocks .now) (getD (s .args .indices .now) (l .loop .k) 0) 0)) header)),
+          (m .make-key .ensures ∙ ap (λ (h : Header). headerKey block (priorityNumber (h .priority)) h) header ∙ ap (λ (p : Option ℕ). headerKey block p (headerOf delta)) (stated-is delta))),
     )
 
 same-length : tie.Need-same-length Inv-loop μ-loop
