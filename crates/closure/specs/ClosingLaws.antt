@@ -24,7 +24,7 @@ use Rattle.needs.specs.Names.{missing, indexOf}
 use Rattle.needs.specs.IndexLaws.{index-here}
 use Rattle.needs.specs.NameLaws.{sequence-at, set-ascends}
 use Rattle.needs.specs.Rows.{RowsRight}
-use Rattle.ready.specs.Ready.{marksSize, isPlaced, readyIn, effectiveIn, Marks, Placing, Blocks}
+use Rattle.ready.specs.Ready.{marksSize, isPlaced, readyIn, greatestAlong, Marks, Placing, Blocks}
 use Rattle.ready.specs.ReadyLaws.{ready-is, block-is, idle-stuck}
 use Rattle.closure.specs.Closing.{Closing, Tried, Passing, Passed, Closed}
 
@@ -149,7 +149,7 @@ module _ (S : State) (right : RightSet S) where
       tried-idle e = record { closing = c; grows = omega arith; idle = λ x. (refl, e) }
 
       pub tried-more : RowsRight S rows counts → i < length (S .deltas) → readyIn rows counts placed i ≡ true
-          → (e : ℕ) → e ≡ effectiveIn rows counts blocks i (ownBlock S (getD (S .deltas) i []))
+          → (e : ℕ) → e ≡ greatestAlong rows counts blocks i (ownBlock S (getD (S .deltas) i []))
           → Tried S rows counts placed count i (set placed i 1) (set blocks i e) (set order count i) (count + 1)
       tried-more rr inside r e q = record {
         closing = closing-more i e inside is-ready (q ∙ block-is S placed so-far (c .placing) rows counts rr right blocks (c .effective) i inside is-ready);

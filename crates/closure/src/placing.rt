@@ -1,7 +1,7 @@
 // A delta is placed where it is ready.
 use buffer::get_u32;
 use layout::BLOCK_AT;
-use ready::effective;
+use ready::greatest_along;
 use ready::ready;
 use table::entry::message_at;
 ghost use mathlib.Core.Path.{_≡_};
@@ -40,7 +40,7 @@ pub fn try_place(
     if !ready(rows, counts, placed, i) {
         return count;
     }
-    let block = effective(rows, counts, blocks, i, own_block(pool, starts, i));
+    let block = greatest_along(rows, counts, blocks, i, own_block(pool, starts, i));
     placed[i] = 1;
     blocks[i] = block;
     order[count] = i as u8;

@@ -28,12 +28,12 @@ use Rattle.needs.specs.Names.{indexOf}
 use Rattle.needs.specs.IndexLaws.{index-here}
 use Rattle.needs.specs.NameLaws.{sequence-at, set-ascends}
 use Rattle.needs.specs.Rows.{rowIn, RowsRight}
-use Rattle.ready.specs.Ready.{marksSize, readyIn, effectiveIn, Placing}
-use Rattle.ready.specs.ReadyLaws.{ready-is, idle-stuck}
+use Rattle.ready.specs.Ready.{marksSize, readyIn, greatestAlong, Placing}
+use Rattle.ready.specs.ReadyLaws.{greatest-named, ready-is, idle-stuck}
 use Rattle.closure.specs.ClosingLaws.{placing-none, placing-more}
 use Rattle.prepared.specs.Keys.{KeysRight}
 use Rattle.log_check.specs.Above.{keyAt, Comparable, Above}
-use Rattle.log_check.specs.Waiting.{AnyReady}
+use Rattle.log_check.specs.Waiting.{readyFrom, AnyReady}
 use Rattle.log_check.specs.Checking.{Inside, Checking}
 
 last-or : (q k : ℕ) → q < k + 1 → (q ≡ k) ⊎ (q < k)
@@ -105,7 +105,7 @@ module _ (S : State) (right : RightSet S) (places : List ℕ) (within : Inside S
       so-far = deltasAt (S .deltas) (take k places)
 
       abbrev start : ℕ
-      start = effectiveIn rows counts ends (getD places k 0) 0
+      start = readyFrom rows counts ends (getD places k 0)
 
       pub comparable : k < length places → Comparable keys places froms k
       comparable h = record {
@@ -125,17 +125,10 @@ module _ (S : State) (right : RightSet S) (places : List ℕ) (within : Inside S
         row-is : rowIn rows counts (getD places k 0) ≡ map (indexOf (sequencesOf (S .deltas))) (needs S (getD (S .deltas) (getD places k 0) []))
         row-is = rr .row (getD places k 0) (place-inside k more)
 
-        start-is : effectiveIn rows counts ends (getD places k 0) 0 ≡ greatest (λ s. getD ends (indexOf (sequencesOf (S .deltas)) s) 0) (needs S (getD (S .deltas) (getD places k 0) []))
-        unfolding effectiveIn
-        start-is = ap (λ (l : List ℕ). max 0 (greatest (λ j. getD ends j 0) l)) row-is ∙ zero-max ∙ mapped (needs S (getD (S .deltas) (getD places k 0) []))
-          where
-            zero-max : max 0 (greatest (λ j. getD ends j 0) (map (indexOf (sequencesOf (S .deltas))) (needs S (getD (S .deltas) (getD places k 0) []))))
-                ≡ greatest (λ j. getD ends j 0) (map (indexOf (sequencesOf (S .deltas))) (needs S (getD (S .deltas) (getD places k 0) [])))
-            zero-max = omega arith
-
-            mapped : (l : List ℕ) → greatest (λ j. getD ends j 0) (map (indexOf (sequencesOf (S .deltas))) l) ≡ greatest (λ s. getD ends (indexOf (sequencesOf (S .deltas)) s) 0) l
-            mapped [] = refl
-            mapped (s ∷ l) = ap (max (getD ends (indexOf (sequencesOf (S .deltas)) s) 0)) (mapped l)
+        start-is : start ≡ max 0 (greatest (λ s. getD ends (indexOf (sequencesOf (S .deltas)) s) 0) (needs S (getD (S .deltas) (getD places k 0) [])))
+        unfolding greatestAlong
+        start-is = ap (max 0) (ap (greatest (λ j. getD ends j 0)) row-is
+            ∙ greatest-named (λ j. getD ends j 0) (λ s. getD ends (indexOf (sequencesOf (S .deltas)) s) 0) (indexOf (sequencesOf (S .deltas))) (needs S (getD (S .deltas) (getD places k 0) [])) (λ s m. refl))
 
         -- a place at which the delta was ready is at or behind `start`
         start-least : (j : ℕ) → j < k → T (ready S (placedBy (deltasAt (S .deltas) (take j places))) (getD (S .deltas) (getD places k 0) [])) → start ≤ j

@@ -1,11 +1,15 @@
--- Whether one of the first deltas is ready.
+-- From where on a delta was ready, and whether one of the first deltas is.
 use mathlib.Core.Path.{_≡_}
 use mathlib.Core.Bool.{Bool, true, false}
 use mathlib.Core.List.{List}
 use Prim.Native.Nat.{ℕ, _≤_, _<_}
 use Rattle.model.specs.Layout.{capacity}
 use Rattle.needs.specs.Rows.{RowFits}
-use Rattle.ready.specs.Ready.{readyIn}
+use Rattle.ready.specs.Ready.{readyIn, greatestAlong}
+
+-- The greatest of what `ends` has for its needs; the first place where it needs nothing.
+abbrev pub readyFrom : List ℕ → List ℕ → List ℕ → ℕ → ℕ
+readyFrom rows counts ends i = greatestAlong rows counts ends i 0
 
 pub record AllFit (rows counts : List ℕ) (count : ℕ) : Type 0 where
   pub few : count ≤ capacity

@@ -4,10 +4,10 @@ mod waiting;
 
 use crate::above::above;
 use crate::waiting::any_ready;
+use crate::waiting::ready_from;
 use layout::CAPACITY;
 use message::checks::Check;
 use ready::MARKS;
-use ready::effective;
 use ready::ready;
 ghost use Rattle.table.specs.Table.{setIn, Holds};
 ghost use Rattle.prepared.specs.Keys.{PreparedRight};
@@ -35,7 +35,7 @@ pub fn check_log(
         if !ready(rows, counts, &placed, i) {
             return Check::Wrong;
         }
-        let from = effective(rows, counts, &ends, i, 0);
+        let from = ready_from(rows, counts, &ends, i);
         if !above(keys, places, &froms, from as usize, k) {
             return Check::Wrong;
         }

@@ -1,9 +1,19 @@
-// Whether something waits to be placed.
+// From where on a delta was ready, and whether something waits to be placed.
+use ready::greatest_along;
 use ready::ready;
 ghost use mathlib.Core.Path.{_≡_};
 ghost use lib.ListN.{length};
+ghost use Rattle.needs.specs.Rows.{RowFits};
 ghost use Rattle.ready.specs.Ready.{marksSize};
-ghost use Rattle.log_check.specs.Waiting.{AllFit, AnyReady};
+ghost use Rattle.log_check.specs.Waiting.{readyFrom, AllFit, AnyReady};
+
+// The place from which a delta was ready: behind all that it needs, by `ends`, which has for each delta one more than its place.
+pub fn ready_from(rows: &[u8], counts: &[u8], ends: &[u32], i: usize) -> u32
+    requires { ⌜ RowFits (now rows) (now counts) i × (length (now ends) ≡ marksSize) ⌝ }
+    ensures { λ r. ⌜ r ≡ readyFrom (now (rows .entry)) (now (counts .entry)) (now (ends .entry)) i ⌝ }
+{
+    greatest_along(rows, counts, ends, i, 0)
+}
 
 // Whether one of the first `count` deltas is ready.
 pub fn any_ready(rows: &[u8], counts: &[u8], placed: &[u8], count: usize) -> bool

@@ -1,4 +1,4 @@
--- What is ready, and its effective block, by rows of needs, by marks of what is placed, and by the effective blocks of that.
+-- What is ready, by rows of needs and by marks of what is placed; and the greatest of the numbers that stand beside needs.
 use mathlib.Core.Path.{_≡_}
 use mathlib.Core.Bool.{Bool, false, not, _&&_}
 use mathlib.Core.List.{List, []}
@@ -23,9 +23,9 @@ isPlaced placed i = not (eqb (getD placed i 0) 0)
 unfoldable pub readyIn : List ℕ → List ℕ → List ℕ → ℕ → Bool
 readyIn rows counts placed i = not (isPlaced placed i) && every (isPlaced placed) (rowIn rows counts i)
 
--- The greatest of its own block and those of its needs.
-unfoldable pub effectiveIn : List ℕ → List ℕ → List ℕ → ℕ → ℕ → ℕ
-effectiveIn rows counts blocks i own = max own (greatest (λ j. getD blocks j 0) (rowIn rows counts i))
+-- The greatest of its own number and those of its needs.
+unfoldable pub greatestAlong : List ℕ → List ℕ → List ℕ → ℕ → ℕ → ℕ
+greatestAlong rows counts numbers i own = max own (greatest (λ j. getD numbers j 0) (rowIn rows counts i))
 
 -- ---- what marks and blocks stand for
 -- Marked are the deltas of the sequences `done`.

@@ -21,7 +21,7 @@ use Rattle.needs.specs.IndexLaws.{index-cases}
 use Rattle.needs.specs.NameLaws.{sequence-at}
 use Rattle.needs.specs.Rows.{rowSize, rowIn, RowsRight, RowFits}
 use Rattle.needs.specs.RowLaws.{row-length, row-at}
-use Rattle.ready.specs.Ready.{isPlaced, readyIn, effectiveIn, Placing, Blocks}
+use Rattle.ready.specs.Ready.{isPlaced, readyIn, greatestAlong, Placing, Blocks}
 
 -- ---- a row, one need after the other
 module _ (rows counts : List ℕ) (i : ℕ) (fits : RowFits rows counts i) where
@@ -55,7 +55,7 @@ every-named : (p : ℕ → Bool) (index : ℕ → ℕ) (done : List ℕ) → ((s
 every-named p index done f [] = refl
 every-named p index done f (s ∷ ss) = ap₂ _&&_ (f s) (every-named p index done f ss)
 
-greatest-named : (f g index : ℕ → ℕ) (ss : List ℕ) → ((s : ℕ) → s ∈ ss → f (index s) ≡ g s) → greatest f (map index ss) ≡ greatest g ss
+pub greatest-named : (f g index : ℕ → ℕ) (ss : List ℕ) → ((s : ℕ) → s ∈ ss → f (index s) ≡ g s) → greatest f (map index ss) ≡ greatest g ss
 greatest-named f g index [] h = refl
 greatest-named f g index (s ∷ ss) h = ap₂ max (h s (List·Memᴰ·head refl)) (greatest-named f g index ss (λ t k. h t (List·Memᴰ·tail k)))
 
@@ -101,8 +101,8 @@ module _ (S : State) (placed : List ℕ) (l : List Message) (p : Placing S place
               ∙ ap (effectiveBlock S) (sym (find-here (S .deltas) (set .ascends) (getD (S .deltas) (r .0) []) (getD-∈ (S .deltas) (r .0) [] h)) ∙ ap (find (S .deltas)) (sym (sequence-at (S .deltas) (r .0)) ∙ r .2))
 
       pub block-is : (i : ℕ) → i < length (S .deltas) → T (ready S (placedBy l) (getD (S .deltas) i []))
-          → effectiveIn rows counts blocks i (ownBlock S (getD (S .deltas) i [])) ≡ effectiveBlock S (getD (S .deltas) i [])
-      unfolding effectiveIn
+          → greatestAlong rows counts blocks i (ownBlock S (getD (S .deltas) i [])) ≡ effectiveBlock S (getD (S .deltas) i [])
+      unfolding greatestAlong
       block-is i h t =
           ap (max (ownBlock S m))
           (ap (greatest (λ j. getD blocks j 0)) (right .row i h)

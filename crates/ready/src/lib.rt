@@ -1,11 +1,11 @@
-// What is ready, and its effective block, by the rows of needs, by what is placed, and by the effective blocks of that.
+// What is ready, by the rows of needs and by what is placed; and the greatest of the numbers that stand beside a delta's needs.
 use layout::CAPACITY;
 use needs::rows::ROW;
 ghost use mathlib.Core.Path.{_≡_};
 ghost use Prim.Native.Nat.{_<_, max};
 ghost use lib.ListN.{length};
 ghost use Rattle.needs.specs.Rows.{RowFits};
-ghost use Rattle.ready.specs.Ready.{marksSize, readyIn, effectiveIn};
+ghost use Rattle.ready.specs.Ready.{marksSize, readyIn, greatestAlong};
 
 // A mark for each delta, and one for what is missing, which is never placed.
 pub const MARKS: usize = CAPACITY + 1;
@@ -41,19 +41,19 @@ pub fn greater(a: u32, b: u32) -> u32
     a
 }
 
-// The greatest of a delta's own block and the effective blocks of its needs.
-pub fn effective(rows: &[u8], counts: &[u8], blocks: &[u32], i: usize, own: u32) -> u32
-    requires { ⌜ RowFits (now rows) (now counts) i × (length (now blocks) ≡ marksSize) ⌝ }
-    ensures { λ r. ⌜ r ≡ effectiveIn (now (rows .entry)) (now (counts .entry)) (now (blocks .entry)) i own ⌝ }
+// The greatest of a delta's own number and the numbers of its needs.
+pub fn greatest_along(rows: &[u8], counts: &[u8], numbers: &[u32], i: usize, own: u32) -> u32
+    requires { ⌜ RowFits (now rows) (now counts) i × (length (now numbers) ≡ marksSize) ⌝ }
+    ensures { λ r. ⌜ r ≡ greatestAlong (now (rows .entry)) (now (counts .entry)) (now (numbers .entry)) i own ⌝ }
 {
     let from = ROW * i;
     let count = counts[i] as usize;
-    let mut block = own;
+    let mut greatest = own;
     let mut k = 0;
     while k < count {
         let need = rows[from + k] as usize;
-        block = greater(block, blocks[need]);
+        greatest = greater(greatest, numbers[need]);
         k += 1;
     }
-    block
+    greatest
 }

@@ -10,9 +10,9 @@ use borrow.Author.Tests.{not-true, not-false}
 use Rattle.order.specs.ListLaws.{getD-∈}
 use Rattle.table.specs.Table.{messageFrom, setIn}
 use Rattle.needs.specs.RowLaws.{rows-fit}
-use Rattle.ready.specs.Ready.{effectiveIn, readyIn}
+use Rattle.ready.specs.Ready.{readyIn}
 use Rattle.log_check.specs.Above.{Above}
-use Rattle.log_check.specs.Waiting.{AnyReady}
+use Rattle.log_check.specs.Waiting.{readyFrom, AnyReady}
 use Rattle.log_check.specs.Checking.{Checking}
 use Rattle.log_check.specs.CheckingLaws.{checking-none, comparable, start-small, now-ready, checking-more, not-ready, not-above, not-whole, is-log}
 use Rattle.log_check.proofs.check_log.Statement.{statement}
@@ -34,7 +34,7 @@ turn c = c .before .before .before
 abbrev looked : tie.After-ends Inv-loop μ-loop → tie.After-ready Inv-loop μ-loop
 looked c = c .before .before
 
-abbrev known : tie.After-froms Inv-loop μ-loop → tie.After-effective Inv-loop μ-loop
+abbrev known : tie.After-froms Inv-loop μ-loop → tie.After-ready-from Inv-loop μ-loop
 known c = c .before
 
 abbrev begun : tie.After-froms Inv-loop μ-loop → tie.After-ends Inv-loop μ-loop
@@ -78,11 +78,11 @@ returns c =
     not-ready (setIn (s .args .pool .now) (s .args .starts .now)) (s .pre .0) (s .args .places .now) (s .pre .2) (s .args .rows .now) (s .args .counts .now) (s .pre .1 .needs) (s .args .keys .now) (s .pre .1 .keyed)
     (l .loop .placed) (l .loop .ends) (l .loop .froms) (l .loop .k) (l .loop .inv) (omega arith) (sym (a .ready .ensures) ∙ not-true (a .ready .result) (c .if1 .taken))
 
-slice-aggregate-effective : tie.Need-slice-aggregate-effective Inv-loop μ-loop
-slice-aggregate-effective c = omega (arith, turn (looked c) .before .loop .inv .ends-size)
+slice-aggregate-ready-from : tie.Need-slice-aggregate-ready-from Inv-loop μ-loop
+slice-aggregate-ready-from c = omega (arith, turn (looked c) .before .loop .inv .ends-size)
 
-effective-requires : tie.Need-effective-requires Inv-loop μ-loop
-effective-requires c κs =
+ready-from-requires : tie.Need-ready-from-requires Inv-loop μ-loop
+ready-from-requires c κs =
     let l = turn (looked c) .before in
     let s = entry l in
     (rows-fit (setIn (s .args .pool .now) (s .args .starts .now)) (s .pre .0) (s .pre .1 .needs) _ (small s (l .loop .k) (room (turn (looked c)))), l .loop .inv .ends-size)
@@ -95,7 +95,7 @@ yes : (c : tie.After-ends Inv-loop μ-loop) → let l = turn (looked c) .before 
     readyIn (s .args .rows .now) (s .args .counts .now) (l .loop .placed) (getD (s .args .places .now) (l .loop .k) 0) ≡ true
 yes c = let a = looked c in sym (a .ready .ensures) ∙ not-false (a .ready .result) (c .before .if1 .left)
 
-early : (c : tie.After-effective Inv-loop μ-loop) → c .effective .result ≤ turn (looked (c .before)) .before .loop .k
+early : (c : tie.After-ready-from Inv-loop μ-loop) → c .ready-from .result ≤ turn (looked (c .before)) .before .loop .k
 early c =
     let e = c .before in
     let l = turn (looked e) .before in
@@ -103,7 +103,7 @@ early c =
     let k : l .loop .k < length (s .args .places .now) = room (turn (looked e)) in
     omega (
       arith,
-      c .effective .ensures,
+      c .ready-from .ensures,
       start-small (setIn (s .args .pool .now) (s .args .starts .now)) (s .pre .0) (s .args .places .now) (s .pre .2) (s .args .rows .now) (s .args .counts .now) (s .pre .1 .needs) (s .args .keys .now) (s .pre .1 .keyed) (l .loop .placed) (l .loop .ends) (l .loop .froms) (l .loop .k) (l .loop .inv) k
           (now-ready (setIn (s .args .pool .now) (s .args .starts .now)) (s .pre .0) (s .args .places .now) (s .pre .2) (s .args .rows .now) (s .args .counts .now) (s .pre .1 .needs) (s .args .keys .now) (s .pre .1 .keyed) (l .loop .placed) (l .loop .ends) (l .loop .froms) (l .loop .k) (l .loop .inv) k (yes e)),
     )
@@ -119,12 +119,12 @@ above-requires c κs =
 
 -- what the comparison says, from where the delta was ready
 compared : (c : tie.After-above Inv-loop μ-loop) (t : Bool) → c .above .result ≡ t → let e = begun (c .before) in let l = turn (looked e) .before in let s = entry l in
-    Above (s .args .keys .now) (s .args .places .now) (effectiveIn (s .args .rows .now) (s .args .counts .now) (l .loop .ends) (getD (s .args .places .now) (l .loop .k) 0) 0) (l .loop .k) t
+    Above (s .args .keys .now) (s .args .places .now) (readyFrom (s .args .rows .now) (s .args .counts .now) (l .loop .ends) (getD (s .args .places .now) (l .loop .k) 0)) (l .loop .k) t
 compared c t q =
     let l = turn (looked (begun (c .before))) .before in
     let s = entry l in
-    subst (λ (x : ℕ). Above (s .args .keys .now) (s .args .places .now) x (l .loop .k) t) (known (c .before) .effective .ensures)
-    (subst (Above (s .args .keys .now) (s .args .places .now) (known (c .before) .effective .result) (l .loop .k)) q (c .above .ensures))
+    subst (λ (x : ℕ). Above (s .args .keys .now) (s .args .places .now) x (l .loop .k) t) (known (c .before) .ready-from .ensures)
+    (subst (Above (s .args .keys .now) (s .args .places .now) (known (c .before) .ready-from .result) (l .loop .k)) q (c .above .ensures))
 
 returns-2 : tie.Need-returns-2 Inv-loop μ-loop
 returns-2 c =
@@ -173,7 +173,7 @@ loop-again c =
     let l = ends-turn c in
     let s = entry l in
     let i : ℕ = getD (s .args .places .now) (l .loop .k) 0 in
-    subst (λ (x : ℕ). Checking (setIn (s .args .pool .now) (s .args .starts .now)) (s .args .keys .now) (s .args .places .now) (set (l .loop .placed) i 1) (set (l .loop .ends) i (l .loop .k + 1)) (set (l .loop .froms) (l .loop .k) x) (l .loop .k + 1)) (sym (known (a .before) .effective .ensures))
+    subst (λ (x : ℕ). Checking (setIn (s .args .pool .now) (s .args .starts .now)) (s .args .keys .now) (s .args .places .now) (set (l .loop .placed) i 1) (set (l .loop .ends) i (l .loop .k + 1)) (set (l .loop .froms) (l .loop .k) x) (l .loop .k + 1)) (sym (known (a .before) .ready-from .ensures))
     (checking-more (setIn (s .args .pool .now) (s .args .starts .now)) (s .pre .0) (s .args .places .now) (s .pre .2) (s .args .rows .now) (s .args .counts .now) (s .pre .1 .needs) (s .args .keys .now) (s .pre .1 .keyed)
     (l .loop .placed) (l .loop .ends) (l .loop .froms) (l .loop .k) (l .loop .inv) (room (turn (looked e))) (yes e) (compared a true (not-false (a .above .result) (c .if2 .left))))
 
@@ -230,8 +230,8 @@ check-log-spec =
     slice-aggregate-ready
     ready-requires
     returns
-    slice-aggregate-effective
-    effective-requires
+    slice-aggregate-ready-from
+    ready-from-requires
     slice-aggregate-above
     cast-above
     above-requires

@@ -1,4 +1,4 @@
--- The block so far and the blocks of the needs that are left make up the effective block.
+-- The greatest so far and the numbers of the needs that are left make up the greatest.
 use Prim.Native.Nat.{ℕ, _≤_, _+_, _*_, _-_, max}
 use mathlib.Core.Path.{_≡_, refl, sym, _∙_, ap}
 use lib.ListN.{getD, drop}
@@ -6,17 +6,17 @@ use native.Mathlib.Omega.{arith}
 use borrow.Author.Needs.{needs}
 use Rattle.model.specs.Lists.{greatest}
 use Rattle.needs.specs.Rows.{rowSize, rowIn}
-use Rattle.ready.specs.Ready.{effectiveIn}
+use Rattle.ready.specs.Ready.{greatestAlong}
 use Rattle.ready.specs.ReadyLaws.{greatest-row, greatest-done}
-use Rattle.ready.proofs.effective.Statement.{statement}
-use Rattle.ready.proofs.effective.Tie as tie
+use Rattle.ready.proofs.greatest_along.Statement.{statement}
+use Rattle.ready.proofs.greatest_along.Tie as tie
 
 abbrev Inv-loop : tie.InvT-loop
-Inv-loop rows counts blocks i own from count block₀ k₀ block k =
-    (k ≤ getD counts i 0) × (effectiveIn rows counts blocks i own ≡ max block (greatest (λ j. getD blocks j 0) (drop k (rowIn rows counts i))))
+Inv-loop rows counts numbers i own from count greatest₀ k₀ most k =
+    (k ≤ getD counts i 0) × (greatestAlong rows counts numbers i own ≡ max most (greatest (λ j. getD numbers j 0) (drop k (rowIn rows counts i))))
 
 abbrev μ-loop : tie.MeasureT-loop
-μ-loop rows counts blocks i own from count block₀ k₀ block k = getD counts i 0 - k
+μ-loop rows counts numbers i own from count greatest₀ k₀ most k = getD counts i 0 - k
 
 -- where the loop is entered, and where its row is read
 abbrev entry : tie.At-loop Inv-loop μ-loop → tie.Start Inv-loop μ-loop
@@ -35,7 +35,7 @@ cast-count : tie.Need-cast-count Inv-loop μ-loop
 cast-count c = omega (arith, c .shared-slice-known4 .given (c .before .before .before .before .args .i))
 
 loop-holds : tie.Need-loop-holds Inv-loop μ-loop
-unfolding effectiveIn
+unfolding greatestAlong
 loop-holds c = (omega arith, refl)
 
 add-need : tie.Need-add-need Inv-loop μ-loop
@@ -69,22 +69,22 @@ loop-again : tie.Need-loop-again Inv-loop μ-loop
 loop-again c =
     let l = turn (c .before) in
     let s = entry l in
-    let block : ℕ → ℕ = λ j. getD (s .args .blocks .now) j 0 in
-    let rest = greatest block (drop (l .loop .k + 1) (rowIn (s .args .rows .now) (s .args .counts .now) (s .args .i))) in (
+    let number : ℕ → ℕ = λ j. getD (s .args .numbers .now) j 0 in
+    let rest = greatest number (drop (l .loop .k + 1) (rowIn (s .args .rows .now) (s .args .counts .now) (s .args .i))) in (
       omega arith,
-      l .loop .inv .1 ∙ ap (max (l .loop .block)) (greatest-row (s .args .rows .now) (s .args .counts .now) (s .args .i) (s .pre .0) block (l .loop .k) (omega arith))
-          ∙ regroup (l .loop .block) (block (getD (s .args .rows .now) (rowSize * s .args .i + l .loop .k) 0)) rest ∙ ap (λ (b : ℕ). max b rest) (sym (c .greater .ensures)),
+      l .loop .inv .1 ∙ ap (max (l .loop .greatest)) (greatest-row (s .args .rows .now) (s .args .counts .now) (s .args .i) (s .pre .0) number (l .loop .k) (omega arith))
+          ∙ regroup (l .loop .greatest) (number (getD (s .args .rows .now) (rowSize * s .args .i + l .loop .k) 0)) rest ∙ ap (λ (b : ℕ). max b rest) (sym (c .greater .ensures)),
     )
 
 returns : tie.Need-returns Inv-loop μ-loop
 returns c =
     let l = c .before in
     let s = entry l in
-    let none = greatest-done (s .args .rows .now) (s .args .counts .now) (s .args .i) (s .pre .0) (λ j. getD (s .args .blocks .now) j 0) (l .loop .k) (omega arith) in
-    sym (l .loop .inv .1 ∙ ap (max (l .loop .block)) none ∙ omega arith)
+    let none = greatest-done (s .args .rows .now) (s .args .counts .now) (s .args .i) (s .pre .0) (λ j. getD (s .args .numbers .now) j 0) (l .loop .k) (omega arith) in
+    sym (l .loop .inv .1 ∙ ap (max (l .loop .greatest)) none ∙ omega arith)
 
-pub effective-spec : {M : Type 1} → statement M
-effective-spec =
+pub greatest-along-spec : {M : Type 1} → statement M
+greatest-along-spec =
     tie.close
     (tie.spec
     Inv-loop

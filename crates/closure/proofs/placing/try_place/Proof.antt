@@ -8,7 +8,7 @@ use borrow.Author.Tests.{not-true, not-false}
 use Rattle.table.specs.Table.{messageFrom, setIn}
 use Rattle.needs.specs.Rows.{RowFits}
 use Rattle.needs.specs.RowLaws.{rows-fit}
-use Rattle.ready.specs.Ready.{effectiveIn}
+use Rattle.ready.specs.Ready.{greatestAlong}
 use Rattle.closure.specs.Closing.{Tried}
 use Rattle.closure.specs.ClosingLaws.{tried-idle, tried-more}
 use Rattle.closure.proofs.placing.try_place.Statement.{statement}
@@ -18,7 +18,7 @@ use Rattle.closure.proofs.placing.try_place.Tie as tie
 abbrev start : tie.After-ready-arg → tie.Start
 start c = c .before .before .before .before .before .before .before .before
 
-abbrev looked : tie.After-effective → tie.After-ready
+abbrev looked : tie.After-greatest-along → tie.After-ready
 looked c = c .before .before .before .before
 
 inside : (s : tie.Start) → s .args .i < length (setIn (s .args .pool .now) (s .args .starts .now) .deltas)
@@ -42,18 +42,18 @@ returns c =
 own-block-requires : tie.Need-own-block-requires
 own-block-requires c κs = search needs
 
-effective-requires : tie.Need-effective-requires
-effective-requires c κs = let s = start (c .before .before .before .before) in (row s, s .pre .2 .effective .size)
+greatest-along-requires : tie.Need-greatest-along-requires
+greatest-along-requires c κs = let s = start (c .before .before .before .before) in (row s, s .pre .2 .effective .size)
 
 -- the delta is placed
-placed : (c : tie.After-effective) → let s = start (looked c .before) in
+placed : (c : tie.After-greatest-along) → let s = start (looked c .before) in
     Tried (setIn (s .args .pool .now) (s .args .starts .now)) (s .args .rows .now) (s .args .counts .now) (s .args .placed .now) (s .args .count) (s .args .i)
-    (set (s .args .placed .now) (s .args .i) 1) (set (s .args .blocks .now) (s .args .i) (c .effective .result)) (set (s .args .order .now) (s .args .count) (s .args .i)) (s .args .count + 1)
+    (set (s .args .placed .now) (s .args .i) 1) (set (s .args .blocks .now) (s .args .i) (c .greatest-along .result)) (set (s .args .order .now) (s .args .count) (s .args .i)) (s .args .count + 1)
 placed c =
     let s = start (looked c .before) in
     tried-more (setIn (s .args .pool .now) (s .args .starts .now)) (s .pre .0) (s .args .placed .now) (s .args .blocks .now) (s .args .order .now) (s .args .count) (s .pre .2) (s .args .rows .now) (s .args .counts .now) (s .args .i)
-    (s .pre .1) (inside s) (sym (looked c .ready .ensures) ∙ not-false (looked c .ready .result) (c .before .before .before .if1 .left)) (c .effective .result)
-    (c .effective .ensures ∙ ap (effectiveIn (s .args .rows .now) (s .args .counts .now) (s .args .blocks .now) (s .args .i)) (c .before .own-block .ensures))
+    (s .pre .1) (inside s) (sym (looked c .ready .ensures) ∙ not-false (looked c .ready .result) (c .before .before .before .if1 .left)) (c .greatest-along .result)
+    (c .greatest-along .ensures ∙ ap (greatestAlong (s .args .rows .now) (s .args .counts .now) (s .args .blocks .now) (s .args .i)) (c .before .own-block .ensures))
 
 slice-write-placed : tie.Need-slice-write-placed
 slice-write-placed c = let s = start (looked c .before) in omega (arith, inside s, s .pre .0 .fits, s .pre .2 .placing .marks .size)
@@ -93,7 +93,7 @@ try-place-spec =
     same-length
     returns
     own-block-requires
-    effective-requires
+    greatest-along-requires
     slice-write-placed
     mul-blocks
     slice-write-blocks
