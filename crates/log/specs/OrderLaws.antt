@@ -1,92 +1,67 @@
 -- The log grows by the delta that comes next, and is whole when none comes or all are placed.
-use mathlib.Core.Path.{_≡_, refl, sym, _∙_, ap, ap₂, subst}
+use mathlib.Core.Path.{_≡_, refl, sym, _∙_, ap, subst}
 use mathlib.Core.Logic.{⊎-elim}
 use mathlib.Core.List.{List, [], _∷_, _++_, map-append, append-nil, List·Memᴰ·not-nil, List·Memᴰ·append-cases, List·Memᴰ·eq-of-singleton}
-use Prim.Native.Nat.{ℕ, zero, suc, _+_, _-_, _≤_, _<_}
+use Prim.Native.Nat.{ℕ, _+_, _-_, _≤_, _<_}
 use native.Mathlib.Omega.{arith}
-use lib.ListN.{length, getD, set, replicate, length-append}
-use lib.Seq.{append-snoc, length-take-le}
-use lib.Dec.{T}
+use lib.ListN.{length, getD, set, replicate, length-append, length-map}
+use lib.Seq.{length-take-le}
 use Rattle.model.specs.Layout.{capacity}
 use Rattle.model.specs.Message.{Message, sequenceOf}
-use Rattle.model.specs.Listing as L
-use Rattle.model.specs.Order.{State, RightSet, needs, placedBy, ready, keyOf, less, logFrom, logOf}
+use Rattle.model.specs.Order.{State, RightSet, needs, placedBy, keyOf, less, logFrom, logOf}
 use Rattle.order.specs.KeyOrder.{less-total}
-use Rattle.order.specs.ListingLaws.{after-snoc, Next?, next-is}
+use Rattle.order.specs.ListingLaws.{Next?, next-is}
+use Rattle.order.specs.Greedy.{Greedy, greedy-snoc, greedy-begins, greedy-first}
+use Rattle.laws.specs.LogLaws.{keys-differ}
 use Rattle.table.specs.Table.{deltasAt}
 use Rattle.ready.specs.Ready.{marksSize, Placing}
 use Rattle.closure.specs.ClosingLaws.{placing-none, placing-more}
 use Rattle.log_order.specs.declared.LogOrder.{LogOrder}
 use Rattle.log_order.specs.LogOrder.{placesOf, OrderRight, Placed}
+use Rattle.log.specs.declared.next.Next.{Next}
 use Rattle.log.specs.declared.next.Next.the-variants.{At, Nothing}
-use Rattle.log.specs.Next.{Picks, NextRight}
+use Rattle.log.specs.Next.{deltaOf, Picks, NextRight}
 use Rattle.log.specs.Ordered.{Ordered, Grows, Growing}
 
 module _ (S : State) (right : RightSet S) where
   -- nothing is placed
   grows-none : (places : List ℕ) → places ≡ [] → Grows S (replicate marksSize 0) 0 places
-  unfolding logOf
-  grows-none places e = subst (Grows S (replicate marksSize 0) 0) (sym e) (record {
-    count = refl;
-    within = λ i k. absurd (List·Memᴰ·not-nil k);
-    placing = placing-none S right;
-    rest = ap (λ (n : ℕ). logFrom S n []) {x = length (S .deltas)} {y = length (S .deltas) - 0} (omega arith);
-  })
+  grows-none places e =
+      subst (Grows S (replicate marksSize 0) 0) (sym e) (record { count = refl; within = λ i k. absurd (List·Memᴰ·not-nil k); placing = placing-none S right; greedy = tt })
 
   module _ (placed : List ℕ) (k : ℕ) (places : List ℕ) (g : Grows S placed k places) where
     abbrev before : List Message
     before = deltasAt (S .deltas) places
 
-    -- what follows is what the pick says
-    rest-is : (n : ℕ) (r : _) → Picks S (placedBy before) r
-        → logFrom S (suc n) (placedBy before) ≡ L.place sequenceOf (logFrom S n) (placedBy before) (Rattle.log.specs.Next.deltaOf (S .deltas) r)
-    rest-is n r x = ap (L.place sequenceOf (logFrom S n) (placedBy before)) (sym (x .lowest))
+    -- what the pick says of the delta that comes next, or that none does
+    picked : (r : Next) → Picks S (placedBy before) r → Next? sequenceOf (needs S) (keyOf S) less less-total (S .deltas) (placedBy before) (deltaOf (S .deltas) r)
+    picked r x = subst (Next? sequenceOf (needs S) (keyOf S) less less-total (S .deltas) (placedBy before)) (sym (x .lowest)) (next-is sequenceOf (needs S) (keyOf S) less less-total (S .deltas) (placedBy before))
 
     -- the next one is placed
-    grows-more : k < length (S .deltas) → (i : ℕ) → Picks S (placedBy before) (At i) → Grows S (set placed i 1) (k + 1) (places ++ i ∷ [])
-    grows-more room i x = record {
+    grows-more : (i : ℕ) → Picks S (placedBy before) (At i) → Grows S (set placed i 1) (k + 1) (places ++ i ∷ [])
+    grows-more i x = record {
       count = length-append places (i ∷ []) ∙ ap (λ (n : ℕ). n + 1) (g .count);
-      within = λ j m. ⊎-elim (λ q. g .within j q) (λ q. subst (λ (n : ℕ). n < length (S .deltas)) (sym (List·Memᴰ·eq-of-singleton q)) inside) (List·Memᴰ·append-cases places m);
-      placing = subst (Placing S (set placed i 1)) (sym more) (placing-more S right i inside placed 1 (λ e. let z : ⊥ = omega arith in z) before is-ready (g .placing));
-      rest = g .rest ∙ ap (λ (l : List Message). before ++ l) step ∙ sym (append-snoc before m (logFrom S left (sequenceOf m ∷ placedBy before)))
-          ∙ ap₂ (λ (l : List Message) (d : List ℕ). l ++ logFrom S left d) (sym more) (sym (after-snoc sequenceOf before [] m) ∙ ap placedBy (sym more));
+      within = λ j m. ⊎-elim (λ q. g .within j q) (λ q. subst (λ (n : ℕ). n < length (S .deltas)) (sym (List·Memᴰ·eq-of-singleton q)) (x .within)) (List·Memᴰ·append-cases places m);
+      placing = subst (Placing S (set placed i 1)) (sym more) (placing-more S right i (x .within) placed 1 (λ e. let z : ⊥ = omega arith in z) before (picked (At i) x .is-ready) (g .placing));
+      greedy = subst (Greedy sequenceOf (needs S) (keyOf S) less less-total (S .deltas) []) (sym more)
+          (greedy-snoc sequenceOf (needs S) (keyOf S) less less-total (S .deltas) before [] (getD (S .deltas) i []) (g .greedy) (picked (At i) x));
     }
       where
-        m : Message
-        m = getD (S .deltas) i []
-
-        left : ℕ
-        left = length (S .deltas) - (k + 1)
-
-        inside : i < length (S .deltas)
-        inside = x .within
-
         more : deltasAt (S .deltas) (places ++ i ∷ []) ≡ deltasAt (S .deltas) places ++ getD (S .deltas) i [] ∷ []
         more = map-append (λ j. getD (S .deltas) j []) places (i ∷ [])
 
-        is-ready : T (ready S (placedBy (deltasAt (S .deltas) places)) (getD (S .deltas) i []))
-        is-ready = subst (Next? sequenceOf (needs S) (keyOf S) less less-total (S .deltas) (placedBy before)) (sym (x .lowest))
-            (next-is sequenceOf (needs S) (keyOf S) less less-total (S .deltas) (placedBy before)) .is-ready
-
-        one : length (S .deltas) - k ≡ suc (length (S .deltas) - (k + 1))
-        one = omega arith
-
-        step : logFrom S (length (S .deltas) - k) (placedBy (deltasAt (S .deltas) places)) ≡ m ∷ logFrom S left (sequenceOf m ∷ placedBy before)
-        step = ap (λ (n : ℕ). logFrom S n (placedBy before)) one ∙ rest-is left (At i) x
-
     -- none comes next
     grows-stuck : Picks S (placedBy before) Nothing → before ≡ logOf S
-    grows-stuck x = sym (g .rest ∙ ap (λ (l : List Message). before ++ l) (ends (length (S .deltas) - k)) ∙ append-nil before)
-      where
-        ends : (n : ℕ) → logFrom S n (placedBy (deltasAt (S .deltas) places)) ≡ []
-        ends zero = refl
-        ends (suc n) = rest-is n Nothing x
+    unfolding logOf
+    grows-stuck x = sym (greedy-first sequenceOf (needs S) (keyOf S) less less-total (S .deltas) (keys-differ S (right .ascends)) before (g .greedy) (picked Nothing x))
 
     -- all are placed
     grows-full : length (S .deltas) ≤ k → before ≡ logOf S
+    unfolding logOf
     grows-full h =
-        let none : length (S .deltas) - k ≡ 0 = omega arith in
-        sym (g .rest ∙ ap (λ (n : ℕ). before ++ logFrom S n (placedBy before)) none ∙ append-nil before)
+        let none : length (S .deltas) - length before ≡ 0 = omega (arith, g .count, length-map places (λ (i : ℕ). getD (S .deltas) i [])) in
+        sym (greedy-begins sequenceOf (needs S) (keyOf S) less less-total (S .deltas) (keys-differ S (right .ascends)) before (g .greedy)
+        ∙ ap (λ (n : ℕ). before ++ logFrom S n (placedBy before)) none ∙ append-nil before)
 
   -- ---- what holds where the loop of `order` tests: at first, after a turn, and what follows from it at the end
   module _ (begun : LogOrder) where
@@ -111,7 +86,7 @@ module _ (S : State) (right : RightSet S) where
         olds = p .olds ∙ g .olds;
         size = p .size ∙ g .size;
         grows = subst (Grows S (set placed i 1) (k + 1)) (sym (p .places))
-            (grows-more placed k (placesOf log) (g .grows) room i (x (deltasAt (S .deltas) (placesOf log)) (g .grows .placing)));
+            (grows-more placed k (placesOf log) (g .grows) i (x (deltasAt (S .deltas) (placesOf log)) (g .grows .placing)));
       }
 
       -- a delta that comes next is of the table

@@ -1,10 +1,13 @@
 -- The log of a set as places in its table, beside the old log; and what holds while it grows.
 use mathlib.Core.Path.{_≡_}
-use mathlib.Core.List.{List, _++_}
-use Prim.Native.Nat.{ℕ, _-_, _≤_, _<_}
+use mathlib.Core.List.{List, []}
+use Prim.Native.Nat.{ℕ, _≤_, _<_}
 use lib.ListN.{length}
 use Rattle.model.specs.Lists.{_∈_}
-use Rattle.model.specs.Order.{State, placedBy, logFrom, logOf}
+use Rattle.model.specs.Message.{sequenceOf}
+use Rattle.model.specs.Order.{State, needs, keyOf, less, logOf}
+use Rattle.order.specs.KeyOrder.{less-total}
+use Rattle.order.specs.Greedy.{Greedy}
 use Rattle.table.specs.Table.{deltasAt}
 use Rattle.ready.specs.Ready.{Placing}
 use Rattle.log_order.specs.declared.LogOrder.{LogOrder}
@@ -18,12 +21,12 @@ pub record Ordered (S : State) (begun r : LogOrder) : Type 0 where
   pub olds : oldOf r ≡ oldOf begun
   pub size : r .«old_count» ≡ begun .«old_count»
 
--- The first k deltas are placed: the log is those and what is to follow them.
+-- The first k deltas are placed, each as the next one.
 pub record Grows (S : State) (placed : List ℕ) (k : ℕ) (places : List ℕ) : Type 0 where
   pub count : length places ≡ k
   pub within : (i : ℕ) → i ∈ places → i < length (S .deltas)
   pub placing : Placing S placed (deltasAt (S .deltas) places)
-  pub rest : logOf S ≡ deltasAt (S .deltas) places ++ logFrom S (length (S .deltas) - k) (placedBy (deltasAt (S .deltas) places))
+  pub greedy : Greedy sequenceOf (needs S) (keyOf S) less less-total (S .deltas) [] (deltasAt (S .deltas) places)
 
 -- What holds where the loop of `order` tests.
 pub record Growing (S : State) (begun : LogOrder) (placed : List ℕ) (log : LogOrder) (k : ℕ) : Type 0 where
