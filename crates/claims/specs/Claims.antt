@@ -115,7 +115,7 @@ equal-images given other b c p q calls others run run′ same = host-agreement .
 -- ---- COMPOSE, as the host sees it: `bivamolune_compose` answered 0. Number, dependencies, group, block, and what was handed over; length and rest; delivery.
 module _ (b line commands : List ℕ) (flag priority : ℕ) (buffer : List ℕ) (a : Composed) (call : HostComposed b line commands flag priority buffer a) (answered : a .code ≡ 0) where
   pub composed-carries : let m = messageBy a in let S = stateIn b in let log = logOf S in
-      (lineOf (sequenceOf m) ≡ number line) × (numberOf (sequenceOf m) ≡ newNumber log (number line))
+      (lineOf (sequenceOf m) ≡ number line) × (numberOf (sequenceOf m) ≡ newNumber S (number line))
       × ((d : ℕ) → (d ∈ dependenciesOf m) ↔ (NeededByNone S d × ¬ (d ∈ predecessorOf (sequenceOf m)))) × T (ascending (dependenciesOf m))
       × (log ≡ [] → groupOf m ≡ 1) × (¬ (log ≡ []) → sequenceOf m < lastSequence log → groupOf m ≡ suc (greatest groupOf log))
       × (¬ (log ≡ []) → ¬ (sequenceOf m < lastSequence log) → groupOf m ≡ greatest groupOf log)

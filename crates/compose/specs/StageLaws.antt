@@ -10,7 +10,7 @@ use lib.Dec.{T, eqb, ltb, leb, eqb→eq, leb→le}
 use borrow.Author.Tests.{le-ltb, lt-ltb, leb-false}
 use Rattle.model.specs.Layout.{commandSize, numbersOfLine, mostDependencies, mostCommands, capacity}
 use Rattle.model.specs.Message.{Message, lineOf}
-use Rattle.model.specs.Order.{State, logOf}
+use Rattle.model.specs.Order.{State}
 use Rattle.model.specs.Compose.{messageOf, newSequence, newGroup, newBlock, newDependencies, composed}
 use Rattle.model.specs.Codes.{commandsSized, heldOn, pastLimit, manyDependencies}
 use Rattle.model.specs.Calls.{Composed, written, composeAnswer}
@@ -103,7 +103,7 @@ module _ (S : State) (line flag priority : ℕ) (commands buffer : List ℕ) whe
   past-case h e = sym (late-by h e refl)
 
   module _ (d : Draft) (is : IsDraft S line flag priority d) (given : T (eqb flag 1 || eqb priority 0)) where
-    names-are : namesOf S d ≡ newDependencies S (newSequence (logOf S) line)
+    names-are : namesOf S d ≡ newDependencies S (newSequence S line)
     names-are = ap (newDependencies S) (is .sequence)
 
     pub drafted-message : draftedMessage S d commands ≡ composed S line commands (eqb flag 1) priority
@@ -112,7 +112,7 @@ module _ (S : State) (line flag priority : ℕ) (commands buffer : List ℕ) whe
         ap (λ (p : Priority). messageWith (headerWith d (length (namesOf S d)) (length commands / commandSize)) p (namesOf S d) commands) (is .priority-is)
         ∙ message-with S d (length (namesOf S d)) (length commands / commandSize) (namesOf S d) commands (eqb flag 1) priority given
         ∙ ap₂ (λ (s g : ℕ). messageOf (eqb flag 1) s g (newBlock S (eqb flag 1)) priority (namesOf S d) commands) (is .sequence) (is .group)
-        ∙ ap (λ (names : List ℕ). messageOf (eqb flag 1) (newSequence (logOf S) line) (newGroup (logOf S) (newSequence (logOf S) line)) (newBlock S (eqb flag 1)) priority names commands) names-are
+        ∙ ap (λ (names : List ℕ). messageOf (eqb flag 1) (newSequence S line) (newGroup S (newSequence S line)) (newBlock S (eqb flag 1)) priority names commands) names-are
 
     pub draft-case : heldOn S line ≡ false → draftAnswer S d commands buffer ≡ lateAnswer S line commands flag priority buffer
     unfolding draftAnswer draftedAnswer

@@ -13,7 +13,7 @@ use Rattle.model.specs.Layout.{numbersOfLine}
 use Rattle.model.specs.Message.{Message, sequenceOf, lineOf, numberOf, predecessorOf, numbered, numbersRight, dependenciesOf}
 use Rattle.model.specs.Order.{State, Ascending, sequencesOf, needs, logOf, heldOf}
 use Rattle.model.specs.Image.{Valid}
-use Rattle.model.specs.Compose.{newNumber, newSequence, unneeded, newDependencies}
+use Rattle.model.specs.Compose.{numberOn, newNumber, newSequence, unneeded, newDependencies}
 use Rattle.model.specs.Codes.{heldOn}
 use Rattle.order.specs.TestLaws.{and-l, and-r, and-i, decide, has→∈, ∈→has, keep-∈, ∈-keep, ∈-every, ∈-some, greatest-≥}
 use Rattle.laws.specs.LogLaws.{Logged, log-received, log-held}
@@ -60,15 +60,15 @@ predecessor-∈ s p k = go (ltb 1 (numberOf s)) (ltb→lt 1 (numberOf s)) k
     go true f j = (f tt, List·Memᴰ·eq-of-singleton j)
     go false f j = absurd (List·Memᴰ·not-nil j)
 
-module _ (S : State) (valid : Valid S) (line : ℕ) (free : T (not (heldOn S line))) (small : newNumber (logOf S) line < numbersOfLine) where
+module _ (S : State) (valid : Valid S) (line : ℕ) (free : T (not (heldOn S line))) (small : newNumber S line < numbersOfLine) where
   abbrev own : ℕ
-  own = newSequence (logOf S) line
+  own = newSequence S line
 
   pub own-line : lineOf own ≡ line
-  own-line = let h : newNumber (logOf S) line < 65536 = small in omega arith
+  own-line = let h : newNumber S line < 65536 = small in omega arith
 
-  pub own-number : numberOf own ≡ newNumber (logOf S) line
-  own-number = let h : newNumber (logOf S) line < 65536 = small in omega arith
+  pub own-number : numberOf own ≡ newNumber S line
+  own-number = let h : newNumber S line < 65536 = small in omega arith
 
   pub own-numbered : T (numbered own)
   own-numbered = not-T (eqb (numberOf own) 0) (λ t. let e : numberOf own ≡ 0 = eqb→eq (numberOf own) 0 t in
@@ -87,7 +87,7 @@ module _ (S : State) (valid : Valid S) (line : ℕ) (free : T (not (heldOn S lin
 
       logged : a ∈ logOf S → ⊥
       logged j =
-          let f : Message → ℕ = λ m. cond (eqb (lineOf (sequenceOf m)) line) (numberOf (sequenceOf m)) 0 in
+          let f : Message → ℕ = λ m. numberOn line (sequenceOf m) in
           let h : f a ≤ greatest f (logOf S) = greatest-≥ f (logOf S) a j in
           let c : f a ≡ numberOf (sequenceOf a) = counted (eqb (lineOf (sequenceOf a)) line) on-line in
           let d : numberOf own ≡ numberOf (sequenceOf a) = ap numberOf e in
@@ -100,13 +100,13 @@ module _ (S : State) (valid : Valid S) (line : ℕ) (free : T (not (heldOn S lin
   -- its predecessor is logged
   pub predecessor-logged : (p : ℕ) → p ∈ predecessorOf own → Logged S p
   predecessor-logged p k =
-      let f : Message → ℕ = λ m. cond (eqb (lineOf (sequenceOf m)) line) (numberOf (sequenceOf m)) 0 in
+      let f : Message → ℕ = λ m. numberOn line (sequenceOf m) in
       let h : (1 < numberOf own) × (p ≡ own - 1) = predecessor-∈ own p k in
       let r = greatest-reached f (logOf S) (omega (arith, own-number)) in
       (r .0, r .1, same (r .0) (eqb (lineOf (sequenceOf (r .0))) line) (eqb→eq (lineOf (sequenceOf (r .0))) line) (r .2) (omega (arith, own-number)) ∙ sym (h .1))
     where
-      same : (a : Message) (b : Bool) → (T b → lineOf (sequenceOf a) ≡ line) → cond b (numberOf (sequenceOf a)) 0 ≡ greatest (λ m. cond (eqb (lineOf (sequenceOf m)) line) (numberOf (sequenceOf m)) 0) (logOf S)
-          → 1 ≤ greatest (λ m. cond (eqb (lineOf (sequenceOf m)) line) (numberOf (sequenceOf m)) 0) (logOf S) → sequenceOf a ≡ own - 1
+      same : (a : Message) (b : Bool) → (T b → lineOf (sequenceOf a) ≡ line) → cond b (numberOf (sequenceOf a)) 0 ≡ greatest (λ m. numberOn line (sequenceOf m)) (logOf S)
+          → 1 ≤ greatest (λ m. numberOn line (sequenceOf m)) (logOf S) → sequenceOf a ≡ own - 1
       same a true f e g = let l : sequenceOf a / 65536 ≡ line = f tt in omega arith
       same a false f e g = absurd (let z : ⊥ = omega arith in z)
 

@@ -69,10 +69,10 @@ pub record Granted (b line commands : List ℕ) (flag priority room : ℕ) : Typ
   pub sized : T (commandsSized commands)
   pub content : T (composeContent commands flag priority)
   pub free : T (not (heldOn (stateIn b) (number line)))
-  pub number-small : newNumber (logOf (stateIn b)) (number line) < numbersOfLine
-  pub group-small : newGroup (logOf (stateIn b)) (newSequence (logOf (stateIn b)) (number line)) ≤ fieldLimit
+  pub number-small : newNumber (stateIn b) (number line) < numbersOfLine
+  pub group-small : newGroup (stateIn b) (newSequence (stateIn b) (number line)) ≤ fieldLimit
   pub block-small : newBlock (stateIn b) (eqb flag 1) ≤ fieldLimit
-  pub few : length (newDependencies (stateIn b) (newSequence (logOf (stateIn b)) (number line))) ≤ mostDependencies
+  pub few : length (newDependencies (stateIn b) (newSequence (stateIn b) (number line))) ≤ mostDependencies
 
 none-applies : (a b c d e f g : Bool) → _≡_ {A = ℕ} (cond a 1 (cond b 2 (cond c 3 (cond d 6 (cond e 9 (cond f 10 (cond g 11 0))))))) 0
     → T (not a) × T (not b) × T (not c) × T (not d) × T (not e) × T (not f) × T (not g)
@@ -93,14 +93,13 @@ granted : (b line commands : List ℕ) (flag priority room : ℕ) → composeCod
 unfolding composeCode
 granted b line commands flag priority room q =
     let S = stateIn b in
-    let log = logOf S in
-    let s = newSequence log (number line) in
+    let s = newSequence S (number line) in
     let h = none-applies (not (eqb (length b) imageSize) || ltb room messageRoom || not (isBytes line && eqb (length line) lineSize)) (not (isImage b)) (not (commandsSized commands)) (not (composeContent commands flag priority))
     (heldOn S (number line)) (pastLimit S (number line) (eqb flag 1)) (manyDependencies S (number line)) q in
     let l : T (isBytes line && eqb (length line) lineSize) =
     not-not (isBytes line && eqb (length line) lineSize) (nor-r (not (eqb (length b) imageSize) || ltb room messageRoom) (not (isBytes line && eqb (length line) lineSize)) (h .0)) in
-    let n : T (not (leb numbersOfLine (newNumber log (number line)) || ltb fieldLimit (newGroup log s))) =
-    nor-l (leb numbersOfLine (newNumber log (number line)) || ltb fieldLimit (newGroup log s)) (ltb fieldLimit (newBlock S (eqb flag 1))) (h .5) in
+    let n : T (not (leb numbersOfLine (newNumber S (number line)) || ltb fieldLimit (newGroup S s))) =
+    nor-l (leb numbersOfLine (newNumber S (number line)) || ltb fieldLimit (newGroup S s)) (ltb fieldLimit (newBlock S (eqb flag 1))) (h .5) in
     record {
       line-bytes = and-l (isBytes line) (eqb (length line) lineSize) l;
       line-length = eqb→eq (length line) lineSize (and-r (isBytes line) (eqb (length line) lineSize) l);
@@ -108,9 +107,9 @@ granted b line commands flag priority room q =
       sized = not-not (commandsSized commands) (h .2);
       content = not-not (composeContent commands flag priority) (h .3);
       free = h .4;
-      number-small = nleb→lt numbersOfLine (newNumber log (number line)) (nor-l (leb numbersOfLine (newNumber log (number line))) (ltb fieldLimit (newGroup log s)) n);
-      group-small = nltb→le fieldLimit (newGroup log s) (nor-r (leb numbersOfLine (newNumber log (number line))) (ltb fieldLimit (newGroup log s)) n);
-      block-small = nltb→le fieldLimit (newBlock S (eqb flag 1)) (nor-r (leb numbersOfLine (newNumber log (number line)) || ltb fieldLimit (newGroup log s)) (ltb fieldLimit (newBlock S (eqb flag 1))) (h .5));
+      number-small = nleb→lt numbersOfLine (newNumber S (number line)) (nor-l (leb numbersOfLine (newNumber S (number line))) (ltb fieldLimit (newGroup S s)) n);
+      group-small = nltb→le fieldLimit (newGroup S s) (nor-r (leb numbersOfLine (newNumber S (number line))) (ltb fieldLimit (newGroup S s)) n);
+      block-small = nltb→le fieldLimit (newBlock S (eqb flag 1)) (nor-r (leb numbersOfLine (newNumber S (number line)) || ltb fieldLimit (newGroup S s)) (ltb fieldLimit (newBlock S (eqb flag 1))) (h .5));
       few = nltb→le mostDependencies (length (newDependencies S s)) (h .6);
     }
 
@@ -119,7 +118,7 @@ module _ (b line commands : List ℕ) (flag priority room : ℕ) (g : Granted b 
   S = stateIn b
 
   abbrev own : ℕ
-  own = newSequence (logOf S) (number line)
+  own = newSequence S (number line)
 
   abbrev message : Message
   message = composed S (number line) commands (eqb flag 1) priority
@@ -132,11 +131,11 @@ module _ (b line commands : List ℕ) (flag priority room : ℕ) (g : Granted b 
       let t : T (composeContent commands flag priority) = g .content in
       let h : T (leb priority fieldLimit) = search (and-l, and-r) depth 6 in leb→le priority fieldLimit h
 
-  parts-right : Parts (eqb flag 1) own (newGroup (logOf S) own) (newBlock S (eqb flag 1)) priority (newDependencies S own) commands
+  parts-right : Parts (eqb flag 1) own (newGroup S own) (newBlock S (eqb flag 1)) priority (newDependencies S own) commands
   parts-right = record {
     sequence-fits =
         let h : number line < 256 ^ 10 = subst (λ (n : ℕ). number line < 256 ^ n) (g .line-length) (number-range line (g .line-bytes)) in
-        let k : newNumber (logOf S) (number line) < 65536 = g .number-small in
+        let k : newNumber S (number line) < 65536 = g .number-small in
         omega arith;
     group-fits = g .group-small;
     block-fits = g .block-small;
@@ -161,15 +160,15 @@ module _ (b line commands : List ℕ) (flag priority room : ℕ) (g : Granted b 
   unfolding composed
   composed-passes =
       let t : T (composeContent commands flag priority) = g .content in
-      made-passes (eqb flag 1) own (newGroup (logOf S) own) (newBlock S (eqb flag 1)) priority (newDependencies S own) commands parts-right
+      made-passes (eqb flag 1) own (newGroup S own) (newBlock S (eqb flag 1)) priority (newDependencies S own) commands parts-right
       (own-numbered S valid (number line) (g .free) (g .number-small)) (dependencies-numbered S valid (number line) (g .free) (g .number-small))
       (dependencies-ascend S valid (number line) (g .free) (g .number-small)) (dependencies-other S valid (number line) (g .free) (g .number-small))
       (dependencies-not-predecessor S valid (number line) (g .free) (g .number-small)) block-right
       (and-r (leb flag 1 && leb priority fieldLimit && (eqb flag 1 || eqb priority 0)) (every commandRight (parts (length commands / commandSize) commandSize commands)) t)
 
-  pub composed-parts : HasParts (eqb flag 1) own (newGroup (logOf S) own) (newBlock S (eqb flag 1)) priority (newDependencies S own) commands message
+  pub composed-parts : HasParts (eqb flag 1) own (newGroup S own) (newBlock S (eqb flag 1)) priority (newDependencies S own) commands message
   unfolding composed
-  composed-parts = made-parts (eqb flag 1) own (newGroup (logOf S) own) (newBlock S (eqb flag 1)) priority (newDependencies S own) commands parts-right
+  composed-parts = made-parts (eqb flag 1) own (newGroup S own) (newBlock S (eqb flag 1)) priority (newDependencies S own) commands parts-right
 
   composed-needs : needs S message ≡ predecessorOf own ++ newDependencies S own
   unfolding needs

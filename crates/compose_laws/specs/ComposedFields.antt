@@ -14,7 +14,7 @@ use Rattle.model.specs.Message.{Message, dependencyCount, commandsStart, sequen
 use Rattle.model.specs.Listing as L
 use Rattle.model.specs.Order.{State, sequencesOf, needs, effectiveBlock, logOf}
 use Rattle.model.specs.Image.{Valid, stateIn}
-use Rattle.model.specs.Compose.{newNumber, newSequence, unneeded, newDependencies, lastSequence, newGroup, newBlock, composed}
+use Rattle.model.specs.Compose.{newNumber, newSequence, unneeded, newDependencies, lastSequence, groupAfter, newGroup, newBlock, composed}
 use Rattle.model.specs.Codes.{composeContent}
 use Rattle.model.specs.Calls.{compose}
 use Rattle.order.specs.TestLaws.{and-l, and-r, and-i, decide, not-eqb, has→∈, ∈→has, some-∈, ∈-some}
@@ -32,7 +32,7 @@ pub record NeededByNone (S : State) (d : ℕ) : Type 0 where
 pub record Carries (S : State) (line commands : List ℕ) (flag priority : ℕ) (m : Message) : Type 0 where
   -- "Number is one more than the line's greatest in the log, or 0001."
   pub on-line : lineOf (sequenceOf m) ≡ number line
-  pub next-number : numberOf (sequenceOf m) ≡ newNumber (logOf S) (number line)
+  pub next-number : numberOf (sequenceOf m) ≡ newNumber S (number line)
   -- "Dependencies are the log deltas that no other log delta needs, less the predecessor", and they ascend.
   pub dependencies : (d : ℕ) → (d ∈ dependenciesOf m) ↔ (NeededByNone S d × ¬ (d ∈ predecessorOf (sequenceOf m)))
   pub dependencies-ascend : T (ascending (dependenciesOf m))
@@ -57,11 +57,11 @@ other : {A : Type 0} (b : Bool) (x y : A) → ¬ T b → cond b x y ≡ y
 other true x y h = absurd (h tt)
 other false x y h = refl
 
-last-above : (log : List Message) (s : ℕ) → ¬ (log ≡ []) → s < lastSequence log → newGroup log s ≡ suc (greatest groupOf log)
+last-above : (log : List Message) (s : ℕ) → ¬ (log ≡ []) → s < lastSequence log → groupAfter log s ≡ suc (greatest groupOf log)
 last-above [] s h k = absurd (h refl)
 last-above (m ∷ l) s h k = chosen (ltb s (lastSequence (m ∷ l))) _ _ (lt→ltb s (lastSequence (m ∷ l)) k)
 
-last-not-above : (log : List Message) (s : ℕ) → ¬ (log ≡ []) → ¬ (s < lastSequence log) → newGroup log s ≡ greatest groupOf log
+last-not-above : (log : List Message) (s : ℕ) → ¬ (log ≡ []) → ¬ (s < lastSequence log) → groupAfter log s ≡ greatest groupOf log
 last-not-above [] s h k = absurd (h refl)
 last-not-above (m ∷ l) s h k = other (ltb s (lastSequence (m ∷ l))) _ _ (λ t. k (ltb→lt s (lastSequence (m ∷ l)) t))
 
@@ -78,7 +78,7 @@ module _ (b line commands : List ℕ) (flag priority room : ℕ) (g : Granted b 
   S = stateIn b
 
   abbrev own : ℕ
-  own = newSequence (logOf S) (number line)
+  own = newSequence S (number line)
 
   abbrev message : Message
   message = composed S (number line) commands (eqb flag 1) priority
@@ -122,7 +122,7 @@ module _ (b line commands : List ℕ) (flag priority room : ℕ) (g : Granted b 
     dependencies = λ d. subst (λ (l : List ℕ). (d ∈ l) ↔ (NeededByNone S d × ¬ (d ∈ predecessorOf (sequenceOf message)))) (sym (made .dependencies))
         (subst (λ (s : ℕ). (d ∈ newDependencies S own) ↔ (NeededByNone S d × ¬ (d ∈ predecessorOf s))) (sym (made .sequence)) (dependencies-are d));
     dependencies-ascend = subst (λ (l : List ℕ). T (ascending l)) (sym (made .dependencies)) (dependencies-ascend S right (number line) (g .free) (g .number-small));
-    group-first = λ e. made .group-is ∙ ap (λ (l : List Message). newGroup l own) e;
+    group-first = λ e. made .group-is ∙ ap (λ (l : List Message). groupAfter l own) e;
     group-raised = λ n h. made .group-is ∙ last-above (logOf S) own n (subst (λ (s : ℕ). s < lastSequence (logOf S)) (made .sequence) h);
     group-kept = λ n h. made .group-is ∙ last-not-above (logOf S) own n (λ k. h (subst (λ (s : ℕ). s < lastSequence (logOf S)) (sym (made .sequence)) k));
     block = λ e. made .block-is ∙ ap (λ (n : ℕ). newBlock S (eqb n 1)) e;
@@ -132,7 +132,7 @@ module _ (b line commands : List ℕ) (flag priority room : ℕ) (g : Granted b 
     commands-carried = made .commands-behind;
   }
     where
-      made : HasParts (eqb flag 1) own (newGroup (logOf S) own) (newBlock S (eqb flag 1)) priority (newDependencies S own) commands message
+      made : HasParts (eqb flag 1) own (newGroup S own) (newBlock S (eqb flag 1)) priority (newDependencies S own) commands message
       made = composed-parts b line commands flag priority room g
 
       flag-small : flag ≤ 1

@@ -3,7 +3,7 @@ use mathlib.Core.Path.{_≡_}
 use mathlib.Core.Bool.{Bool, true, false, cond}
 use Prim.Native.Nat.{ℕ}
 use lib.Dec.{eqb}
-use Rattle.model.specs.Order.{State, logOf}
+use Rattle.model.specs.Order.{State}
 use Rattle.model.specs.Compose.{newSequence, newGroup, newBlock}
 use Rattle.model.specs.Codes.{pastLimit}
 use Rattle.sequence.specs.Sequence.{sequenceNumber}
@@ -19,8 +19,8 @@ priorityBy flag block priority = cond flag (Given block priority) Absent
 
 pub record IsDraft (S : State) (line flag priority : ℕ) (d : Draft) : Type 0 where
   pub within : pastLimit S line (eqb flag 1) ≡ false
-  pub sequence : sequenceNumber (d .sequence) ≡ newSequence (logOf S) line
-  pub group : d .group ≡ newGroup (logOf S) (newSequence (logOf S) line)
+  pub sequence : sequenceNumber (d .sequence) ≡ newSequence S line
+  pub group : d .group ≡ newGroup S (newSequence S line)
   pub priority-is : d .priority ≡ priorityBy (eqb flag 1) (newBlock S (eqb flag 1)) priority
 
 abbrev pub Drafts : State → ℕ → ℕ → ℕ → Drafting → Type 0

@@ -7,7 +7,7 @@ use lib.Dec.{ltb, leb}
 use borrow.Author.Tests.{le-leb, lt-leb, lt-ltb, le-ltb}
 use Rattle.model.specs.Layout.{numbersOfLine, fieldLimit}
 use Rattle.model.specs.Message.{lineOf, numberOf}
-use Rattle.model.specs.Order.{State, logOf}
+use Rattle.model.specs.Order.{State}
 use Rattle.model.specs.Compose.{newNumber, newSequence, newGroup, newBlock}
 use Rattle.model.specs.Codes.{pastLimit}
 use Rattle.sequence.specs.declared.Sequence.{Sequence}
@@ -19,23 +19,23 @@ pub numbered : (line : Sequence) (n : ℕ) → numberOf (sequenceNumber line) �
 numbered line n e = omega arith
 
 module _ (S : State) (line : ℕ) (flag : Bool) where
-  by-tests : {a b c : Bool} → leb numbersOfLine (newNumber (logOf S) line) ≡ a → ltb fieldLimit (newGroup (logOf S) (newSequence (logOf S) line)) ≡ b → ltb fieldLimit (newBlock S flag) ≡ c
+  by-tests : {a b c : Bool} → leb numbersOfLine (newNumber S line) ≡ a → ltb fieldLimit (newGroup S (newSequence S line)) ≡ b → ltb fieldLimit (newBlock S flag) ≡ c
       → pastLimit S line flag ≡ a || b || c
   by-tests {a} {b} {c} p q r =
       ap₂ (λ (x y : Bool). x || y || ltb fieldLimit (newBlock S flag)) p q ∙ ap (λ (x : Bool). a || b || x) r
 
-  pub past-number : (n : ℕ) → n ≡ newNumber (logOf S) line → numbersOfLine ≤ n → pastLimit S line flag ≡ true
+  pub past-number : (n : ℕ) → n ≡ newNumber S line → numbersOfLine ≤ n → pastLimit S line flag ≡ true
   past-number n e h = by-tests (ap (leb numbersOfLine) (sym e) ∙ le-leb numbersOfLine n h) refl refl
 
-  module _ (n : ℕ) (is-number : n ≡ newNumber (logOf S) line) (small : n < numbersOfLine) where
-    number-fits : leb numbersOfLine (newNumber (logOf S) line) ≡ false
+  module _ (n : ℕ) (is-number : n ≡ newNumber S line) (small : n < numbersOfLine) where
+    number-fits : leb numbersOfLine (newNumber S line) ≡ false
     number-fits = ap (leb numbersOfLine) (sym is-number) ∙ lt-leb numbersOfLine n small
 
-    pub past-group : (g : ℕ) → g ≡ newGroup (logOf S) (newSequence (logOf S) line) → fieldLimit < g → pastLimit S line flag ≡ true
+    pub past-group : (g : ℕ) → g ≡ newGroup S (newSequence S line) → fieldLimit < g → pastLimit S line flag ≡ true
     past-group g e h = by-tests number-fits (ap (ltb fieldLimit) (sym e) ∙ lt-ltb fieldLimit g h) refl
 
-    module _ (g : ℕ) (is-group : g ≡ newGroup (logOf S) (newSequence (logOf S) line)) (group-fits : g ≤ fieldLimit) (b : ℕ) (is-block : b ≡ newBlock S flag) where
-      within-group : ltb fieldLimit (newGroup (logOf S) (newSequence (logOf S) line)) ≡ false
+    module _ (g : ℕ) (is-group : g ≡ newGroup S (newSequence S line)) (group-fits : g ≤ fieldLimit) (b : ℕ) (is-block : b ≡ newBlock S flag) where
+      within-group : ltb fieldLimit (newGroup S (newSequence S line)) ≡ false
       within-group = ap (ltb fieldLimit) (sym is-group) ∙ le-ltb fieldLimit g group-fits
 
       pub past-block : fieldLimit < b → pastLimit S line flag ≡ true

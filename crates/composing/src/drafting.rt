@@ -1,8 +1,8 @@
 // A new delta's sequence, group and block, where none passes its limit.
-use crate::block::new_block;
 use layout::FIELD_LIMIT;
 use layout::NUMBERS_OF_LINE;
 use message::header::Priority;
+use numbering::block::new_block;
 use numbering::group::new_group;
 use numbering::number::new_number;
 use sequence::Sequence;

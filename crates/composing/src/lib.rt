@@ -1,3 +1,2 @@
-// What a new delta has from the log: its block, and a draft with its number and group.
-pub mod block;
+// A draft of a new delta: its sequence, group and block, within their limits.
 pub mod drafting;

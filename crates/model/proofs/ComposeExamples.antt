@@ -5,7 +5,7 @@ use mathlib.Core.List.{List, [], _∷_, map}
 use Prim.Native.Nat.{ℕ}
 use Rattle.model.specs.Message.{Message}
 use Rattle.model.specs.Order.{needs, logOf}
-use Rattle.model.specs.Compose.{messageOf, newNumber, newDependencies, newGroup, newBlock, composed}
+use Rattle.model.specs.Compose.{messageOf, numberAfter, newDependencies, groupAfter, newBlock, composed}
 use Rattle.model.proofs.ExampleMessages.{A, B, C, plain, urgent, rightCommands, a1, a2, b1, c2, b1-5, a1-group-2, a1-naming-b1, b1-naming-a1, holding, lineA, lineB, lineC}
 
 -- ---- "Number is one more than the line's greatest in the log, or 0001": a log and a line
@@ -19,7 +19,7 @@ numbers =
     ∷ ((plain (A 0xFFFF) [] rightCommands ∷ [], lineA), 65536)
     ∷ []
 
-numbers-hold : map (λ e. newNumber (e .0 .0) (e .0 .1)) numbers ≡ map (λ e. e .1) numbers
+numbers-hold : map (λ e. numberAfter (e .0 .0) (e .0 .1)) numbers ≡ map (λ e. e .1) numbers
 unfolding numbers
 numbers-hold = refl
 
@@ -38,7 +38,7 @@ groups =
     ∷ ((c2 ∷ a1 ∷ [], B 1), 1)
     ∷ []
 
-groups-hold : map (λ e. newGroup (e .0 .0) (e .0 .1)) groups ≡ map (λ e. e .1) groups
+groups-hold : map (λ e. groupAfter (e .0 .0) (e .0 .1)) groups ≡ map (λ e. e .1) groups
 unfolding groups
 groups-hold = refl
 

@@ -8,7 +8,7 @@ use Rattle.model.specs.Lists.{has, every, some?, same}
 use Rattle.model.specs.Bytes.{isBytes, number, parts}
 use Rattle.model.specs.Layout.{imageSize, stepRoom, messageRoom, lineSize, capacity, tagCount, commandSize, mostCommands, fieldLimit, numbersOfLine, mostDependencies, sequencesRoom, textRoom}
 use Rattle.model.specs.Message.{Message, layoutRight, numbersRight, dependenciesRight, contentRight, commandRight, sequenceOf, lineOf}
-use Rattle.model.specs.Order.{State, sequencesOf, find, logOf, heldOf}
+use Rattle.model.specs.Order.{State, sequencesOf, find, heldOf}
 use Rattle.model.specs.Image.{isImage, stateIn, logCount}
 use Rattle.model.specs.Compose.{newNumber, newSequence, newGroup, newBlock, newDependencies}
 use Rattle.model.specs.Text.{textRight, sequencesRight, sequenceBytesIn, allNumbered}
@@ -64,12 +64,11 @@ heldOn S line = some? (λ m. eqb (lineOf (sequenceOf m)) line) (heldOf S)
 -- 10: "number, group or block would pass its limit"
 abbrev pub pastLimit : State → ℕ → Bool → Bool
 pastLimit S line flag =
-    let log = logOf S in
-    leb numbersOfLine (newNumber log line) || ltb fieldLimit (newGroup log (newSequence log line)) || ltb fieldLimit (newBlock S flag)
+    leb numbersOfLine (newNumber S line) || ltb fieldLimit (newGroup S (newSequence S line)) || ltb fieldLimit (newBlock S flag)
 
 -- 11: "over eight dependencies"
 abbrev pub manyDependencies : State → ℕ → Bool
-manyDependencies S line = ltb mostDependencies (length (newDependencies S (newSequence (logOf S) line)))
+manyDependencies S line = ltb mostDependencies (length (newDependencies S (newSequence S line)))
 
 abbrev pub composeConditions : List ℕ → List ℕ → List ℕ → ℕ → ℕ → ℕ → Conditions
 composeConditions b line commands flag priority room =

@@ -19,12 +19,19 @@ messageOf flag s group block priority dependencies commands =
     ++ bytes sequenceSize s ++ bytes 4 group ++ bytes 4 block ++ bytes 4 priority ++ bytes 4 0
     ++ join (map (bytes sequenceSize) dependencies) ++ commands
 
--- "Number is one more than the line's greatest in the log, or 0001."
-abbrev pub newNumber : List Message → ℕ → ℕ
-newNumber log line = suc (greatest (λ m. cond (eqb (lineOf (sequenceOf m)) line) (numberOf (sequenceOf m)) 0) log)
+-- The number of a sequence that is on a line; 0 of any other.
+abbrev pub numberOn : ℕ → ℕ → ℕ
+numberOn line s = cond (eqb (lineOf s) line) (numberOf s) 0
 
-abbrev pub newSequence : List Message → ℕ → ℕ
-newSequence log line = line * numbersOfLine + newNumber log line
+-- "Number is one more than the line's greatest in the log, or 0001."
+abbrev pub numberAfter : List Message → ℕ → ℕ
+numberAfter log line = suc (greatest (λ m. numberOn line (sequenceOf m)) log)
+
+abbrev pub newNumber : State → ℕ → ℕ
+newNumber S line = numberAfter (logOf S) line
+
+abbrev pub newSequence : State → ℕ → ℕ
+newSequence S line = line * numbersOfLine + newNumber S line
 
 -- "Dependencies are the log deltas that no other log delta needs, less the predecessor": by ascending sequence.
 abbrev pub unneeded : State → ℕ → Bool
@@ -38,17 +45,26 @@ lastSequence [] = 0
 lastSequence (m ∷ []) = sequenceOf m
 lastSequence (m ∷ x ∷ l) = lastSequence (x ∷ l)
 
+abbrev pub highestGroup : List Message → ℕ
+highestGroup log = greatest groupOf log
+
 -- "Group is 1 on an empty log; the highest in the log plus one if the last delta's sequence is above the new one; else the highest."
-abbrev pub newGroup : List Message → ℕ → ℕ
-newGroup [] s = 1
-newGroup (m ∷ l) s = let highest = greatest groupOf (m ∷ l) in cond (ltb s (lastSequence (m ∷ l))) (suc highest) highest
+abbrev pub groupAfter : List Message → ℕ → ℕ
+groupAfter [] s = 1
+groupAfter (m ∷ l) s = let highest = highestGroup (m ∷ l) in cond (ltb s (lastSequence (m ∷ l))) (suc highest) highest
+
+abbrev pub newGroup : State → ℕ → ℕ
+newGroup S s = groupAfter (logOf S) s
+
+abbrev pub highestBlock : State → List Message → ℕ
+highestBlock S log = greatest (effectiveBlock S) log
 
 -- "With priority, block is the highest effective block plus one (1 on an empty log)."
 abbrev pub newBlock : State → Bool → ℕ
-newBlock S flag = cond flag (suc (greatest (effectiveBlock S) (logOf S))) 0
+newBlock S flag = cond flag (suc (highestBlock S (logOf S))) 0
 
 -- "the message carries the commands, the flag and the priority as handed over"
 unfoldable pub composed : State → ℕ → List ℕ → Bool → ℕ → Message
 composed S line commands flag priority =
-    let s = newSequence (logOf S) line in
-    messageOf flag s (newGroup (logOf S) s) (newBlock S flag) priority (newDependencies S s) commands
+    let s = newSequence S line in
+    messageOf flag s (newGroup S s) (newBlock S flag) priority (newDependencies S s) commands

@@ -8,11 +8,10 @@ ghost use mathlib.Core.Path.{_≡_};
 ghost use Prim.Native.Nat.{_≤_};
 ghost use Rattle.model.specs.Layout.{numbersOfLine};
 ghost use Rattle.model.specs.Message.{lineOf};
-ghost use Rattle.model.specs.Compose.{newNumber};
+ghost use Rattle.model.specs.Compose.{numberOn, newNumber};
 ghost use Rattle.sequence.specs.Sequence.{sequenceNumber};
-ghost use Rattle.table.specs.Table.{deltasOf, deltasAt};
-ghost use Rattle.image_sections.specs.LogPlaces.{TablePlaces};
-ghost use Rattle.numbering.specs.Numbers.{numberOn};
+ghost use Rattle.table.specs.Table.{setIn};
+ghost use Rattle.image_sections.specs.LogPlaces.{LogPlaces};
 
 // The number of a sequence that is on a line; 0 of any other.
 fn number_on(s: Sequence, line: Sequence) -> u32
@@ -24,10 +23,10 @@ fn number_on(s: Sequence, line: Sequence) -> u32
     0
 }
 
-// One more than the greatest number of a line at the given places.
+// One more than the greatest number of a line in a log, whose places are given.
 pub fn new_number(pool: &[u8], starts: &[u16], places: &[u8], line: Sequence) -> u32
-    requires { ⌜ TablePlaces (now pool) (now starts) (now places) ⌝ }
-    ensures { λ r. ⌜ (r ≡ newNumber (deltasAt (deltasOf (now (pool .entry)) (now (starts .entry))) (now (places .entry))) (lineOf (sequenceNumber line))) × (r ≤ numbersOfLine) ⌝ }
+    requires { ⌜ LogPlaces (now pool) (now starts) (now places) ⌝ }
+    ensures { λ r. ⌜ (r ≡ newNumber (setIn (now (pool .entry)) (now (starts .entry))) (lineOf (sequenceNumber line))) × (r ≤ numbersOfLine) ⌝ }
 {
     let mut greatest = 0;
     let mut k = 0;

@@ -1,17 +1,15 @@
 -- Number, group and block in turn: the first that passes its limit decides.
-use mathlib.Core.Path.{_≡_, _∙_, ap, ap₂}
+use mathlib.Core.Path.{_≡_, _∙_, ap}
 use mathlib.Core.Bool.{Bool}
-use mathlib.Core.List.{List}
 use Prim.Native.Nat.{ℕ, _+_, _*_}
 use native.Mathlib.Omega.{arith}
 use lib.Dec.{eqb}
 use Rattle.model.specs.Layout.{numbersOfLine}
-use Rattle.model.specs.Message.{Message, lineOf}
-use Rattle.model.specs.Order.{State, logOf}
+use Rattle.model.specs.Message.{lineOf}
+use Rattle.model.specs.Order.{State}
 use Rattle.model.specs.Compose.{newNumber, newSequence, newGroup}
 use Rattle.sequence.specs.Sequence.{sequenceNumber}
 use Rattle.table.specs.Table.{setIn}
-use Rattle.image_sections.specs.LogPlaceLaws.{log-inside}
 use Rattle.composing.specs.Drafting.{priorityBy}
 use Rattle.composing.specs.DraftingLaws.{numbered, past-number, past-group, past-block, past-none}
 use borrow.Author.Needs.{needs}
@@ -38,18 +36,18 @@ abbrev flag : tie.Start → Bool
 flag s = eqb (s .args .flag) 1
 
 -- the number, the sequence and the group are the log's
-number-is : (c : tie.After-new-number) → c .new-number .result ≡ newNumber (logOf (set (began c))) (line (began c))
-number-is c = let s = began c in c .new-number .ensures .0 ∙ ap (λ (l : List Message). newNumber l (line s)) (s .pre .0 .log)
+number-is : (c : tie.After-new-number) → c .new-number .result ≡ newNumber (set (began c)) (line (began c))
+number-is c = c .new-number .ensures .0
 
 own-is : (c : tie.After-new-number) → let s = began c in
-    sequenceNumber (record { high = s .args .line .high; low = s .args .line .low + c .new-number .result }) ≡ newSequence (logOf (set s)) (line s)
+    sequenceNumber (record { high = s .args .line .high; low = s .args .line .low + c .new-number .result }) ≡ newSequence (set s) (line s)
 own-is c = let s = began c in numbered (s .args .line) (c .new-number .result) (s .pre .1) ∙ ap (λ (n : ℕ). line s * numbersOfLine + n) (number-is c)
 
-group-is : (c : tie.After-new-group) → let s = began (counted c) in c .new-group .result ≡ newGroup (logOf (set s)) (newSequence (logOf (set s)) (line s))
-group-is c = let s = began (counted c) in c .new-group .ensures ∙ ap₂ newGroup (s .pre .0 .log) (own-is (counted c))
+group-is : (c : tie.After-new-group) → let s = began (counted c) in c .new-group .result ≡ newGroup (set s) (newSequence (set s) (line s))
+group-is c = let s = began (counted c) in c .new-group .ensures ∙ ap (newGroup (set s)) (own-is (counted c))
 
 new-number-requires : tie.Need-new-number-requires
-new-number-requires c κs = let s = c .before .before .before in log-inside (s .args .pool .now) (s .args .starts .now) (s .args .places .now) (s .pre .0)
+new-number-requires c κs = c .before .before .before .pre .0
 
 returns : tie.Need-returns
 returns c = let n = c .before in let s = began n in past-number (set s) (line s) (flag s) (n .new-number .result) (number-is n) (c .if1 .taken)
@@ -58,7 +56,7 @@ add-t13 : tie.Need-add-t13
 add-t13 c = search needs
 
 new-group-requires : tie.Need-new-group-requires
-new-group-requires c κs = let s = began (c .before .before) in log-inside (s .args .pool .now) (s .args .starts .now) (s .args .places .now) (s .pre .0)
+new-group-requires c κs = began (c .before .before) .pre .0
 
 returns-2 : tie.Need-returns-2
 returns-2 c =

@@ -1,31 +1,32 @@
 -- The greatest so far and those that are left make up the line's greatest.
 use mathlib.Core.Path.{_≡_, _∙_, ap}
-use mathlib.Core.List.{List}
+use mathlib.Core.List.{List, []}
 use Prim.Native.Nat.{ℕ, suc, _-_, _≤_, _<_, max}
 use native.Mathlib.Omega.{arith}
-use lib.ListN.{length, drop}
-use borrow.Author.Needs.{needs}
 use native.Mathlib.Numerals.{add-one}
+use lib.ListN.{length, drop, getD}
+use borrow.Author.Needs.{needs}
 use Rattle.model.specs.Lists.{greatest}
 use Rattle.model.specs.Layout.{numbersOfLine}
 use Rattle.model.specs.Message.{Message, sequenceOf, lineOf}
+use Rattle.model.specs.Compose.{numberOn, numberAfter}
 use Rattle.sequence.specs.Sequence.{sequenceNumber}
-use Rattle.table.specs.Table.{deltasOf, deltasAt}
-use Rattle.image_sections.specs.LogPlaceLaws.{place-inside}
-use Rattle.numbering.specs.Numbers.{numberOn}
-use Rattle.numbering.specs.NumberLaws.{greatest-next, greatest-last, number-small}
+use Rattle.table.specs.Table.{deltasOf}
+use Rattle.table.specs.Places.{sequenceIn}
+use Rattle.image_sections.specs.LogPlaceLaws.{log-inside, place-inside}
+use Rattle.highest.specs.GreatestLaws.{greatest-next, greatest-last, greatest-map}
+use Rattle.numbering.specs.NumberLaws.{number-small}
 use Rattle.numbering.proofs.number.new_number.Statement.{statement}
 use Rattle.numbering.proofs.number.new_number.Tie as tie
 
--- the greatest number of a line
-abbrev highest : ℕ → List Message → ℕ
-highest line = greatest (λ m. numberOn line (sequenceOf m))
+-- the number on a line at a place
+abbrev on : List ℕ → List ℕ → ℕ → ℕ → ℕ
+on pool starts line i = numberOn line (sequenceIn pool starts i)
 
 abbrev Inv-loop : tie.InvT-loop
 Inv-loop pool starts places line greatest₀ k₀ so k =
-    (k ≤ length places)
-    × (highest (lineOf (sequenceNumber line)) (deltasAt (deltasOf pool starts) places) ≡ max so (highest (lineOf (sequenceNumber line)) (deltasAt (deltasOf pool starts) (drop k places))))
-    × (so < numbersOfLine)
+    let f : ℕ → ℕ = on pool starts (lineOf (sequenceNumber line)) in
+    (k ≤ length places) × (greatest f places ≡ max so (greatest f (drop k places))) × (so < numbersOfLine)
 
 abbrev μ-loop : tie.MeasureT-loop
 μ-loop pool starts places line greatest₀ k₀ so k = length places - k
@@ -52,7 +53,8 @@ cast-sequence-at c = omega (arith, c .shared-slice-known4 .given (turn c .loop .
 sequence-at-requires : tie.Need-sequence-at-requires Inv-loop μ-loop
 sequence-at-requires c κs =
     let s = start (turn c) in
-    (s .pre .holds, place-inside (s .args .pool .now) (s .args .starts .now) (s .args .places .now) (s .pre) (turn c .loop .k) (omega arith))
+    let a = s .args in
+    (s .pre .holds, place-inside (a .pool .now) (a .starts .now) (a .places .now) (log-inside (a .pool .now) (a .starts .now) (a .places .now) (s .pre)) (turn c .loop .k) (omega arith))
 
 number-on-requires : tie.Need-number-on-requires Inv-loop μ-loop
 number-on-requires c κs = search needs
@@ -75,7 +77,7 @@ loop-again c =
     let a = s .args in
     let new = c .greater .ensures ∙ ap (max (l .greatest)) (c .before .number-on .ensures ∙ ap (numberOn (line s)) (read .sequence-at .ensures)) in (
       omega arith,
-      greatest-next (deltasOf (a .pool .now) (a .starts .now)) (a .places .now) (l .k) (λ m. numberOn (line s) (sequenceOf m)) _ (c .greater .result) (l .greatest) (omega arith) (l .inv .1) new,
+      greatest-next (on (a .pool .now) (a .starts .now) (line s)) (a .places .now) (l .k) (l .greatest) (l .inv .1) 0 (omega arith) new,
       omega (arith, c .greater .ensures, c .before .number-on .ensures, number-small (line s) (sequenceNumber (read .sequence-at .result)), l .inv .2),
     )
 
@@ -87,8 +89,12 @@ returns c =
     let h = c .before in
     let l = h .loop in
     let s = start h in
-    let a = s .args in (
-      add-one (l .greatest) ∙ ap suc (greatest-last (deltasOf (a .pool .now) (a .starts .now)) (a .places .now) (l .k) (λ m. numberOn (line s) (sequenceOf m)) _ (l .greatest) (omega arith) (l .inv .1)),
+    let a = s .args in
+    let f : Message → ℕ = λ m. numberOn (line s) (sequenceOf m) in (
+      add-one (l .greatest)
+          ∙ ap suc (greatest-last (on (a .pool .now) (a .starts .now) (line s)) (a .places .now) (l .k) (l .greatest) (l .inv .1) (omega arith)
+          ∙ greatest-map f (λ (i : ℕ). getD (deltasOf (a .pool .now) (a .starts .now)) i []) (a .places .now))
+          ∙ ap (λ (log : List Message). numberAfter log (line s)) (s .pre .log),
       omega (arith, l .inv .2),
     )
 

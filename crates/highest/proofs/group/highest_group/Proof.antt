@@ -1,27 +1,30 @@
 -- The highest so far and those that are left make up the highest.
 use mathlib.Core.Path.{_≡_, _∙_, ap}
-use mathlib.Core.List.{[]}
-use Prim.Native.Nat.{_-_, _≤_, max}
+use mathlib.Core.List.{List, []}
+use Prim.Native.Nat.{ℕ, _-_, _≤_, max}
 use native.Mathlib.Omega.{arith}
-use lib.ListN.{length, drop}
+use lib.ListN.{length, drop, getD}
 use borrow.Author.Needs.{needs}
-use lib.ListN.{getD}
 use Rattle.model.specs.Lists.{greatest}
 use Rattle.model.specs.Layout.{fieldLimit}
 use Rattle.model.specs.Message.{Message, groupOf}
-use Rattle.table.specs.Table.{deltasOf, deltasAt}
+use Rattle.table.specs.Table.{deltasOf}
 use Rattle.table.specs.PlaceLaws.{entry-long}
 use Rattle.image_sections.specs.LogPlaceLaws.{place-inside, place-passes}
-use Rattle.numbering.specs.NumberLaws.{greatest-next, greatest-last}
-use Rattle.numbering.specs.GroupLaws.{group-small}
-use Rattle.numbering.proofs.group.highest_group.Statement.{statement}
-use Rattle.numbering.proofs.group.highest_group.Tie as tie
+use Rattle.highest.specs.GreatestLaws.{greatest-next, greatest-last, greatest-map}
+use Rattle.highest.specs.BlockLaws.{group-small}
+use Rattle.highest.proofs.group.highest_group.Statement.{statement}
+use Rattle.highest.proofs.group.highest_group.Tie as tie
+
+abbrev message : List ℕ → List ℕ → ℕ → Message
+message pool starts i = getD (deltasOf pool starts) i []
+
+abbrev group : List ℕ → List ℕ → ℕ → ℕ
+group pool starts i = groupOf (message pool starts i)
 
 abbrev Inv-loop : tie.InvT-loop
 Inv-loop pool starts places highest₀ k₀ highest k =
-    (k ≤ length places)
-    × (greatest groupOf (deltasAt (deltasOf pool starts) places) ≡ max highest (greatest groupOf (deltasAt (deltasOf pool starts) (drop k places))))
-    × (highest ≤ fieldLimit)
+    (k ≤ length places) × (greatest (group pool starts) places ≡ max highest (greatest (group pool starts) (drop k places))) × (highest ≤ fieldLimit)
 
 abbrev μ-loop : tie.MeasureT-loop
 μ-loop pool starts places highest₀ k₀ highest k = length places - k
@@ -74,19 +77,21 @@ loop-again c =
     let l = h .loop in
     let s = start h in
     let a = s .args in
-    let m : Message = getD (deltasOf (a .pool .now) (a .starts .now)) (getD (a .places .now) (l .k) 0) [] in
-    let group : c .before .get-u32 .result ≡ groupOf m = c .before .get-u32 .ensures ∙ ap groupOf (read .message-at .ensures) in (
+    let m : Message = message (a .pool .now) (a .starts .now) (getD (a .places .now) (l .k) 0) in
+    let here : c .before .get-u32 .result ≡ groupOf m = c .before .get-u32 .ensures ∙ ap groupOf (read .message-at .ensures) in (
       omega arith,
-      greatest-next (deltasOf (a .pool .now) (a .starts .now)) (a .places .now) (l .k) groupOf _ (c .greater .result) (l .highest) (omega arith) (l .inv .1) (c .greater .ensures ∙ ap (max (l .highest)) group),
-      omega (arith, c .greater .ensures, group, group-small m (place-passes (a .pool .now) (a .starts .now) (a .places .now) (s .pre) (l .k) (omega arith)), l .inv .2),
+      greatest-next (group (a .pool .now) (a .starts .now)) (a .places .now) (l .k) (l .highest) (l .inv .1) 0 (omega arith) (c .greater .ensures ∙ ap (max (l .highest)) here),
+      omega (arith, c .greater .ensures, here, group-small m (place-passes (a .pool .now) (a .starts .now) (a .places .now) (s .pre) (l .k) (omega arith)), l .inv .2),
     )
 
 returns : tie.Need-returns Inv-loop μ-loop
 returns c =
     let h = c .before in
     let l = h .loop in
-    let a = start h .args in
-    (greatest-last (deltasOf (a .pool .now) (a .starts .now)) (a .places .now) (l .k) groupOf _ (l .highest) (omega arith) (l .inv .1), l .inv .2)
+    let a = start h .args in (
+      greatest-last (group (a .pool .now) (a .starts .now)) (a .places .now) (l .k) (l .highest) (l .inv .1) (omega arith) ∙ greatest-map groupOf (message (a .pool .now) (a .starts .now)) (a .places .now),
+      l .inv .2,
+    )
 
 pub highest-group-spec : {M : Type 1} → statement M
 highest-group-spec =

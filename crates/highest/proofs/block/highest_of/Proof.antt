@@ -1,14 +1,14 @@
 -- The highest so far and those that are left make up the highest.
-use mathlib.Core.Path.{_≡_, sym, _∙_, ap}
-use Prim.Native.Nat.{ℕ, _+_, _-_, _≤_, _<_, max}
+use mathlib.Core.Path.{_≡_}
+use Prim.Native.Nat.{ℕ, _-_, _≤_, _<_, max}
 use native.Mathlib.Omega.{arith}
 use lib.ListN.{length, getD, drop}
 use borrow.Author.Needs.{needs}
 use Rattle.model.specs.Lists.{greatest}
-use Rattle.order.specs.ScanLaws.{greatest-step, greatest-end}
 use Rattle.table.specs.PlaceLaws.{below-at}
-use Rattle.composing.proofs.block.highest_block.Statement.{statement}
-use Rattle.composing.proofs.block.highest_block.Tie as tie
+use Rattle.highest.specs.GreatestLaws.{greatest-next, greatest-last}
+use Rattle.highest.proofs.block.highest_of.Statement.{statement}
+use Rattle.highest.proofs.block.highest_of.Tie as tie
 
 abbrev Inv-loop : tie.InvT-loop
 Inv-loop blocks places highest₀ k₀ highest k =
@@ -52,29 +52,21 @@ add-k c = omega arith
 loop-less : tie.Need-loop-less Inv-loop μ-loop
 loop-less c = omega arith
 
-regroup : (a b c : ℕ) → max a (max b c) ≡ max (max a b) c
-regroup a b c = omega arith
-
 loop-again : tie.Need-loop-again Inv-loop μ-loop
 loop-again c =
     let h = turn (c .before .before) in
     let l = h .loop in
     let a = start h .args in
-    let f : ℕ → ℕ = λ i. getD (a .blocks .now) i 0 in
-    let rest = greatest f (drop (l .k + 1) (a .places .now)) in (
-      omega arith,
-      l .inv .1 ∙ ap (max (l .highest)) (greatest-step f (a .places .now) (l .k) 0 (omega arith)) ∙ regroup (l .highest) (f (getD (a .places .now) (l .k) 0)) rest
-          ∙ ap (λ (x : ℕ). max x rest) (sym (c .greater .ensures)),
-    )
+    (omega arith, greatest-next (λ (i : ℕ). getD (a .blocks .now) i 0) (a .places .now) (l .k) (l .highest) (l .inv .1) 0 (omega arith) (c .greater .ensures))
 
 returns : tie.Need-returns Inv-loop μ-loop
 returns c =
     let h = c .before in
     let a = start h .args in
-    sym (h .loop .inv .1 ∙ ap (max (h .loop .highest)) (greatest-end (λ i. getD (a .blocks .now) i 0) (a .places .now) (h .loop .k) (omega arith)) ∙ omega arith)
+    greatest-last (λ (i : ℕ). getD (a .blocks .now) i 0) (a .places .now) (h .loop .k) (h .loop .highest) (h .loop .inv .1) (omega arith)
 
-pub highest-block-spec : {M : Type 1} → statement M
-highest-block-spec =
+pub highest-of-spec : {M : Type 1} → statement M
+highest-of-spec =
     tie.close
     (tie.spec
     Inv-loop
