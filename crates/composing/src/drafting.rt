@@ -36,7 +36,7 @@ fn priority_of(flag: u32, block: u32, priority: u32) -> Priority
     Priority::Given { block, priority }
 }
 
-// Code 10: number, group and block within their limits. `places` are the log's.
+// Code 10: number, block and group within their limits. `places` are the log's.
 pub fn draft_delta(
     pool: &[u8],
     starts: &[u16],
@@ -52,16 +52,16 @@ pub fn draft_delta(
     if NUMBERS_OF_LINE <= number {
         return Drafting::PastLimit;
     }
+    let block = new_block(pool, starts, places, flag);
+    if FIELD_LIMIT < block {
+        return Drafting::PastLimit;
+    }
     let sequence = Sequence {
         high: line.high,
         low: line.low + number,
     };
     let group = new_group(pool, starts, places, sequence);
     if FIELD_LIMIT < group {
-        return Drafting::PastLimit;
-    }
-    let block = new_block(pool, starts, places, flag);
-    if FIELD_LIMIT < block {
         return Drafting::PastLimit;
     }
     let given = priority_of(flag, block, priority);

@@ -1,5 +1,5 @@
--- Number, group and block in turn: the first that passes its limit decides.
-use mathlib.Core.Path.{_≡_, _∙_, ap}
+-- Number, block and group in turn: the first that passes its limit decides.
+use mathlib.Core.Path.{_≡_, refl, _∙_, ap}
 use mathlib.Core.Bool.{Bool}
 use Prim.Native.Nat.{ℕ, _+_, _*_}
 use native.Mathlib.Omega.{arith}
@@ -7,24 +7,24 @@ use lib.Dec.{eqb}
 use Rattle.model.specs.Layout.{numbersOfLine}
 use Rattle.model.specs.Message.{lineOf}
 use Rattle.model.specs.Order.{State}
-use Rattle.model.specs.Compose.{newNumber, newSequence, newGroup}
+use Rattle.model.specs.Compose.{newSequence, newGroup}
 use Rattle.sequence.specs.Sequence.{sequenceNumber}
 use Rattle.table.specs.Table.{setIn}
 use Rattle.composing.specs.Drafting.{priorityBy}
-use Rattle.composing.specs.DraftingLaws.{numbered, past-number, past-group, past-block, past-none}
+use Rattle.composing.specs.DraftingLaws.{numbered, past-number, past-block, past-group, past-none}
 use borrow.Author.Needs.{needs}
 use Rattle.composing.proofs.drafting.draft_delta.Statement.{statement}
 use Rattle.composing.proofs.drafting.draft_delta.Tie as tie
 
--- where the call began, from where the number is known; and that from where the group and the block are
+-- where the call began, from where the number is known; and that from where the block and the group are
 abbrev began : tie.After-new-number → tie.Start
 began c = c .before .before .before .before
 
-abbrev counted : tie.After-new-group → tie.After-new-number
-counted c = c .before .before .before
+abbrev counted : tie.After-new-block → tie.After-new-number
+counted c = c .before .before
 
-abbrev grouped : tie.After-new-block → tie.After-new-group
-grouped c = c .before .before
+abbrev blocked : tie.After-new-group → tie.After-new-block
+blocked c = c .before .before .before
 
 abbrev set : tie.Start → State
 set s = setIn (s .args .pool .now) (s .args .starts .now)
@@ -35,58 +35,55 @@ line s = lineOf (sequenceNumber (s .args .line))
 abbrev flag : tie.Start → Bool
 flag s = eqb (s .args .flag) 1
 
--- the number, the sequence and the group are the log's
-number-is : (c : tie.After-new-number) → c .new-number .result ≡ newNumber (set (began c)) (line (began c))
-number-is c = c .new-number .ensures .0
-
+-- the sequence and the group are the state's
 own-is : (c : tie.After-new-number) → let s = began c in
     sequenceNumber (record { high = s .args .line .high; low = s .args .line .low + c .new-number .result }) ≡ newSequence (set s) (line s)
-own-is c = let s = began c in numbered (s .args .line) (c .new-number .result) (s .pre .1) ∙ ap (λ (n : ℕ). line s * numbersOfLine + n) (number-is c)
+own-is c = let s = began c in numbered (s .args .line) (c .new-number .result) (s .pre .1) ∙ ap (λ (n : ℕ). line s * numbersOfLine + n) (c .new-number .ensures .0)
 
-group-is : (c : tie.After-new-group) → let s = began (counted c) in c .new-group .result ≡ newGroup (set s) (newSequence (set s) (line s))
-group-is c = let s = began (counted c) in c .new-group .ensures ∙ ap (newGroup (set s)) (own-is (counted c))
+group-is : (c : tie.After-new-group) → let s = began (counted (blocked c)) in c .new-group .result ≡ newGroup (set s) (newSequence (set s) (line s))
+group-is c = let n = counted (blocked c) in c .new-group .ensures ∙ ap (newGroup (set (began n))) (own-is n)
 
 new-number-requires : tie.Need-new-number-requires
-new-number-requires c κs = c .before .before .before .pre .0
+new-number-requires c κs = search needs
 
 returns : tie.Need-returns
-returns c = let n = c .before in let s = began n in past-number (set s) (line s) (flag s) (n .new-number .result) (number-is n) (c .if1 .taken)
+returns c = let n = c .before in let s = began n in past-number (set s) (line s) (flag s) (n .new-number .ensures .0) refl refl (c .if1 .taken)
+
+new-block-requires : tie.Need-new-block-requires
+new-block-requires c κs = search needs
+
+returns-2 : tie.Need-returns-2
+returns-2 c =
+    let b = c .before in
+    let n = counted b in
+    let s = began n in
+    past-block (set s) (line s) (flag s) (n .new-number .ensures .0) (b .new-block .ensures) refl (c .if2 .taken)
 
 add-t13 : tie.Need-add-t13
 add-t13 c = search needs
 
 new-group-requires : tie.Need-new-group-requires
-new-group-requires c κs = began (c .before .before) .pre .0
-
-returns-2 : tie.Need-returns-2
-returns-2 c =
-    let g = c .before in
-    let n = counted g in
-    let s = began n in
-    past-group (set s) (line s) (flag s) (n .new-number .result) (number-is n) (omega arith) (g .new-group .result) (group-is g) (c .if2 .taken)
-
-new-block-requires : tie.Need-new-block-requires
-new-block-requires c κs = search needs
+new-group-requires c κs = search needs
 
 returns-3 : tie.Need-returns-3
 returns-3 c =
-    let b = c .before in
-    let g = grouped b in
-    let n = counted g in
+    let g = c .before in
+    let b = blocked g in
+    let n = counted b in
     let s = began n in
-    past-block (set s) (line s) (flag s) (n .new-number .result) (number-is n) (omega arith) (g .new-group .result) (group-is g) (omega arith) (b .new-block .result) (b .new-block .ensures) (c .if3 .taken)
+    past-group (set s) (line s) (flag s) (n .new-number .ensures .0) (b .new-block .ensures) (group-is g) (c .if3 .taken)
 
 priority-of-requires : tie.Need-priority-of-requires
 priority-of-requires c κs = search needs
 
 returns-4 : tie.Need-returns-4
 returns-4 c =
-    let b = c .before .before in
-    let g = grouped b in
-    let n = counted g in
+    let g = c .before .before in
+    let b = blocked g in
+    let n = counted b in
     let s = began n in
     record {
-      within = past-none (set s) (line s) (flag s) (n .new-number .result) (number-is n) (omega arith) (g .new-group .result) (group-is g) (omega arith) (b .new-block .result) (b .new-block .ensures) (omega arith);
+      within = past-none (set s) (line s) (flag s) (n .new-number .ensures .0) (b .new-block .ensures) (group-is g) (omega arith) (omega arith) (omega arith);
       sequence = own-is n;
       group = group-is g;
       priority-is = c .priority-of .ensures ∙ ap (λ (x : ℕ). priorityBy (flag s) x (s .args .priority)) (b .new-block .ensures);
@@ -98,10 +95,10 @@ draft-delta-spec =
     (tie.spec
     new-number-requires
     returns
+    new-block-requires
+    returns-2
     add-t13
     new-group-requires
-    returns-2
-    new-block-requires
     returns-3
     priority-of-requires
     returns-4)
