@@ -12,9 +12,9 @@ use Rattle.model.specs.Compose.{composed}
 use Rattle.model.specs.Codes.{lowestCode, wrongSize, commandsSized, composeContent}
 use Rattle.model.specs.Calls.{Composed, composeAnswer, composeCode, compose}
 use Rattle.order.specs.TestLaws.{is-true}
-use Rattle.compose.specs.Answer.{refusal}
+use Rattle.compose_message.specs.Answer.{refusal}
 use Rattle.compose_checks.specs.Checks.{sizesRight}
-use Rattle.compose.specs.Stages.{lateConditions, lateAnswer}
+use Rattle.compose_message.specs.Stages.{lateConditions, lateAnswer}
 
 module _ (b line commands : List ℕ) (flag priority : ℕ) (buffer : List ℕ) where
   abbrev wrong : Bool

@@ -1,4 +1,1 @@
-pub mod Answer
-pub mod Stages
-pub mod StageLaws
 pub mod ComposeCases

@@ -1,16 +1,9 @@
 // Compose: a station writes a new message.
-pub mod answer;
-pub mod drafted;
-
-use crate::answer::Composition;
-use crate::drafted::write_draft;
 use commands::commands_sized;
 use compose_checks::check_content;
 use compose_checks::check_sizes;
-use composing::drafting::Drafting;
-use composing::drafting::draft_delta;
-use held_line::check_line;
-use held_line::read_line;
+use compose_message::answer::Composition;
+use compose_message::compose_behind;
 use judged::judging::Station;
 use judged::judging::read_station;
 use message::checks::Check;
@@ -18,35 +11,9 @@ ghost use mathlib.Core.Path.{_≡_};
 ghost use Rattle.model.specs.Bytes.{number};
 ghost use Rattle.model.specs.Image.{stateIn};
 ghost use Rattle.model.specs.Calls as model;
-ghost use Rattle.table.specs.Table.{setIn};
-ghost use Rattle.compose.specs.Answer.{composedBy};
-ghost use Rattle.compose.specs.Stages.{lateAnswer, Composable, ComposableAt};
-
-// Composes behind a log, whose places are given: codes 9 to 11, and the message.
-fn compose_behind(
-    pool: &[u8],
-    starts: &[u16],
-    places: &[u8],
-    line: &[u8],
-    commands: &[u8],
-    flag: u32,
-    priority: u32,
-    message: &mut [u8],
-) -> Composition
-    requires { ⌜ Composable (now pool) (now starts) (now places) (now line) (now commands) flag priority (now message) ⌝ }
-    ensures { λ r. ⌜ composedBy r (now (message .exit)) ≡ lateAnswer (setIn (now (pool .entry)) (now (starts .entry))) (number (now (line .entry))) (now (commands .entry)) flag priority (now (message .entry)) ⌝ }
-{
-    let first = read_line(line);
-    let free = check_line(pool, starts, places, first);
-    let Check::Right = free else {
-        return Composition::HeldLine;
-    };
-    let drafting = draft_delta(pool, starts, places, first, flag, priority);
-    let Drafting::Fits(draft) = drafting else {
-        return Composition::PastLimit;
-    };
-    write_draft(pool, starts, places, draft, commands, message)
-}
+ghost use Rattle.judged.specs.Judging.{IsStation};
+ghost use Rattle.compose_message.specs.Answer.{composedBy};
+ghost use Rattle.compose_message.specs.Stages.{Composable, lateAnswer};
 
 // Composes at a judged station.
 fn compose_at(
@@ -58,7 +25,7 @@ fn compose_at(
     priority: u32,
     message: &mut [u8],
 ) -> Composition
-    requires { ⌜ ComposableAt (now image) station (now line) (now commands) flag priority (now message) ⌝ }
+    requires { ⌜ IsStation (now image) station × Composable (now line) (now commands) flag priority (now message) ⌝ }
     ensures { λ r. ⌜ composedBy r (now (message .exit)) ≡ lateAnswer (stateIn (now (image .entry))) (number (now (line .entry))) (now (commands .entry)) flag priority (now (message .entry)) ⌝ }
 {
     let table = station.table;

@@ -14,9 +14,9 @@ use Rattle.model.specs.Compose.{composed}
 use Rattle.model.specs.Calls.{Composed, composeAnswer, composeCode, compose}
 use Rattle.wire_laws.specs.MessageLaws.{passes-sized, sized-range}
 use Rattle.compose_laws.specs.ComposeLaws.{Promised, compose-promise, messageBy}
-use Rattle.compose.specs.declared.answer.Composition.{Composition}
-use Rattle.compose.specs.declared.answer.Composition.the-variants as composition
-use Rattle.compose.specs.Answer.{composedBy}
+use Rattle.compose_message.specs.declared.answer.Composition.{Composition}
+use Rattle.compose_message.specs.declared.answer.Composition.the-variants as composition
+use Rattle.compose_message.specs.Answer.{composedBy}
 use Rattle.packing.specs.Packing.{packedLength, LengthUnpacks}
 use Rattle.packing.specs.PackingLaws.{length-unpacked}
 use Rattle.packing.specs.ComposeAnswers.{Composes, numberBy, Short}

@@ -4,8 +4,8 @@ use mathlib.Core.List.{List}
 use Prim.Native.Nat.{ℕ, _≤_}
 use Rattle.model.specs.Layout.{messageRoom}
 use Rattle.model.specs.Calls.{compose}
-use Rattle.compose.specs.declared.answer.Composition.{Composition}
-use Rattle.compose.specs.declared.answer.Composition.the-variants as composition
+use Rattle.compose_message.specs.declared.answer.Composition.{Composition}
+use Rattle.compose_message.specs.declared.answer.Composition.the-variants as composition
 use Rattle.packing.specs.Packing.{packedLength, LengthUnpacks}
 
 -- code + 256 × length, and the header gives the two back

@@ -1,6 +1,6 @@
 // The answers of compose.
 use crate::LENGTH_UNIT;
-use compose::answer::Composition;
+use compose_message::answer::Composition;
 ghost use mathlib.Core.Path.{_≡_};
 ghost use Rattle.packing.specs.ComposeAnswers.{numberBy, Short};
 

@@ -6,8 +6,8 @@ use denote.Ref.{now, RefT}
 use contract.Lifetimes.{Lfts}
 use Rattle.model.specs.Calls.{Composed, compose}
 use Rattle.compose_laws.specs.ComposePromise.{ComposePromise, promise-of}
-use Rattle.compose.specs.declared.answer.Composition.{Composition}
-use Rattle.compose.specs.Answer.{composedBy}
+use Rattle.compose_message.specs.declared.answer.Composition.{Composition}
+use Rattle.compose_message.specs.Answer.{composedBy}
 use Rattle.compose.proofs.compose.Reads as compose-reads
 use Rattle.runs.specs.Runs.{DeliveredTo, delivered-as}
 

@@ -129,14 +129,15 @@ compose-at-requires c κs =
     let k = g .before .before in
     let e = counted k in
     let t = measured (judged e) in
-    let a = told t .args in
-    record {
-      judged = station-is (e .before);
-      ten = sizes-are t .line-size;
-      sized = true-T (commandsSized (a .commands .now)) (sym (commands-right (k .before)));
-      given = content-given (a .flag) (a .priority) (a .commands .now) (true-T (composeContent (a .commands .now) (a .flag) (a .priority)) (sym (content-right g)));
-      room = sizes-are t .room-size;
-    }
+    let a = told t .args in (
+      station-is (e .before),
+      record {
+        ten = sizes-are t .line-size;
+        sized = true-T (commandsSized (a .commands .now)) (sym (commands-right (k .before)));
+        given = content-given (a .flag) (a .priority) (a .commands .now) (true-T (composeContent (a .commands .now) (a .flag) (a .priority)) (sym (content-right g)));
+        room = sizes-are t .room-size;
+      },
+    )
 
 same-length : tie.Need-same-length
 same-length c = search needs

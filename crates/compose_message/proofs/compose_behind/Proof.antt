@@ -12,11 +12,12 @@ use Rattle.message.specs.declared.checks.Check.{Check}
 use Rattle.message.specs.Check.{right}
 use Rattle.sequence.specs.Sequence.{sequenceNumber}
 use Rattle.table.specs.Table.{setIn}
+use Rattle.composing.specs.declared.drafting.Drafting.{Drafting}
 use Rattle.composing.specs.Drafting.{Drafts}
-use Rattle.compose.specs.StageLaws.{line-back, held-case, past-case, drafts-past, drafts-fits, draft-case}
+use Rattle.compose_message.specs.StageLaws.{line-back, held-case, past-case, draft-case}
 use borrow.Author.Needs.{needs}
-use Rattle.compose.proofs.compose_behind.Statement.{statement}
-use Rattle.compose.proofs.compose_behind.Tie as tie
+use Rattle.compose_message.proofs.compose_behind.Statement.{statement}
+use Rattle.compose_message.proofs.compose_behind.Tie as tie
 
 -- where the call began, from where the line is read; and that from where it is checked and drafted on
 abbrev began : tie.After-read-line → tie.Start
@@ -41,16 +42,16 @@ free : (c : tie.After-enum-told) → let s = began (c .before .before .before) i
 free c = not-true _ (held-is (c .before .before) (c .enum-told .given .1))
 
 -- what was drafted, on the line's number
-drafts : (c : tie.After-draft-delta) → let s = began (read c) in Drafts (set s) (number (s .args .line .now)) (s .args .flag) (s .args .priority) (c .draft-delta .result)
-drafts c =
+drafts : (c : tie.After-draft-delta) {r : Drafting} → c .draft-delta .result ≡ r → let s = began (read c) in Drafts (set s) (number (s .args .line .now)) (s .args .flag) (s .args .priority) r
+drafts c {r} e =
     let s = began (read c) in
-    subst (λ (n : ℕ). Drafts (set s) n (s .args .flag) (s .args .priority) (c .draft-delta .result)) (line-is (read c)) (c .draft-delta .ensures)
+    subst (λ (n : ℕ). Drafts (set s) n (s .args .flag) (s .args .priority) r) (line-is (read c)) (subst (Drafts (set s) (lineOf (sequenceNumber (read c .read-line .result))) (s .args .flag) (s .args .priority)) e (c .draft-delta .ensures))
 
 read-line-requires : tie.Need-read-line-requires
-read-line-requires c κs = c .before .before .before .before .before .before .pre .ten
+read-line-requires c κs = c .before .before .before .before .before .before .pre .1 .ten
 
 check-line-requires : tie.Need-check-line-requires
-check-line-requires c κs = began c .pre .log
+check-line-requires c κs = began c .pre .0
 
 enum-told : tie.Need-enum-told
 enum-told c = c .match .keys1
@@ -66,7 +67,7 @@ returns c =
     held-case (set s) (number (a .line .now)) (a .flag) (a .priority) (a .commands .now) (a .message .now) (not-false _ (held-is k (c .enum-told2 .given .1)))
 
 draft-delta-requires : tie.Need-draft-delta-requires
-draft-delta-requires c κs = let r = c .before .before .before in (began r .pre .log, omega (arith, r .read-line .ensures))
+draft-delta-requires c κs = let r = c .before .before .before in (began r .pre .0, omega (arith, r .read-line .ensures))
 
 enum-known-drafting : tie.Need-enum-known-drafting
 enum-known-drafting c = c .match2 .keys1
@@ -79,11 +80,10 @@ returns-2 c =
     let d = c .before .before in
     let s = began (read d) in
     let a = s .args in
-    let line = number (a .line .now) in
-    past-case (set s) line (a .flag) (a .priority) (a .commands .now) (a .message .now) (free (d .before)) (drafts-past (set s) line (a .flag) (a .priority) (d .draft-delta .result) (drafts d) (c .enum-told3 .given .1))
+    past-case (set s) (number (a .line .now)) (a .flag) (a .priority) (a .commands .now) (a .message .now) (free (d .before)) (drafts d (c .enum-told3 .given .1))
 
 write-draft-requires : tie.Need-write-draft-requires
-write-draft-requires c κs = let s = began (read (c .before .before .before .before)) in record { log = s .pre .log; sized = s .pre .sized; room = s .pre .room }
+write-draft-requires c κs = let s = began (read (c .before .before .before .before)) in record { log = s .pre .0; sized = s .pre .1 .sized; room = s .pre .1 .room }
 
 same-length : tie.Need-same-length
 same-length c = search needs
@@ -95,11 +95,8 @@ returns-3 c =
     let d = known .before .before in
     let s = began (read d) in
     let a = s .args in
-    let line = number (a .line .now) in
-    let new = known .drafting .given .0 .0 in
     w .write-draft .ensures
-    ∙ draft-case (set s) line (a .flag) (a .priority) (a .commands .now) (a .message .now) new
-    (drafts-fits (set s) line (a .flag) (a .priority) (d .draft-delta .result) new (drafts d) (known .drafting .given .1)) (s .pre .given) (free (d .before))
+    ∙ draft-case (set s) (number (a .line .now)) (a .flag) (a .priority) (a .commands .now) (a .message .now) (known .drafting .given .0 .0) (drafts d (known .drafting .given .1)) (s .pre .1 .given) (free (d .before))
 
 pub compose-behind-spec : {M : Type 1} → statement M
 compose-behind-spec =

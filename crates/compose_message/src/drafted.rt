@@ -13,8 +13,8 @@ ghost use lib.Dec.{leb};
 ghost use Rattle.model.specs.Layout.{mostDependencies};
 ghost use Rattle.message.specs.Check.{right};
 ghost use Rattle.table.specs.Table.{setIn};
-ghost use Rattle.compose.specs.Answer.{composedBy};
-ghost use Rattle.compose.specs.Stages.{draftAnswer, draftedAnswer, Draftable, Nameable};
+ghost use Rattle.compose_message.specs.Answer.{composedBy};
+ghost use Rattle.compose_message.specs.Stages.{draftAnswer, draftedAnswer, Draftable, Nameable};
 
 // Code 11: at most eight dependencies.
 fn check_few(count: usize) -> Check

@@ -15,13 +15,11 @@ use Rattle.sequence.specs.Sequence.{sequenceNumber}
 use Rattle.message.specs.declared.header.Header.{Header}
 use Rattle.table.specs.Table.{Holds}
 use Rattle.image_sections.specs.LogPlaces.{LogPlaces}
-use Rattle.judged.specs.declared.judging.Station.{Station}
-use Rattle.judged.specs.Judging.{IsStation}
 use Rattle.writing.specs.Writing.{messageFor}
 use Rattle.composing.specs.declared.drafting.Draft.{Draft}
 use Rattle.unneeded.specs.declared.Dependencies.{Dependencies}
 use Rattle.unneeded.specs.Unneeded.{IsDependencies}
-use Rattle.compose.specs.Answer.{refusal}
+use Rattle.compose_message.specs.Answer.{refusal}
 
 -- ---- codes 9 to 11, and the message
 abbrev pub lateConditions : State → ℕ → ℕ → Conditions
@@ -60,15 +58,8 @@ pub record Nameable (pool starts : List ℕ) (d : Draft) (found : Dependencies) 
   pub found-are : IsDependencies pool starts (sequenceNumber (d .sequence)) found
   pub few : found .count ≤ mostDependencies
 
-pub record Composable (pool starts places line commands : List ℕ) (flag priority : ℕ) (buffer : List ℕ) : Type 0 where
-  pub log : LogPlaces pool starts places
-  pub ten : length line ≡ lineSize
-  pub sized : T (commandsSized commands)
-  pub given : T (eqb flag 1 || eqb priority 0)
-  pub room : messageRoom ≤ length buffer
-
-pub record ComposableAt (b : List ℕ) (station : Station) (line commands : List ℕ) (flag priority : ℕ) (buffer : List ℕ) : Type 0 where
-  pub judged : IsStation b station
+-- what the codes before 9 let through
+pub record Composable (line commands : List ℕ) (flag priority : ℕ) (buffer : List ℕ) : Type 0 where
   pub ten : length line ≡ lineSize
   pub sized : T (commandsSized commands)
   pub given : T (eqb flag 1 || eqb priority 0)

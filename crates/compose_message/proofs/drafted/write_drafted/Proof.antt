@@ -5,10 +5,10 @@ use native.Mathlib.Omega.{arith}
 use lib.ListN.{length}
 use lib.Seq.{length-take-le}
 use Rattle.model.specs.Layout.{capacity, commandSize}
-use Rattle.compose.specs.StageLaws.{sized-eights, drafted-written}
+use Rattle.compose_message.specs.StageLaws.{sized-eights, drafted-written}
 use borrow.Author.Needs.{needs}
-use Rattle.compose.proofs.drafted.write_drafted.Statement.{statement}
-use Rattle.compose.proofs.drafted.write_drafted.Tie as tie
+use Rattle.compose_message.proofs.drafted.write_drafted.Statement.{statement}
+use Rattle.compose_message.proofs.drafted.write_drafted.Tie as tie
 
 -- where the call began, from where the places are taken; and the array's length
 abbrev began : tie.After-places → tie.Start

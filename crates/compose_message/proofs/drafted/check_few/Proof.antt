@@ -1,8 +1,8 @@
 -- The test is the definition's.
 use mathlib.Core.Path.{sym}
 use borrow.Author.Tests.{le-leb, lt-leb}
-use Rattle.compose.proofs.drafted.check_few.Statement.{statement}
-use Rattle.compose.proofs.drafted.check_few.Tie as tie
+use Rattle.compose_message.proofs.drafted.check_few.Statement.{statement}
+use Rattle.compose_message.proofs.drafted.check_few.Tie as tie
 
 returns : tie.Need-returns
 returns c = sym (lt-leb _ _ (c .if1 .taken))

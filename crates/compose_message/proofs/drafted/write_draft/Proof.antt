@@ -2,16 +2,16 @@
 use mathlib.Core.Path.{_≡_, sym, _∙_, ap}
 use Prim.Native.Nat.{_≤_}
 use lib.ListN.{length}
-use borrow.Author.Tests.{leb-true}
+use borrow.Author.Tests.{leb-true, leb-false, lt-ltb, le-ltb}
 use Rattle.model.specs.Layout.{capacity, mostDependencies}
 use Rattle.message.specs.Check.{right}
 use Rattle.sequence.specs.Sequence.{sequenceNumber}
 use Rattle.table.specs.Table.{setIn}
-use Rattle.compose.specs.Stages.{namesOf}
-use Rattle.compose.specs.StageLaws.{found-counted, many-case, few-case}
+use Rattle.compose_message.specs.Stages.{namesOf}
+use Rattle.compose_message.specs.StageLaws.{found-counted, by-count}
 use borrow.Author.Needs.{needs}
-use Rattle.compose.proofs.drafted.write_draft.Statement.{statement}
-use Rattle.compose.proofs.drafted.write_draft.Tie as tie
+use Rattle.compose_message.proofs.drafted.write_draft.Statement.{statement}
+use Rattle.compose_message.proofs.drafted.write_draft.Tie as tie
 
 -- where the call began, from where the dependencies are found
 abbrev began : tie.After-find-dependencies → tie.Start
@@ -45,7 +45,8 @@ returns c =
     let k = c .before .before in
     let f = k .before in
     let a = began f .args in
-    many-case (setIn (a .pool .now) (a .starts .now)) (a .draft) (a .commands .now) (a .message .now) (f .find-dependencies .result .count) (counted f) (sym (ap right (c .enum-told2 .given .1)) ∙ k .check-few .ensures)
+    by-count (setIn (a .pool .now) (a .starts .now)) (a .draft) (a .commands .now) (a .message .now) (f .find-dependencies .result .count) (counted f)
+    (lt-ltb mostDependencies _ (leb-false (f .find-dependencies .result .count) mostDependencies (sym (k .check-few .ensures) ∙ ap right (c .enum-told2 .given .1))))
 
 write-drafted-requires : tie.Need-write-drafted-requires
 write-drafted-requires c κs =
@@ -63,7 +64,7 @@ returns-2 c =
     let t = w .before .before in
     let f = t .before .before .before in
     let a = began f .args in
-    w .write-drafted .ensures ∙ few-case (setIn (a .pool .now) (a .starts .now)) (a .draft) (a .commands .now) (a .message .now) (f .find-dependencies .result .count) (counted f) (few t)
+    w .write-drafted .ensures ∙ by-count (setIn (a .pool .now) (a .starts .now)) (a .draft) (a .commands .now) (a .message .now) (f .find-dependencies .result .count) (counted f) (le-ltb mostDependencies _ (few t))
 
 pub write-draft-spec : {M : Type 1} → statement M
 write-draft-spec =

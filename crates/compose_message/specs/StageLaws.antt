@@ -1,5 +1,5 @@
 -- What the later codes decide; and a draft's message is the composed one.
-use mathlib.Core.Path.{_≡_, refl, sym, _∙_, ap, ap₂, subst}
+use mathlib.Core.Path.{_≡_, refl, sym, _∙_, ap, ap₂}
 use mathlib.Core.Bool.{Bool, true, false, cond, _||_}
 use mathlib.Core.List.{List}
 use Prim.Native.Nat.{ℕ, _*_, _/_, _%_, _≤_}
@@ -7,11 +7,10 @@ use native.Mathlib.Omega.{arith}
 use lib.ListN.{length, length-map}
 use lib.Seq.{length-take-le}
 use lib.Dec.{T, eqb, ltb, leb, eqb→eq, leb→le}
-use borrow.Author.Tests.{le-ltb, lt-ltb, leb-false}
 use Rattle.model.specs.Layout.{commandSize, numbersOfLine, mostDependencies, mostCommands, capacity}
 use Rattle.model.specs.Message.{Message, lineOf}
 use Rattle.model.specs.Order.{State}
-use Rattle.model.specs.Compose.{messageOf, newSequence, newGroup, newBlock, newDependencies, composed}
+use Rattle.model.specs.Compose.{messageOf, newSequence, newBlock, newDependencies, composed}
 use Rattle.model.specs.Codes.{commandsSized, heldOn, pastLimit, manyDependencies}
 use Rattle.model.specs.Calls.{Composed, written, composeAnswer}
 use Rattle.order.specs.TestLaws.{and-l, and-r}
@@ -23,14 +22,12 @@ use Rattle.table.specs.Table.{setIn}
 use Rattle.table.specs.Places.{sequenceIn}
 use Rattle.writing.specs.Writing.{messageWith, messageFor, namesAt, Writes}
 use Rattle.composing.specs.declared.drafting.Draft.{Draft}
-use Rattle.composing.specs.declared.drafting.Drafting.{Drafting}
-use Rattle.composing.specs.declared.drafting.Drafting.the-variants.{Fits, PastLimit}
-use Rattle.composing.specs.Drafting.{priorityBy, IsDraft, Drafts}
+use Rattle.composing.specs.Drafting.{priorityBy, IsDraft}
 use Rattle.unneeded.specs.declared.Dependencies.{Dependencies}
 use Rattle.unneeded.specs.Unneeded.{placesFound, IsDependencies}
-use Rattle.compose.specs.declared.answer.Composition.the-variants as composition
-use Rattle.compose.specs.Answer.{refusal, composedBy}
-use Rattle.compose.specs.Stages.{lateAnswer, headerWith, namesOf, draftedMessage, draftedAnswer, draftAnswer}
+use Rattle.compose_message.specs.declared.answer.Composition.the-variants as composition
+use Rattle.compose_message.specs.Answer.{refusal, composedBy}
+use Rattle.compose_message.specs.Stages.{lateAnswer, headerWith, namesOf, draftedMessage, draftedAnswer, draftAnswer}
 
 -- ---- commands by eights, and no more than eight
 pub record Eights (commands : List ℕ) : Type 0 where
@@ -72,13 +69,9 @@ drafted-written pool starts d found commands buffer after D C size f w =
         ∙ counts-free d D C (length (namesOf S d)) (length commands / commandSize) (namesOf S d) commands
 
 module _ (S : State) (d : Draft) (commands buffer : List ℕ) (count : ℕ) (counted : count ≡ length (namesOf S d)) where
-  pub many-case : false ≡ leb count mostDependencies → refusal 11 buffer ≡ draftAnswer S d commands buffer
+  pub by-count : {many : Bool} → ltb mostDependencies count ≡ many → cond many (refusal 11 buffer) (draftedAnswer S d commands buffer) ≡ draftAnswer S d commands buffer
   unfolding draftAnswer
-  many-case e = sym (ap (λ (b : Bool). cond b (refusal 11 buffer) (draftedAnswer S d commands buffer)) (ap (ltb mostDependencies) (sym counted) ∙ lt-ltb mostDependencies count (leb-false count mostDependencies (sym e))))
-
-  pub few-case : count ≤ mostDependencies → draftedAnswer S d commands buffer ≡ draftAnswer S d commands buffer
-  unfolding draftAnswer
-  few-case h = sym (ap (λ (b : Bool). cond b (refusal 11 buffer) (draftedAnswer S d commands buffer)) (ap (ltb mostDependencies) (sym counted) ∙ le-ltb mostDependencies count h))
+  by-count e = ap (λ (b : Bool). cond b (refusal 11 buffer) (draftedAnswer S d commands buffer)) (sym e ∙ ap (ltb mostDependencies) counted)
 
 -- ---- by priority: without the flag both block and priority are zero
 message-with : (S : State) (d : Draft) (D C : ℕ) (names commands : List ℕ) (flag : Bool) (priority : ℕ) → T (flag || eqb priority 0)
@@ -106,13 +99,12 @@ module _ (S : State) (line flag priority : ℕ) (commands buffer : List ℕ) whe
     names-are : namesOf S d ≡ newDependencies S (newSequence S line)
     names-are = ap (newDependencies S) (is .sequence)
 
-    pub drafted-message : draftedMessage S d commands ≡ composed S line commands (eqb flag 1) priority
+    drafted-message : draftedMessage S d commands ≡ composed S line commands (eqb flag 1) priority
     unfolding composed messageFor
     drafted-message =
         ap (λ (p : Priority). messageWith (headerWith d (length (namesOf S d)) (length commands / commandSize)) p (namesOf S d) commands) (is .priority-is)
         ∙ message-with S d (length (namesOf S d)) (length commands / commandSize) (namesOf S d) commands (eqb flag 1) priority given
-        ∙ ap₂ (λ (s g : ℕ). messageOf (eqb flag 1) s g (newBlock S (eqb flag 1)) priority (namesOf S d) commands) (is .sequence) (is .group)
-        ∙ ap (λ (names : List ℕ). messageOf (eqb flag 1) (newSequence S line) (newGroup S (newSequence S line)) (newBlock S (eqb flag 1)) priority names commands) names-are
+        ∙ ap₂ (λ (s g : ℕ). messageOf (eqb flag 1) s g (newBlock S (eqb flag 1)) priority (newDependencies S s) commands) (is .sequence) (is .group)
 
     pub draft-case : heldOn S line ≡ false → draftAnswer S d commands buffer ≡ lateAnswer S line commands flag priority buffer
     unfolding draftAnswer draftedAnswer
@@ -134,9 +126,3 @@ found-counted pool starts s r e f =
 -- the line's number, of the sequence of its number 0000
 pub line-back : (first : Sequence) (n : ℕ) → sequenceNumber first ≡ n * numbersOfLine → lineOf (sequenceNumber first) ≡ n
 line-back first n e = omega arith
-
-pub drafts-past : (S : State) (line flag priority : ℕ) (r : Drafting) → Drafts S line flag priority r → r ≡ PastLimit → pastLimit S line (eqb flag 1) ≡ true
-drafts-past S line flag priority r d e = subst (Drafts S line flag priority) e d
-
-pub drafts-fits : (S : State) (line flag priority : ℕ) (r : Drafting) (d : Draft) → Drafts S line flag priority r → r ≡ Fits d → IsDraft S line flag priority d
-drafts-fits S line flag priority r d h e = subst (Drafts S line flag priority) e h
