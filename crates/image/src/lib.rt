@@ -6,7 +6,7 @@ use image_sections::held::held_places;
 use image_sections::messages::put_messages;
 use image_sections::running::run_log;
 use layout::SETPOINTS_START;
-use setpoints::values::put_values;
+use setpoints_values::put_values;
 use table::start::messages_start;
 ghost use mathlib.Core.Path.{_≡_};
 ghost use lib.ListN.{length};

@@ -13,7 +13,7 @@ use Rattle.model.specs.Order.{State, logOf, heldOf}
 use Rattle.model.specs.Setpoints.{setpointsOf}
 use Rattle.model.specs.Image.{messagesStart, messagesOf, valuesOf, headerOf, usedOf, imageOf, Valid}
 use Rattle.laws.specs.ImageLaws.{frontOf, front-is, length-header, length-values, messages-start, used-front, used-length, messages-room}
-use Rattle.setpoints.specs.Words.{wordsOf}
+use Rattle.setpoints_values.specs.Words.{wordsOf}
 use Rattle.table.specs.Table.{deltasOf, deltasAt, setIn}
 use Rattle.image_sections.specs.LogPlaces.{AllPlaces}
 use Rattle.image_sections.specs.HeldLaws.{others-held}

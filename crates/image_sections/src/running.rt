@@ -3,7 +3,7 @@ use crate::placed::delta_at;
 use layout::MOST_COMMANDS;
 use layout::TAG_COUNT;
 use setpoints::run_delta;
-use setpoints::values::start_values;
+use setpoints_values::start_values;
 ghost use mathlib.Core.Path.{_≡_};
 ghost use lib.Dec.{T};
 ghost use Rattle.model.specs.Message.{passes};

@@ -1,8 +1,5 @@
-pub mod Changes
-pub mod ChangeLaws
 pub mod Commands
 pub mod CommandLaws
 pub mod DeltaLaws
 pub mod Running
 pub mod RunningLaws
-pub mod Words

@@ -1,16 +1,13 @@
 // The command runner: a delta's commands, run on 64 setpoints, and the change of each.
-pub mod changes;
-pub mod values;
-
-use crate::changes::apply;
-use crate::changes::change_of;
-use crate::changes::keep;
 use buffer::byte;
 use layout::COMMAND_SIZE;
 use layout::DEPENDENCY_COUNT_AT;
 use layout::HEADER_SIZE;
 use layout::SEQUENCE_SIZE;
 use layout::TAG_COUNT;
+use setpoints_changes::apply;
+use setpoints_changes::change_of;
+use setpoints_changes::keep;
 ghost use mathlib.Core.Path.{_≡_};
 ghost use Prim.Native.Nat.{_/_};
 ghost use lib.Dec.{T};
@@ -18,7 +15,7 @@ ghost use lib.ListN.{length, take};
 ghost use Rattle.model.specs.Layout.{commandSize, mostCommands};
 ghost use Rattle.model.specs.Message.{commandCount, passes};
 ghost use Rattle.model.specs.Setpoints.{runCommands, changesBy, runDelta, changesOf};
-ghost use Rattle.setpoints.specs.Changes.{changesIn, Room};
+ghost use Rattle.setpoints_changes.specs.Changes.{changesIn, Room};
 ghost use Rattle.setpoints.specs.Commands.{commandsIn};
 
 // Runs the commands of a slice from first to last, and keeps the change of each. A rest shorter than a command is left out.

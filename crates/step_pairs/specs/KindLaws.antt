@@ -10,8 +10,8 @@ use lib.Seq.{getD-at, getD-take, length-take-le}
 use Rattle.model.specs.Setpoints.{Change}
 use Rattle.model.specs.Steps.{Pair, pairOf}
 use Rattle.order.specs.ListLaws.{getD-map}
-use Rattle.setpoints.specs.Changes.{changesIn, Room}
-use Rattle.setpoints.specs.ChangeLaws.{changes-room, change-at}
+use Rattle.setpoints_changes.specs.Changes.{changesIn, Room}
+use Rattle.setpoints_changes.specs.ChangeLaws.{changes-room, change-at}
 use Rattle.step_pairs.specs.declared.kinds.Kind.{Kind}
 use Rattle.step_pairs.specs.declared.kinds.Kind.the-variants.{Undo, Execute}
 use Rattle.step_pairs.specs.Kinds.{placeBy, valueBy, pairsBy}

@@ -14,7 +14,7 @@ ghost use lib.ListN.{length, take};
 ghost use lib.Seq.{paste};
 ghost use Rattle.model.specs.Layout.{pairSize};
 ghost use Rattle.model.specs.Steps.{pairOf, pairBytes};
-ghost use Rattle.setpoints.specs.Changes.{changesIn, Room};
+ghost use Rattle.setpoints_changes.specs.Changes.{changesIn, Room};
 ghost use Rattle.step_pairs.specs.Kinds.{pairsBy};
 ghost use Rattle.step_pairs.specs.Pairs.{withPairs};
 

@@ -6,8 +6,8 @@ use native.Mathlib.Omega.{arith}
 use lib.ListN.{length}
 use borrow.Author.Needs.{needs}
 use Rattle.model.specs.Layout.{commandSize}
-use Rattle.setpoints.specs.Changes.{changesIn, Room}
-use Rattle.setpoints.specs.ChangeLaws.{changes-room}
+use Rattle.setpoints_changes.specs.Changes.{changesIn, Room}
+use Rattle.setpoints_changes.specs.ChangeLaws.{changes-room}
 use Rattle.setpoints.specs.Running.{Running}
 use Rattle.setpoints.specs.RunningLaws.{running-none, running-more, ran-values, ran-changes}
 use Rattle.setpoints.proofs.run_commands.Statement.{statement}

@@ -9,7 +9,7 @@ use mir.Facts.{toZ-ofZ}
 use borrow.Author.Needs.{needs}
 use Rattle.model.specs.Layout.{pairSize}
 use Rattle.model.specs.Steps.{Pair, pairBytes}
-use Rattle.setpoints.specs.Changes.{changesIn}
+use Rattle.setpoints_changes.specs.Changes.{changesIn}
 use Rattle.step_pairs.specs.Kinds.{pairsBy}
 use Rattle.step_pairs.specs.KindLaws.{noPair, pairs-count, place-inside, kept-count, kept-pair}
 use Rattle.step_pairs.specs.Pairs.{withPairs}

@@ -5,7 +5,7 @@ use native.Mathlib.Omega.{arith}
 use lib.ListN.{length, take}
 use Rattle.model.specs.Layout.{mostCommands}
 use Rattle.wire_laws.specs.MessageLaws.{Sized, passes-sized}
-use Rattle.setpoints.specs.Changes.{changesIn, Room}
+use Rattle.setpoints_changes.specs.Changes.{changesIn, Room}
 use Rattle.step_records.specs.RecordLaws.{record-written}
 use borrow.Author.Needs.{needs}
 use Rattle.step_records.proofs.put_record.Statement.{statement}

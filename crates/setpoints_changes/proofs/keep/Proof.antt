@@ -1,0 +1,56 @@
+-- Each part of the change is put at the place.
+use mathlib.Core.Path.{ap₂, _∙_}
+use native.Mathlib.Omega.{arith}
+use lib.IntN.{ℤ}
+use lib.ListN.{set}
+use mir.Facts.{toZ-ofZ}
+use borrow.Author.Needs.{needs}
+use Rattle.setpoints_changes.specs.Changes.{changeIn, changesIn}
+use Rattle.setpoints_changes.specs.ChangeLaws.{changes-set}
+use Rattle.setpoints_changes.proofs.keep.Statement.{statement}
+use Rattle.setpoints_changes.proofs.keep.Tie as tie
+
+slice-write-tags : tie.Need-slice-write-tags
+slice-write-tags c = search needs
+
+mul-found : tie.Need-mul-found
+mul-found c = search needs
+
+slice-set-from-found : tie.Need-slice-set-from-found
+slice-set-from-found c = search needs
+
+mul-left : tie.Need-mul-left
+mul-left c = search needs
+
+slice-set-from-left : tie.Need-slice-set-from-left
+slice-set-from-left c = search needs
+
+same-length : tie.Need-same-length
+same-length c = search needs
+
+same-length-2 : tie.Need-same-length-2
+same-length-2 c = search needs
+
+same-length-3 : tie.Need-same-length-3
+same-length-3 c = search needs
+
+returns : tie.Need-returns
+returns c =
+    let a = c .before .before .args in
+    ap₂ (λ (x z : ℤ). changesIn (set (a .tags .now) (a .k) (a .change .tag)) (set (a .before .now) (a .k) x) (set (a .after .now) (a .k) z))
+    (toZ-ofZ (record { sfits = omega arith })) (toZ-ofZ (record { sfits = omega arith }))
+    ∙ changes-set (a .tags .now) (a .before .now) (a .after .now) (a .k) (changeIn (a .change))
+
+pub keep-spec : {M : Type 1} → statement M
+keep-spec =
+    tie.close
+    (tie.spec
+    slice-write-tags
+    mul-found
+    slice-set-from-found
+    mul-left
+    slice-set-from-left
+    same-length
+    same-length-2
+    same-length-3
+    returns)
