@@ -6,6 +6,7 @@ use decimal::text::put_text;
 use layout::HELD_COUNT_AT;
 use layout::LOG_COUNT_AT;
 ghost use mathlib.Core.Path.{_≡_};
+ghost use mathlib.Core.List.{_++_};
 ghost use Prim.Native.Nat.{_+_, _≤_};
 ghost use lib.ListN.{length};
 ghost use Rattle.model.specs.Layout.{imageSize};
@@ -45,4 +46,13 @@ pub fn put_last(out: &mut [u8], at: usize, image: &[u8]) -> usize
         get_u16(image, HELD_COUNT_AT) as usize,
     );
     put_text(out, held, b"\n")
+}
+
+// Writes the line of a wrong cut and the last line.
+pub fn put_wrong_cut(out: &mut [u8], at: usize, number: usize, image: &[u8]) -> usize
+    requires { ⌜ (at + (lineRoom + lastRoom) ≤ length (now out)) × (length (now image) ≡ imageSize) ⌝ }
+    ensures { λ r. ⌜ Puts (now (out .entry)) at (lineRoom + lastRoom) (printedLine number 3 0 0 ++ lastLine (now (image .entry))) r (now (out .exit)) ⌝ }
+{
+    let next = put_line(out, at, number, 3, 0, 0);
+    put_last(out, next, image)
 }

@@ -1,4 +1,2 @@
-pub mod Cut
-pub mod CutLaws
 pub mod Outcome
 pub mod OutcomeLaws

@@ -1,4 +1,2 @@
-// One message of the listing program's input: cut, delivered, and its line written.
-pub mod cutting;
+// One message of the listing program's input: delivered, and its line written.
 pub mod delivering;
-pub mod limits;

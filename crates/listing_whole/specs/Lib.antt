@@ -1,5 +1,2 @@
 pub mod EmptyLaws
-pub mod Lines
-pub mod LinesLaws
-pub mod Walked
-pub mod WalkLaws
+pub mod Listing

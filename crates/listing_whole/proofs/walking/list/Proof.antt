@@ -4,7 +4,7 @@ use native.Mathlib.Omega.{arith}
 use lib.ListN.{length, length-take}
 use Rattle.model.specs.Layout.{inputLimit}
 use Rattle.listing_whole.specs.EmptyLaws.{emptied, not-refused}
-use Rattle.listing_whole.specs.WalkLaws.{lists}
+use Rattle.listing_whole.specs.Listing.{lists}
 use borrow.Author.Needs.{needs}
 use Rattle.listing_whole.proofs.walking.list.Statement.{statement}
 use Rattle.listing_whole.proofs.walking.list.Tie as tie

@@ -1,10 +1,12 @@
-// The next message of the input, cut by its length field.
+// The next message of the listing program's input, cut by its length field.
+pub mod limits;
+
 use crate::limits::LENGTH_SIZE;
 use crate::limits::LONGEST_CUT;
 use crate::limits::SHORTEST_CUT;
 use buffer::get_u16;
 use layout::LENGTH_AT;
-ghost use Rattle.listing_message.specs.Cut.{IsCut};
+ghost use Rattle.listing_cut.specs.Cut.{IsCut};
 
 // The size of the next message, or that the cut is wrong.
 pub enum Cut {

@@ -5,11 +5,11 @@ use Prim.Native.Nat.{ℕ, _+_, _-_, _≤_}
 use native.Mathlib.Omega.{arith}
 use lib.ListN.{length, drop, length-drop}
 use borrow.Author.Needs.{needs}
-use Rattle.listing_message.specs.Cut.{IsCut, RightCut}
-use Rattle.listing_whole.specs.Walked.{Walked}
-use Rattle.listing_whole.specs.WalkLaws.{rest-is, walk-begin, walk-on, walk-wrong, walk-end}
-use Rattle.listing_whole.proofs.walking.list_messages.Statement.{statement}
-use Rattle.listing_whole.proofs.walking.list_messages.Tie as tie
+use Rattle.listing_cut.specs.Cut.{IsCut, RightCut}
+use Rattle.listing_walk.specs.Walked.{Walked}
+use Rattle.listing_walk.specs.WalkLaws.{rest-is, walk-begin, walk-on, walk-wrong, walk-end}
+use Rattle.listing_walk.proofs.list_messages.Statement.{statement}
+use Rattle.listing_walk.proofs.list_messages.Tie as tie
 
 abbrev Inv-loop : tie.InvT-loop
 Inv-loop input image₀ out₀ number₀ from₀ at₀ image out number from at = Walked input image₀ out₀ image out number from at

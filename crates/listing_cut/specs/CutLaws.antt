@@ -8,7 +8,7 @@ use lib.Dec.{T, ltb}
 use borrow.Author.Tests.{lt-ltb, le-ltb, ltb-false}
 use Rattle.model.specs.Layout.{shortestCut, longestCut}
 use Rattle.model.specs.Program.{badCut}
-use Rattle.listing_message.specs.Cut.{sizeOf, RightCut}
+use Rattle.listing_cut.specs.Cut.{sizeOf, RightCut}
 
 module _ (rest : List ℕ) where
   pub cut-no-length : length rest < 6 → badCut rest ≡ true

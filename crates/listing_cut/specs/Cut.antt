@@ -7,8 +7,8 @@ use lib.ListN.{length}
 use Rattle.model.specs.Bytes.{field}
 use Rattle.model.specs.Layout.{lengthAt, shortestCut}
 use Rattle.model.specs.Program.{badCut}
-use Rattle.listing_message.specs.declared.cutting.Cut.{Cut}
-use Rattle.listing_message.specs.declared.cutting.Cut.the-variants as cut
+use Rattle.listing_cut.specs.declared.Cut.{Cut}
+use Rattle.listing_cut.specs.declared.Cut.the-variants as cut
 
 -- The size that the length field of what is left names.
 abbrev pub sizeOf : List ℕ → ℕ

@@ -6,19 +6,16 @@ use Prim.Native.Nat.{ℕ, suc, _+_, _-_, _≤_, _<_}
 use native.Mathlib.Omega.{arith}
 use lib.ListN.{length, take, drop, length-drop, drop-of-length-le}
 use lib.Seq.{drop-drop, take-all}
-use Rattle.model.specs.Layout.{imageSize, inputLimit}
-use Rattle.model.specs.Image.{imageOf}
-use Rattle.model.specs.Calls.{emptyState}
-use Rattle.model.specs.Program.{printedLine, lastLine, badCut, listing}
+use Rattle.model.specs.Layout.{imageSize}
+use Rattle.model.specs.Program.{printedLine, lastLine, badCut}
 use Rattle.decimal.specs.Puts.{Puts}
-use Rattle.decimal.specs.Front.{Prints, puts-prints}
 use Rattle.decimal.specs.Ahead.{Ahead, ahead-all, ahead-next, ahead-done}
 use Rattle.listing_lines.specs.Rooms.{lineRoom, lastRoom}
-use Rattle.listing_message.specs.Cut.{RightCut}
+use Rattle.listing_cut.specs.Cut.{RightCut}
 use Rattle.listing_message.specs.Outcome.{answered, answerLine, Listed}
-use Rattle.listing_whole.specs.Lines.{lines, roomFor}
-use Rattle.listing_whole.specs.LinesLaws.{lines-end, lines-wrong, lines-next, lines-few}
-use Rattle.listing_whole.specs.Walked.{Walked}
+use Rattle.listing_walk.specs.Lines.{lines, roomFor}
+use Rattle.listing_walk.specs.LinesLaws.{lines-end, lines-wrong, lines-next, lines-few}
+use Rattle.listing_walk.specs.Walked.{Walked}
 
 -- the lines from a message on, in the code's terms
 line-and-rest : (input image : List ℕ) (number from size : ℕ) → from < length input → RightCut (drop from input) size
@@ -81,12 +78,3 @@ module _ {input begun entry image out : List ℕ} {number from at : ℕ} (w : Wa
       ahead-done (lines-few 1 begun input)
       (subst (Ahead (lines 1 begun input) entry 0 out at) (ap (lines number image) (drop-of-length-le input {i = from} h) ∙ lines-end number image) (w .ahead))
       p
-
--- the lines of what is read of an input, from no deltas on, are its listing
-pub lists : (input : List ℕ) {read image entry exit : List ℕ} {k r : ℕ} → read ≡ take inputLimit input → image ≡ imageOf emptyState
-    → Puts entry 0 k (lines 1 image read) r exit → Prints (listing input) entry r exit
-unfolding lines listing
-lists input {read} {image} {entry} {exit} {k} {r} e f p = subst (λ (t : List ℕ). Prints t entry r exit) is (puts-prints p)
-  where
-    is : lines 1 image read ≡ listing input
-    is = ap₂ (λ (b l : List ℕ). lines 1 b l) f e

@@ -5,7 +5,7 @@ use Prim.Native.Nat.{ℕ, _+_, _-_, _≤_}
 use lib.ListN.{length, drop}
 use Rattle.model.specs.Layout.{imageSize}
 use Rattle.decimal.specs.Ahead.{Ahead}
-use Rattle.listing_whole.specs.Lines.{lines, roomFor}
+use Rattle.listing_walk.specs.Lines.{lines, roomFor}
 
 -- The messages before `from` are delivered and their lines stand before `at`: with the lines of the rest, that is all.
 pub record Walked (input begun entry : List ℕ) (image out : List ℕ) (number from at : ℕ) : Type 0 where

@@ -9,10 +9,10 @@ use Rattle.model.specs.Calls.{Delivered}
 use Rattle.model.specs.Program.{printedLine, lastLine, badCut, linesFrom}
 use Rattle.listing_lines.specs.Rooms.{lineRoom}
 use Rattle.listing_lines.specs.LineSizes.{line-few, last-few}
-use Rattle.listing_message.specs.Cut.{sizeOf}
-use Rattle.listing_message.specs.CutLaws.{cut-size}
+use Rattle.listing_cut.specs.Cut.{sizeOf}
+use Rattle.listing_cut.specs.CutLaws.{cut-size}
 use Rattle.listing_message.specs.Outcome.{answered, answerLine}
-use Rattle.listing_whole.specs.Lines.{lines, roomFor}
+use Rattle.listing_walk.specs.Lines.{lines, roomFor}
 
 -- ---- the next line, by whether the cut is wrong
 -- a message's delivery, and what is left behind it

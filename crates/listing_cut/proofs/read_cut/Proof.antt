@@ -1,9 +1,9 @@
 -- Each test of the code is one of the definition's four.
 use native.Mathlib.Omega.{arith}
-use Rattle.listing_message.specs.CutLaws.{cut-no-length, cut-small, cut-large, cut-past, cut-right}
+use Rattle.listing_cut.specs.CutLaws.{cut-no-length, cut-small, cut-large, cut-past, cut-right}
 use borrow.Author.Needs.{needs}
-use Rattle.listing_message.proofs.cutting.read_cut.Statement.{statement}
-use Rattle.listing_message.proofs.cutting.read_cut.Tie as tie
+use Rattle.listing_cut.proofs.read_cut.Statement.{statement}
+use Rattle.listing_cut.proofs.read_cut.Tie as tie
 
 -- where the call began, from where the size is read
 abbrev start : tie.After-get-u16 → tie.Start

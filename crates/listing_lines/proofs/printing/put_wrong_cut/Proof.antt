@@ -2,8 +2,8 @@
 use native.Mathlib.Omega.{arith}
 use Rattle.decimal.specs.PutsLaws.{puts-puts}
 use borrow.Author.Needs.{needs}
-use Rattle.listing_whole.proofs.walking.put_wrong_cut.Statement.{statement}
-use Rattle.listing_whole.proofs.walking.put_wrong_cut.Tie as tie
+use Rattle.listing_lines.proofs.printing.put_wrong_cut.Statement.{statement}
+use Rattle.listing_lines.proofs.printing.put_wrong_cut.Tie as tie
 
 put-line-requires : tie.Need-put-line-requires
 put-line-requires c κs = search needs
