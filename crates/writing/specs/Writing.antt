@@ -1,12 +1,12 @@
 -- A message in pieces: the parts of its header, its dependencies' sequences, its commands. Together they are `messageOf`.
 use mathlib.Core.Path.{_≡_}
 use mathlib.Core.Bool.{true, false}
-use mathlib.Core.List.{List, [], _∷_, _++_, map}
+use mathlib.Core.List.{List, _++_, map}
 use Prim.Native.Nat.{ℕ, _*_, _/_, _≤_}
 use lib.ListN.{length}
 use Rattle.model.specs.Bytes.{bytes, join}
-use Rattle.model.specs.Layout.{headerSize, sequenceSize, commandSize, mostDependencies, mostCommands, messageRoom}
-use Rattle.model.specs.Message.{Message, commandsStart, totalLength}
+use Rattle.model.specs.Layout.{sequenceSize, commandSize, messageRoom}
+use Rattle.model.specs.Message.{Message}
 use Rattle.model.specs.Compose.{messageOf}
 use Rattle.model.specs.Calls.{written}
 use Rattle.sequence.specs.Sequence.{sequenceNumber}
@@ -15,22 +15,9 @@ use Rattle.message.specs.declared.header.Priority.{Priority}
 use Rattle.message.specs.declared.header.Priority.the-variants.{Absent, Given}
 use Rattle.table.specs.Places.{sequenceIn}
 use Rattle.image_sections.specs.LogPlaces.{TablePlaces}
+use Rattle.compose_numbers.specs.Numbers.{FewParts, countsBytes, offsetsBytes, fieldsBytes}
 
--- no more dependencies and commands than a message may have
-pub record FewParts (dependencies commands : ℕ) : Type 0 where
-  pub dependencies-fit : dependencies ≤ mostDependencies
-  pub commands-fit : commands ≤ mostCommands
-
--- ---- the header's parts
-abbrev pub countsBytes : ℕ → ℕ → ℕ → List ℕ
-countsBytes flag D C = 1 ∷ flag ∷ D ∷ C ∷ []
-
-abbrev pub offsetsBytes : ℕ → ℕ → List ℕ
-offsetsBytes D C = bytes 2 (totalLength D C) ++ bytes 2 headerSize ++ bytes 2 (commandsStart D) ++ bytes 2 0
-
-abbrev pub fieldsBytes : ℕ → ℕ → ℕ → List ℕ
-fieldsBytes group block priority = bytes 4 group ++ bytes 4 block ++ bytes 4 priority ++ bytes 4 0
-
+-- ---- the header
 abbrev pub headerBytes : ℕ → ℕ → ℕ → ℕ → ℕ → ℕ → ℕ → List ℕ
 headerBytes flag s group block priority D C = countsBytes flag D C ++ offsetsBytes D C ++ bytes sequenceSize s ++ fieldsBytes group block priority
 

@@ -5,11 +5,10 @@ use mathlib.Core.List.{List, [], _∷_, _++_, map, append-nil, append-assoc, Mem
 use Prim.Native.Nat.{ℕ, _+_, _*_, _/_, _%_, _≤_, _<_}
 use native.Mathlib.Omega.{arith}
 use native.Mathlib.Numerals.{add-one}
-use lib.ListN.{length, set, take, drop, getD, length-append, length-map}
-use lib.Seq.{paste, set-split, append-snoc, drop-cons}
+use lib.ListN.{length, drop, getD, length-append, length-map}
+use lib.Seq.{paste, drop-cons}
 use Rattle.model.specs.Bytes.{bytes}
-use Rattle.model.specs.Layout.{kindAt, priorityFlagAt, dependencyCountAt, commandCountAt, lengthAt, dependenciesOffsetAt, commandsOffsetAt, firstZerosAt, sequenceAt, groupAt, blockAt, priorityAt, lastZerosAt, headerSize, sequenceSize, commandSize}
-use Rattle.model.specs.Message.{commandsStart, totalLength}
+use Rattle.model.specs.Layout.{kindAt, lengthAt, sequenceAt, groupAt, headerSize, sequenceSize, commandSize}
 use Rattle.model.specs.Compose.{messageOf}
 use Rattle.model.specs.Calls.{written}
 use Rattle.wire_laws.specs.BytesLaws.{length-bytes, length-join}
@@ -22,31 +21,14 @@ use Rattle.buffer.specs.FieldLaws.{bytes-low}
 use Rattle.buffer_writes.specs.PasteLaws.{paste-halves, front-written}
 use Rattle.image_header.specs.Pieces.{pasted}
 use Rattle.image_header.specs.PieceLaws.{pasted-pasted, order-pasted}
-use Rattle.writing.specs.Writing.{countsBytes, offsetsBytes, fieldsBytes, headerBytes, headerWith, headerFor, sequencesBytes, messageWith, messageFor}
+use Rattle.compose_numbers.specs.Numbers.{countsBytes, offsetsBytes, fieldsBytes}
+use Rattle.writing.specs.Writing.{headerBytes, headerWith, headerFor, sequencesBytes, messageWith, messageFor}
 
 -- ---- the header
-pub byte-pasted : (d : List ℕ) (at v : ℕ) → at < length d → set d at v ≡ pasted d at (v ∷ [])
-byte-pasted d at v h = set-split d at v h ∙ ap (λ (n : ℕ). take at d ++ v ∷ drop n d) (sym (add-one at)) ∙ sym (append-snoc (take at d) v (drop (at + 1) d))
-
-module _ (d : List ℕ) (room : headerSize ≤ length d) where
-  pub counts-pasted : (flag D C : ℕ)
-      → pasted (pasted (pasted (pasted d kindAt (1 ∷ [])) priorityFlagAt (flag ∷ [])) dependencyCountAt (D ∷ [])) commandCountAt (C ∷ []) ≡ pasted d kindAt (countsBytes flag D C)
-  counts-pasted flag D C = order-pasted d kindAt ((1 ∷ []) ∷ (flag ∷ []) ∷ (D ∷ []) ∷ (C ∷ []) ∷ []) (omega arith)
-
-  pub offsets-pasted : (D C : ℕ)
-      → paste (paste (paste (paste d lengthAt (bytes 2 (totalLength D C)) 2) dependenciesOffsetAt (bytes 2 headerSize) 2) commandsOffsetAt (bytes 2 (commandsStart D)) 2) firstZerosAt (bytes 2 0) 2
-      ≡ pasted d lengthAt (offsetsBytes D C)
-  offsets-pasted D C = order-pasted d lengthAt (bytes 2 (totalLength D C) ∷ bytes 2 headerSize ∷ bytes 2 (commandsStart D) ∷ bytes 2 0 ∷ []) (omega arith)
-
-  pub fields-pasted : (group block priority : ℕ)
-      → paste (paste (paste (paste d groupAt (bytes 4 group) 4) blockAt (bytes 4 block) 4) priorityAt (bytes 4 priority) 4) lastZerosAt (bytes 4 0) 4
-      ≡ pasted d groupAt (fieldsBytes group block priority)
-  fields-pasted group block priority = order-pasted d groupAt (bytes 4 group ∷ bytes 4 block ∷ bytes 4 priority ∷ bytes 4 0 ∷ []) room
-
-  pub header-pasted : (flag s group block priority D C : ℕ)
-      → pasted (pasted (pasted (pasted d kindAt (countsBytes flag D C)) lengthAt (offsetsBytes D C)) sequenceAt (bytes sequenceSize s)) groupAt (fieldsBytes group block priority)
-      ≡ pasted d 0 (headerBytes flag s group block priority D C)
-  header-pasted flag s group block priority D C = order-pasted d 0 (countsBytes flag D C ∷ offsetsBytes D C ∷ bytes sequenceSize s ∷ fieldsBytes group block priority ∷ []) room
+pub header-pasted : (d : List ℕ) → headerSize ≤ length d → (flag s group block priority D C : ℕ)
+    → pasted (pasted (pasted (pasted d kindAt (countsBytes flag D C)) lengthAt (offsetsBytes D C)) sequenceAt (bytes sequenceSize s)) groupAt (fieldsBytes group block priority)
+    ≡ pasted d 0 (headerBytes flag s group block priority D C)
+header-pasted d room flag s group block priority D C = order-pasted d 0 (countsBytes flag D C ∷ offsetsBytes D C ∷ bytes sequenceSize s ∷ fieldsBytes group block priority ∷ []) room
 
 -- ---- a sequence: its eight high bytes, and its four low ones
 pub sequence-pasted : (d : List ℕ) (at : ℕ) (s : Sequence) → at + sequenceSize ≤ length d → s .low < 4294967296

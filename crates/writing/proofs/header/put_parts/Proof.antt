@@ -6,7 +6,7 @@ use Rattle.model.specs.Bytes.{bytes}
 use Rattle.model.specs.Layout.{lengthAt, sequenceAt, groupAt, sequenceSize}
 use Rattle.sequence.specs.Sequence.{sequenceNumber}
 use Rattle.image_header.specs.Pieces.{pasted}
-use Rattle.writing.specs.Writing.{offsetsBytes, fieldsBytes}
+use Rattle.compose_numbers.specs.Numbers.{offsetsBytes, fieldsBytes}
 use Rattle.writing.specs.WritingLaws.{header-pasted}
 use borrow.Author.Needs.{needs}
 use Rattle.writing.proofs.header.put_parts.Statement.{statement}

@@ -1,8 +1,8 @@
 -- A byte written is a piece of one.
-use Rattle.writing.specs.WritingLaws.{byte-pasted}
+use Rattle.compose_numbers.specs.NumberLaws.{byte-pasted}
 use borrow.Author.Needs.{needs}
-use Rattle.writing.proofs.header.put_byte.Statement.{statement}
-use Rattle.writing.proofs.header.put_byte.Tie as tie
+use Rattle.compose_numbers.proofs.put_byte.Statement.{statement}
+use Rattle.compose_numbers.proofs.put_byte.Tie as tie
 
 cast-s : tie.Need-cast-s
 cast-s c = search needs

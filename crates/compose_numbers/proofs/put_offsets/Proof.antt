@@ -6,10 +6,10 @@ use lib.Seq.{paste}
 use Rattle.model.specs.Bytes.{bytes}
 use Rattle.model.specs.Layout.{headerSize, dependenciesOffsetAt, commandsOffsetAt, firstZerosAt}
 use Rattle.model.specs.Message.{commandsStart}
-use Rattle.writing.specs.WritingLaws.{offsets-pasted}
+use Rattle.compose_numbers.specs.NumberLaws.{offsets-pasted}
 use borrow.Author.Needs.{needs}
-use Rattle.writing.proofs.header.put_offsets.Statement.{statement}
-use Rattle.writing.proofs.header.put_offsets.Tie as tie
+use Rattle.compose_numbers.proofs.put_offsets.Statement.{statement}
+use Rattle.compose_numbers.proofs.put_offsets.Tie as tie
 
 mul-start : tie.Need-mul-start
 mul-start c = search needs

@@ -4,10 +4,10 @@ use mathlib.Core.List.{List, [], _∷_}
 use Prim.Native.Nat.{ℕ}
 use Rattle.model.specs.Layout.{priorityFlagAt, dependencyCountAt, commandCountAt}
 use Rattle.image_header.specs.Pieces.{pasted}
-use Rattle.writing.specs.WritingLaws.{counts-pasted}
+use Rattle.compose_numbers.specs.NumberLaws.{counts-pasted}
 use borrow.Author.Needs.{needs}
-use Rattle.writing.proofs.header.put_counts.Statement.{statement}
-use Rattle.writing.proofs.header.put_counts.Tie as tie
+use Rattle.compose_numbers.proofs.put_counts.Statement.{statement}
+use Rattle.compose_numbers.proofs.put_counts.Tie as tie
 
 put-byte-requires : tie.Need-put-byte-requires
 put-byte-requires c κs = search needs

@@ -5,10 +5,10 @@ use Prim.Native.Nat.{ℕ}
 use lib.Seq.{paste}
 use Rattle.model.specs.Bytes.{bytes}
 use Rattle.model.specs.Layout.{blockAt, priorityAt, lastZerosAt}
-use Rattle.writing.specs.WritingLaws.{fields-pasted}
+use Rattle.compose_numbers.specs.NumberLaws.{fields-pasted}
 use borrow.Author.Needs.{needs}
-use Rattle.writing.proofs.header.put_fields.Statement.{statement}
-use Rattle.writing.proofs.header.put_fields.Tie as tie
+use Rattle.compose_numbers.proofs.put_fields.Statement.{statement}
+use Rattle.compose_numbers.proofs.put_fields.Tie as tie
 
 put-u32-requires : tie.Need-put-u32-requires
 put-u32-requires c κs = search needs
