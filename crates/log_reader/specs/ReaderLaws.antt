@@ -1,7 +1,7 @@
 -- The reader moves on past the part that it gave, which ends inside 64 bits.
-use mathlib.Core.Path.{_≡_, refl, ap}
+use mathlib.Core.Path.{_≡_, refl, ap, ap₂}
 use mathlib.Core.Logic.{⊎-elim}
-use mathlib.Core.Bool.{true}
+use mathlib.Core.Bool.{Bool, true, cond, not}
 use mathlib.Core.List.{List}
 use Prim.Native.Nat.{ℕ, zero, suc, _+_, _^_, _≤_, _<_}
 use native.Mathlib.Omega.{arith}
@@ -23,6 +23,11 @@ use Rattle.log_reader.specs.Reader.{firstOffset, Starts, readOf, Reads}
 -- what comes next for a reader, by the definition
 abbrev pub nextOf : List ℕ → ℕ → Message
 nextOf b offset = nextMessage (lowestCode (readConditions b)) b offset
+
+-- 1 or 2, and else what was looked for
+pub next-told : (b : List ℕ) (offset : ℕ) {sized image : Bool} → sized ≡ eqb (length b) imageSize → image ≡ isImage b
+    → nextMessage (cond (not sized) 1 (cond (not image) 2 0)) b offset ≡ nextMessage (lowestCode (readConditions b)) b offset
+next-told b offset s i = ap₂ (λ (x y : Bool). nextMessage (cond (not x) 1 (cond (not y) 2 0)) b offset) s i
 
 pub starts-at : (r : LogReader) → r .offset ≡ firstOffset (now (r .image)) → Starts (now (r .image)) r
 unfolding model.start

@@ -17,8 +17,8 @@ use Rattle.order.specs.TestLaws.{true-T}
 use Rattle.message.specs.Check.{right}
 use Rattle.judged.specs.Judging.{IsStation}
 use Rattle.judged.specs.JudgingLaws.{judges-right, judgement}
-use Rattle.log_reader.specs.Finding.{startingAt, IsMessage, Finds}
-use Rattle.log_reader.specs.FindingLaws.{next-told}
+use Rattle.read_search.specs.Finding.{startingAt, IsMessage, Finds}
+use Rattle.log_reader.specs.ReaderLaws.{next-told}
 use Rattle.log_reader.proofs.finding.next_part.Statement.{statement}
 use Rattle.log_reader.proofs.finding.next_part.Tie as tie
 

@@ -5,10 +5,10 @@ use lib.ListN.{length, getD}
 use borrow.Author.Needs.{needs}
 use Rattle.model.specs.Image.{logCount}
 use Rattle.table.specs.TableLaws.{Lies}
-use Rattle.log_reader.specs.Finding.{Looking}
-use Rattle.log_reader.specs.FindingLaws.{looking-first, looking-end, lies, looking-here, looking-on}
-use Rattle.log_reader.proofs.finding.find_message.Statement.{statement}
-use Rattle.log_reader.proofs.finding.find_message.Tie as tie
+use Rattle.read_search.specs.Finding.{Looking}
+use Rattle.read_search.specs.FindingLaws.{looking-first, looking-end, lies, looking-here, looking-on}
+use Rattle.read_search.proofs.find_message.Statement.{statement}
+use Rattle.read_search.proofs.find_message.Tie as tie
 
 abbrev Inv-loop : tie.InvT-loop
 Inv-loop image offsets offset k₀ k = Looking image offset k

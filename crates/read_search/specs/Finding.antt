@@ -9,8 +9,8 @@ use Rattle.model.specs.Message.{Message}
 use Rattle.model.specs.Image.{messagesStartIn, logCount, logIn, messageOffset, isImage}
 use Rattle.model.specs.Calls.{messageAt}
 use Rattle.walk.specs.Walk.{LogOffsets}
-use Rattle.log_reader.specs.declared.finding.Found.{Found}
-use Rattle.log_reader.specs.declared.finding.Found.the-variants as found
+use Rattle.read_search.specs.declared.Found.{Found}
+use Rattle.read_search.specs.declared.Found.the-variants as found
 
 pub record Searchable (b offsets : List ℕ) : Type 0 where
   pub sized : length b ≡ imageSize

@@ -1,22 +1,20 @@
 -- One message of the log after the other is looked at: it starts there, or it does not; where none does, nothing is there.
 use mathlib.Core.Path.{_≡_, sym, _∙_, ap, ap₂, subst}
 use mathlib.Core.Logic.{⊎-elim}
-use mathlib.Core.Bool.{Bool, cond, not}
 use mathlib.Core.List.{List, []}
 use Prim.Native.Nat.{ℕ, _+_, _≤_, _<_}
 use native.Mathlib.Omega.{arith}
 use lib.ListN.{length, take, drop, getD}
-use lib.Dec.{eqb, ltb, ltb→lt, nltb→le}
+use lib.Dec.{ltb, ltb→lt, nltb→le}
 use Rattle.model.specs.Bytes.{field}
-use Rattle.model.specs.Layout.{lengthAt, imageSize}
-use Rattle.model.specs.Image.{messagesStartIn, logCount, logIn, messageOffset, isImage}
-use Rattle.model.specs.Codes.{lowestCode, readConditions}
-use Rattle.model.specs.Calls.{messageAt, nextMessage}
+use Rattle.model.specs.Layout.{lengthAt}
+use Rattle.model.specs.Image.{messagesStartIn, logCount, logIn, messageOffset}
+use Rattle.model.specs.Calls.{messageAt}
 use Rattle.order.specs.TestLaws.{decide}
 use Rattle.laws.specs.OffsetLaws.{message-at-offset, Placed, message-placed, log-count, log-offset, log-full}
 use Rattle.table.specs.TableLaws.{Lies}
 use Rattle.reading.specs.PartLaws.{part-lies, part-size, part-is}
-use Rattle.log_reader.specs.Finding.{Searchable, startingAt, IsMessage, Looking}
+use Rattle.read_search.specs.Finding.{Searchable, startingAt, IsMessage, Looking}
 
 module _ (b offsets : List ℕ) (s : Searchable b offsets) (offset : ℕ) where
   pub looking-first : Looking b offset 0
@@ -55,8 +53,3 @@ module _ (b offsets : List ℕ) (s : Searchable b offsets) (offset : ℕ) where
         upto = omega arith;
         none = λ j h e. ⊎-elim (λ t. l .none j (ltb→lt j k t) e) (λ t. f (s .log .each k more ∙ ap (messageOffset b) {x = k} {y = j} (omega (arith, nltb→le j k t)) ∙ e)) (decide (ltb j k));
       }
-
--- ---- the codes: 1 or 2, and else what was looked for
-pub next-told : (b : List ℕ) (offset : ℕ) {sized image : Bool} → sized ≡ eqb (length b) imageSize → image ≡ isImage b
-    → nextMessage (cond (not sized) 1 (cond (not image) 2 0)) b offset ≡ nextMessage (lowestCode (readConditions b)) b offset
-next-told b offset s i = ap₂ (λ (x y : Bool). nextMessage (cond (not x) 1 (cond (not y) 2 0)) b offset) s i
