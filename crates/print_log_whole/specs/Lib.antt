@@ -1,4 +1,2 @@
-pub mod Printing
-pub mod CodeLaws
-pub mod PrintingLaws
+pub mod AnswerLaws
 pub mod InputLaws

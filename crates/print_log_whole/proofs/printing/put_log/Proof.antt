@@ -4,8 +4,8 @@ use native.Mathlib.Omega.{arith}
 use Rattle.model.specs.Codes.{lowestCode, readConditions}
 use Rattle.model.specs.Calls.{logMessageCode}
 use Rattle.reading.specs.Answers.{lookupBy}
-use Rattle.print_log_whole.specs.CodeLaws.{code-found, code-past, code-refused}
-use Rattle.print_log_whole.specs.PrintingLaws.{prints-lines, prints-code, prints-nothing}
+use Rattle.print_log_walk.specs.CodeLaws.{code-found, code-past, code-refused}
+use Rattle.print_log_whole.specs.AnswerLaws.{prints-lines, prints-code, prints-nothing}
 use borrow.Author.Needs.{needs}
 use Rattle.print_log_whole.proofs.printing.put_log.Statement.{statement}
 use Rattle.print_log_whole.proofs.printing.put_log.Tie as tie

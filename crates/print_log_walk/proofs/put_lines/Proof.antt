@@ -11,11 +11,11 @@ use Rattle.model.specs.Calls.{logMessageCode}
 use Rattle.model.specs.Program.{logLine}
 use Rattle.decimal.specs.Puts.{Puts}
 use Rattle.print_log_line.specs.Rooms.{lineRoom}
-use Rattle.print_log_whole.specs.Printing.{Printing}
-use Rattle.print_log_whole.specs.CodeLaws.{code-found, code-ended}
-use Rattle.print_log_whole.specs.PrintingLaws.{message-right, place-few, printing-first, printing-room, printing-next, printing-end}
-use Rattle.print_log_whole.proofs.printing.put_lines.Statement.{statement}
-use Rattle.print_log_whole.proofs.printing.put_lines.Tie as tie
+use Rattle.print_log_walk.specs.Printing.{Printing}
+use Rattle.print_log_walk.specs.CodeLaws.{code-found, code-ended}
+use Rattle.print_log_walk.specs.PrintingLaws.{message-right, place-few, printing-first, printing-room, printing-next, printing-end}
+use Rattle.print_log_walk.proofs.put_lines.Statement.{statement}
+use Rattle.print_log_walk.proofs.put_lines.Tie as tie
 
 abbrev Inv-loop : tie.InvT-loop
 Inv-loop image out₀ place₀ offset₀ at₀ out place offset at = Printing image out₀ out place offset at

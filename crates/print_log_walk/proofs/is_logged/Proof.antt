@@ -4,8 +4,8 @@ use Prim.Native.Nat.{ℕ}
 use lib.Dec.{eqb}
 use Rattle.reading.specs.Answers.{lookupBy}
 use borrow.Author.Needs.{needs}
-use Rattle.print_log_whole.proofs.printing.is_logged.Statement.{statement}
-use Rattle.print_log_whole.proofs.printing.is_logged.Tie as tie
+use Rattle.print_log_walk.proofs.is_logged.Statement.{statement}
+use Rattle.print_log_walk.proofs.is_logged.Tie as tie
 
 log-message-code-requires : tie.Need-log-message-code-requires
 log-message-code-requires c κs = search needs

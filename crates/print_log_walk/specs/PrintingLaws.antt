@@ -1,8 +1,8 @@
--- From one message to the next, to the end, and to what is printed.
+-- From one message to the next, and to the end.
 use mathlib.Core.Path.{_≡_, refl, sym, _∙_, ap, ap₂, subst}
 use mathlib.Core.Bool.{Bool, cond}
-use mathlib.Core.List.{List, [], _∷_, _++_}
-use Prim.Native.Nat.{ℕ, suc, _+_, _≤_, _<_}
+use mathlib.Core.List.{List, [], _++_}
+use Prim.Native.Nat.{ℕ, _+_, _≤_, _<_}
 use native.Mathlib.Omega.{arith}
 use native.Mathlib.Numerals.{add-one}
 use lib.Dec.{T}
@@ -14,7 +14,7 @@ use Rattle.model.specs.Message.{Message, layoutRight}
 use Rattle.model.specs.Image.{logCount, logIn, messagesIn, messageOffset, isImage}
 use Rattle.model.specs.Codes.{lowestCode, readConditions}
 use Rattle.model.specs.Calls.{logMessageCode, logMessage}
-use Rattle.model.specs.Program.{logLine, logLines, logAnswer, printedLog}
+use Rattle.model.specs.Program.{logLine, logLines}
 use Rattle.wire_laws.specs.MessageLaws.{passes-layout}
 use Rattle.laws.specs.ImageSetLaws.{image-messages}
 use Rattle.laws.specs.OffsetLaws.{count-messages, log-count, log-message, message-passes}
@@ -22,12 +22,11 @@ use Rattle.log_reader.specs.Reader.{firstOffset}
 use Rattle.log_reader.specs.ReaderLaws.{code-image}
 use Rattle.reader_offsets.specs.Offsets.{offsetAfter}
 use Rattle.reader_offsets.specs.OffsetLaws.{offset-start, offset-after}
-use Rattle.decimal.specs.Puts.{numeral, Puts}
+use Rattle.decimal.specs.Puts.{Puts}
 use Rattle.decimal.specs.Ahead.{Ahead, ahead-all, ahead-next, ahead-none}
-use Rattle.decimal.specs.Front.{Prints, puts-prints}
 use Rattle.print_log_line.specs.Rooms.{lineRoom}
-use Rattle.print_log_whole.specs.Printing.{logRoom, linesFrom, Printing}
-use Rattle.print_log_whole.specs.CodeLaws.{code-found}
+use Rattle.print_log_walk.specs.Printing.{logRoom, linesFrom, Printing}
+use Rattle.print_log_walk.specs.CodeLaws.{code-found}
 
 -- ---- the lines one by one
 module _ (b : List ℕ) where
@@ -37,7 +36,7 @@ module _ (b : List ℕ) where
       ap (logLines b place) (drop-cons (logIn b) place [] (omega (arith, log-count b)))
       ∙ ap (λ (n : ℕ). logLine place (messageOffset b place) (getD (logIn b) place []) ++ logLines b n (drop n (logIn b))) (sym (add-one place))
 
-  lines-end : (place : ℕ) → logCount b ≤ place → linesFrom b place ≡ []
+  pub lines-end : (place : ℕ) → logCount b ≤ place → linesFrom b place ≡ []
   unfolding linesFrom
   lines-end place h = ap (logLines b place) (drop-of-length-le (logIn b) {i = place} (omega (arith, log-count b)))
 
@@ -93,21 +92,3 @@ module _ {b entry : List ℕ} where
     printing-end accepted h =
         ahead-none (omega (arith, p .room, p .inside, image-messages b (code-image b accepted .1) .fits))
         (subst (Ahead (linesFrom b 0) entry 0 out at) (lines-end b place h) (p .ahead))
-
--- ---- what is printed
-module _ (b : List ℕ) {entry exit : List ℕ} {r : ℕ} where
-  prints-as : {text : List ℕ} {n : ℕ} → lowestCode (readConditions b) ≡ n → text ≡ logAnswer n b → Prints text entry r exit → Prints (printedLog b) entry r exit
-  unfolding printedLog
-  prints-as e f p = subst (λ (t : List ℕ). Prints t entry r exit) (f ∙ sym (ap (λ (n : ℕ). logAnswer n b) e)) p
-
-  pub prints-lines : lowestCode (readConditions b) ≡ 0 → {k : ℕ} → Puts entry 0 k (linesFrom b 0) r exit → Prints (printedLog b) entry r exit
-  unfolding linesFrom
-  prints-lines e p = prints-as e refl (puts-prints p)
-
-  pub prints-code : (n : ℕ) → lowestCode (readConditions b) ≡ suc n → {k : ℕ} → Puts entry 0 k (numeral (suc n) ++ 10 ∷ []) r exit → Prints (printedLog b) entry r exit
-  unfolding numeral
-  prints-code n e p = prints-as e refl (puts-prints p)
-
--- an empty log prints nothing
-pub prints-nothing : (b entry : List ℕ) → lowestCode (readConditions b) ≡ 0 → logCount b ≤ 0 → Prints (printedLog b) entry 0 entry
-prints-nothing b entry e h = prints-lines b e {k = 0} (subst (λ (l : List ℕ). Puts entry 0 0 l 0 entry) (sym (lines-end b 0 h)) (record { few = omega arith; end = refl; bytes = refl }))
