@@ -1,6 +1,3 @@
 pub mod Rooms
-pub mod ValueLaws
-pub mod Commands
-pub mod CommandLaws
 pub mod Lines
 pub mod LineLaws

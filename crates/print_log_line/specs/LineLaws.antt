@@ -15,7 +15,8 @@ use Rattle.setpoints.specs.DeltaLaws.{commands-own}
 use Rattle.text_writing.specs.CharacterLaws.{characters-sized}
 use Rattle.decimal.specs.Puts.{numeral, Puts}
 use Rattle.decimal.specs.PutsLaws.{puts-puts}
-use Rattle.print_log_line.specs.Rooms.{sequenceRoom, headRoom, commandsRoom, lineRoom}
+use Rattle.print_log_commands.specs.Rooms.{commandsRoom}
+use Rattle.print_log_line.specs.Rooms.{sequenceRoom, headRoom, lineRoom}
 use Rattle.print_log_line.specs.Lines.{sequenceField, lineHead}
 
 pub sequence-puts : (m : Message) → headerSize ≤ length m → {entry middle exit : List ℕ} {at next : ℕ} → at + sequenceRoom ≤ length entry

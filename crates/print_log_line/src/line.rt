@@ -1,5 +1,4 @@
 // The line of a message of the log.
-use crate::commands::put_commands;
 use buffer::byte;
 use decimal::digits::put_after;
 use decimal::digits::put_decimal;
@@ -9,6 +8,7 @@ use layout::DEPENDENCY_COUNT_AT;
 use layout::HEADER_SIZE;
 use layout::SEQUENCE_AT;
 use layout::SEQUENCE_SIZE;
+use print_log_commands::put_commands;
 use text_writing::parts::put_characters;
 ghost use Prim.Native.Nat.{_+_, _≤_};
 ghost use lib.Dec.{T};

@@ -7,7 +7,7 @@ use Rattle.model.specs.Layout.{commandSize}
 use Rattle.model.specs.Program.{printedCommands}
 use Rattle.setpoints.specs.Commands.{commandsIn}
 use Rattle.decimal.specs.Ahead.{Ahead}
-use Rattle.print_log_line.specs.Rooms.{commandRoom, commandsRoom}
+use Rattle.print_log_commands.specs.Rooms.{commandRoom, commandsRoom}
 
 -- The first k commands stand before `next`: with the others behind them, that is all.
 pub record Putting (commands entry : List ℕ) (at : ℕ) (out : List ℕ) (next k : ℕ) : Type 0 where

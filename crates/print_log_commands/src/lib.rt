@@ -1,4 +1,6 @@
-// The commands of a message, one behind the other.
+// The commands of a message as `print_log` prints them, one behind the other: tag and value, with its sign.
+pub mod value;
+
 use crate::value::put_value;
 use buffer::byte;
 use buffer::get_u32;
@@ -13,7 +15,7 @@ ghost use Rattle.model.specs.Layout.{commandSize, mostCommands};
 ghost use Rattle.model.specs.Program.{printedCommand, printedCommands};
 ghost use Rattle.setpoints.specs.Commands.{commandsIn};
 ghost use Rattle.decimal.specs.Puts.{Puts};
-ghost use Rattle.print_log_line.specs.Rooms.{commandRoom, commandsRoom};
+ghost use Rattle.print_log_commands.specs.Rooms.{commandRoom, commandsRoom};
 
 // Writes tag and value of the command that starts at a place.
 fn put_command(out: &mut [u8], at: usize, commands: &[u8], from: usize) -> usize

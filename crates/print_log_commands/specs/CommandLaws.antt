@@ -13,8 +13,8 @@ use Rattle.setpoints.specs.CommandLaws.{commands-end, commands-next}
 use Rattle.decimal.specs.Puts.{digitsRoom, numeral, Puts}
 use Rattle.decimal.specs.PutsLaws.{puts-puts}
 use Rattle.decimal.specs.Ahead.{Ahead, ahead-all, ahead-next, ahead-none}
-use Rattle.print_log_line.specs.Rooms.{valueRoom, commandRoom, commandsRoom}
-use Rattle.print_log_line.specs.Commands.{Putting}
+use Rattle.print_log_commands.specs.Rooms.{valueRoom, commandRoom, commandsRoom}
+use Rattle.print_log_commands.specs.Commands.{Putting}
 
 abbrev space : List ℕ
 space = 32 ∷ []

@@ -3,10 +3,10 @@ use Prim.Native.Nat.{_-_, _/_}
 use native.Mathlib.Omega.{arith}
 use lib.ListN.{length}
 use Rattle.model.specs.Layout.{commandSize}
-use Rattle.print_log_line.specs.Commands.{Putting}
-use Rattle.print_log_line.specs.CommandLaws.{putting-first, putting-next, putting-end}
-use Rattle.print_log_line.proofs.commands.put_commands.Statement.{statement}
-use Rattle.print_log_line.proofs.commands.put_commands.Tie as tie
+use Rattle.print_log_commands.specs.Commands.{Putting}
+use Rattle.print_log_commands.specs.CommandLaws.{putting-first, putting-next, putting-end}
+use Rattle.print_log_commands.proofs.put_commands.Statement.{statement}
+use Rattle.print_log_commands.proofs.put_commands.Tie as tie
 
 abbrev Inv-loop : tie.InvT-loop
 Inv-loop out₀ at commands next₀ k₀ out next k = Putting commands out₀ at out next k

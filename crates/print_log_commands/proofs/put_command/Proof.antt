@@ -1,8 +1,8 @@
 -- Tag and value, a space before each, are what is printed of the command.
-use Rattle.print_log_line.specs.CommandLaws.{command-puts}
+use Rattle.print_log_commands.specs.CommandLaws.{command-puts}
 use borrow.Author.Needs.{needs}
-use Rattle.print_log_line.proofs.commands.put_command.Statement.{statement}
-use Rattle.print_log_line.proofs.commands.put_command.Tie as tie
+use Rattle.print_log_commands.proofs.put_command.Statement.{statement}
+use Rattle.print_log_commands.proofs.put_command.Tie as tie
 
 add-byte : tie.Need-add-byte
 add-byte c = search needs

@@ -6,7 +6,7 @@ ghost use lib.ListN.{length};
 ghost use Rattle.model.specs.Bytes.{integer};
 ghost use Rattle.model.specs.Program.{printedValue};
 ghost use Rattle.decimal.specs.Puts.{Puts};
-ghost use Rattle.print_log_line.specs.Rooms.{valueRoom};
+ghost use Rattle.print_log_commands.specs.Rooms.{valueRoom};
 
 // Writes the value of a word from a place on, and answers the place behind it. A word is two's complement: from 2147483648 on it is
 // negative, and `-` stands before its digits.

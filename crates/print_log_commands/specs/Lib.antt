@@ -1,0 +1,4 @@
+pub mod Rooms
+pub mod ValueLaws
+pub mod Commands
+pub mod CommandLaws
