@@ -7,32 +7,51 @@ use layout::CAPACITY;
 use layout::MOST_DEPENDENCIES;
 use table::entry::message_at;
 ghost use mathlib.Core.Path.{_≡_};
-ghost use Prim.Native.Nat.{_+_, _*_, _≤_};
-ghost use lib.Dec.{T};
-ghost use lib.ListN.{length};
+ghost use Prim.Native.Nat.{_+_, _*_, _≤_, _<_};
+ghost use lib.ListN.{length, set};
 ghost use Rattle.model.specs.Layout.{capacity};
-ghost use Rattle.model.specs.Message.{passes};
-ghost use Rattle.table.specs.Table.{setIn, Holds};
+ghost use Rattle.model.specs.Order.{sequencesOf};
+ghost use Rattle.table.specs.Table.{deltasOf, setIn, Holds};
 ghost use Rattle.needs.specs.Names.{namesIn, Searchable};
-ghost use Rattle.needs.specs.Rows.{rowSize, RowFilled, RowsRight};
+ghost use Rattle.needs.specs.Rows.{rowSize, rowOf, RowFilled, RowsRight};
 
 // The room of a row: the predecessor and the most dependencies.
 pub const ROW: usize = MOST_DEPENDENCIES + 1;
 
 pub const ROWS: usize = ROW * CAPACITY;
 
-// Writes the row of a message from a place on, and answers how long it is.
-fn fill_row(rows: &mut [u8], at: usize, m: &[u8], high: &[u64], low: &[u32]) -> usize
-    requires { ⌜ (at + rowSize ≤ length (now rows)) × T (passes (now m)) × Searchable (now high) (now low) ⌝ }
-    ensures { λ r. ⌜ RowFilled (now (rows .entry)) at (now (m .entry)) (namesIn (now (high .entry)) (now (low .entry))) (now (rows .exit)) r ⌝ }
+// Writes an index behind the n of a row that are there, and answers how many are there now.
+fn add_need(rows: &mut [u8], at: usize, n: usize, index: u8) -> usize
+    requires { ⌜ at + n < length (now rows) ⌝ }
+    ensures { λ r. ⌜ (now (rows .exit) ≡ set (now (rows .entry)) (at + n) index) × (r ≡ n + 1) ⌝ }
 {
+    rows[at + n] = index;
+    n + 1
+}
+
+// Writes the row of a delta from a place on, and answers how long it is.
+fn fill_row(
+    rows: &mut [u8],
+    at: usize,
+    pool: &[u8],
+    starts: &[u16],
+    i: usize,
+    high: &[u64],
+    low: &[u32],
+) -> usize
+    requires { ⌜ (at + rowSize ≤ length (now rows)) × Holds (now pool) (now starts) × (i < length (now starts))
+        × Searchable (now high) (now low) × (namesIn (now high) (now low) ≡ sequencesOf (deltasOf (now pool) (now starts))) ⌝ }
+    ensures { λ r. ⌜ RowFilled (now (rows .entry)) at (rowOf (setIn (now (pool .entry)) (now (starts .entry))) i) (now (rows .exit)) r ⌝ }
+{
+    let m = message_at(pool, starts, i);
     let count = count_needs(m);
+    let mut n = 0;
     let mut k = 0;
     while k < count {
-        rows[at + k] = index_of(high, low, need_of(m, k));
+        n = add_need(rows, at, n, index_of(high, low, need_of(m, k)));
         k += 1;
     }
-    count
+    n
 }
 
 // Writes the rows of all deltas of a table, and how long each is.
@@ -46,8 +65,7 @@ pub fn fill_rows(rows: &mut [u8], counts: &mut [u8], pool: &[u8], starts: &[u16]
     let used = starts.len();
     let mut i = 0;
     while i < used {
-        let m = message_at(pool, starts, i);
-        let count = fill_row(rows, ROW * i, m, &high[..used], &low[..used]);
+        let count = fill_row(rows, ROW * i, pool, starts, i, &high[..used], &low[..used]);
         counts[i] = count as u8;
         i += 1;
     }

@@ -1,31 +1,22 @@
 -- The rows so far are those of the first deltas, each in its own room.
 use Prim.Native.Nat.{ℕ, _+_, _*_, _-_, _≤_, _<_}
-use mathlib.Core.Path.{_≡_, refl, sym, _∙_, ap, ap₂, subst}
-use mathlib.Core.List.{List, [], map}
-use lib.ListN.{length, getD, set, take, length-set, length-map}
-use lib.Seq.{paste, length-paste, length-take-le}
-use lib.Dec.{T}
-use denote.Ref.{now}
+use mathlib.Core.Path.{_≡_, refl, sym, _∙_}
+use mathlib.Core.List.{List}
+use lib.ListN.{length, length-set, length-map}
+use lib.Seq.{length-take-le}
 use native.Mathlib.Omega.{arith}
 use Rattle.model.specs.Layout.{capacity}
-use Rattle.model.specs.Message.{Message, needsOf, passes}
-use Rattle.model.specs.Order.{sequencesOf}
+use Rattle.model.specs.Message.{Message}
 use Rattle.table.specs.Table.{messageFrom, deltasOf, setIn}
-use Rattle.order.specs.ListLaws.{getD-∈}
-use Rattle.needs.specs.Names.{Searchable, indexOf}
 use Rattle.needs.specs.NameLaws.{names-read, set-searchable}
-use Rattle.needs.specs.Rows.{rowSize, RowIs}
-use Rattle.needs.specs.RowLaws.{needs-are, rows-more}
+use Rattle.needs.specs.Rows.{rowSize, rowOf, RowIs}
+use Rattle.needs.specs.RowLaws.{rows-length, rows-more}
 use Rattle.needs.proofs.rows.fill_rows.Statement.{statement}
 use Rattle.needs.proofs.rows.fill_rows.Tie as tie
 
--- the row that a delta is to have
-abbrev row : List ℕ → List ℕ → ℕ → List ℕ
-row pool starts k = map (indexOf (sequencesOf (deltasOf pool starts))) (needsOf (getD (deltasOf pool starts) k []))
-
 abbrev Inv-loop : tie.InvT-loop
 Inv-loop rows₀ counts₀ pool starts high low used i₀ rows counts i =
-    (i ≤ used) × (length rows ≡ rowSize * capacity) × (length counts ≡ capacity) × ((k : ℕ) → k < i → RowIs rows counts k (row pool starts k))
+    (i ≤ used) × (length rows ≡ rowSize * capacity) × (length counts ≡ capacity) × ((k : ℕ) → k < i → RowIs rows counts k (rowOf (setIn pool starts) k))
 
 abbrev μ-loop : tie.MeasureT-loop
 μ-loop rows₀ counts₀ pool starts high low used i₀ rows counts i = used - i
@@ -39,7 +30,7 @@ start a = sequences a .before .before .before .before .before .before .before
 
 -- the turn of a loan of the rows; the call that is done, and its loan
 abbrev turn : tie.After-fill-row-arg Inv-loop μ-loop → tie.At-loop Inv-loop μ-loop
-turn c = c .before .before .before
+turn c = c .before .before
 
 abbrev called : tie.After-slice-known3 Inv-loop μ-loop → tie.After-fill-row Inv-loop μ-loop
 called c = c .before .before
@@ -56,32 +47,6 @@ size s = sym (length-map (s .args .starts .now) (messageFrom (s .args .pool .now
 few : (s : tie.Start Inv-loop μ-loop) → length (s .args .starts .now) ≤ capacity
 few s = omega (arith, size s, s .pre .2 .fits)
 
-searchable : (a : tie.At-loop Inv-loop μ-loop)
-    → Searchable (take (length (start a .args .starts .now)) (sequences a .read-sequences .last .0)) (take (length (start a .args .starts .now)) (sequences a .read-sequences .last .1 .0))
-searchable a =
-    let s = start a in
-    set-searchable (setIn (s .args .pool .now) (s .args .starts .now)) (sequences a .read-sequences .last .0) (sequences a .read-sequences .last .1 .0) (s .pre .2) (sequences a .read-sequences .ensures) (length (s .args .starts .now)) (size s)
-
--- the message of a turn is its delta, which passes
-here : (c : tie.After-fill-row-arg Inv-loop μ-loop) → now (c .before .message-at .result) ≡ getD (deltas (start (turn c))) (turn c .loop .i) []
-here c = c .before .message-at .ensures
-
-pass : (c : tie.After-fill-row-arg Inv-loop μ-loop) → T (passes (now (c .before .message-at .result)))
-pass c =
-    let s = start (turn c) in
-    let m = getD (deltas s) (turn c .loop .i) [] in
-    subst (λ (b : Message). T (passes b)) (sym (here c)) (s .pre .2 .pass m (getD-∈ (deltas s) (turn c .loop .i) [] (omega (arith, size s))))
-
--- what was written is the delta's row
-written : (c : tie.After-slice-known3 Inv-loop μ-loop)
-    → called c .fill-row .last .0 ≡ paste (turn (lent c) .loop .rows) (rowSize * turn (lent c) .loop .i) (row (start (turn (lent c)) .args .pool .now) (start (turn (lent c)) .args .starts .now) (turn (lent c) .loop .i)) (called c .fill-row .result)
-written c =
-    let a = turn (lent c) in
-    let s = start a in
-    let names = names-read (setIn (s .args .pool .now) (s .args .starts .now)) (sequences a .read-sequences .last .0) (sequences a .read-sequences .last .1 .0) (s .pre .2) (sequences a .read-sequences .ensures) (length (s .args .starts .now)) (size s) in
-    called c .fill-row .ensures .row
-    ∙ ap₂ (λ (n : List ℕ) (m : Message). paste (a .loop .rows) (rowSize * a .loop .i) (map (indexOf n) (needsOf m)) (called c .fill-row .result)) names (here (lent c))
-
 slice-aggregate-read-sequences : tie.Need-slice-aggregate-read-sequences Inv-loop μ-loop
 slice-aggregate-read-sequences c = refl
 
@@ -95,9 +60,6 @@ loop-holds : tie.Need-loop-holds Inv-loop μ-loop
 loop-holds c =
     let s = c .before .before .before .before .before .before .before .before .before in
     (omega arith, s .pre .0, s .pre .1, λ k h. let z : ⊥ = omega arith in absurd z)
-
-message-at-requires : tie.Need-message-at-requires Inv-loop μ-loop
-message-at-requires c κs = (start (c .before) .pre .2, omega arith)
 
 mul-fill-row : tie.Need-mul-fill-row Inv-loop μ-loop
 mul-fill-row c = omega (arith, few (start (turn c)))
@@ -120,8 +82,16 @@ slice-aggregate-fill-row-2 c =
 
 fill-row-requires : tie.Need-fill-row-requires Inv-loop μ-loop
 fill-row-requires c κs =
-    let r = c .before .before in
-    (omega (arith, few (start (turn r)), turn r .loop .inv), pass r, searchable (turn r))
+    let a = turn (c .before .before) in
+    let s = start a in
+    let r = sequences a .read-sequences in
+    let S = setIn (s .args .pool .now) (s .args .starts .now) in (
+      omega (arith, few s, a .loop .inv),
+      s .pre .2,
+      omega arith,
+      set-searchable S (r .last .0) (r .last .1 .0) (s .pre .2) (r .ensures) (length (s .args .starts .now)) (size s),
+      names-read S (r .last .0) (r .last .1 .0) (s .pre .2) (r .ensures) (length (s .args .starts .now)) (size s),
+    )
 
 cast-counts : tie.Need-cast-counts Inv-loop μ-loop
 cast-counts c = omega (arith, called c .fill-row .ensures .short)
@@ -141,16 +111,13 @@ loop-again c =
     let s = start a in
     let l = a .loop in
     let n = called c .fill-row .result in
-    let f = row (s .args .pool .now) (s .args .starts .now) in
-    let long : n ≡ length (f (l .i)) =
-    called c .fill-row .ensures .length-is ∙ ap (λ (m : Message). length (needsOf m)) (here (lent c))
-    ∙ sym (length-map (needsOf (getD (deltas s) (l .i) [])) (indexOf (sequencesOf (deltas s)))) in
-    let room : rowSize * l .i + rowSize ≤ length (l .rows) = omega (arith, few s, l .inv) in (
+    let row = rowOf (setIn (s .args .pool .now) (s .args .starts .now)) in
+    let room : rowSize * l .i + rowSize ≤ length (l .rows) = omega (arith, few s, l .inv) in
+    let here : l .i < length (l .counts) = omega (arith, few s, l .inv .2) in (
       omega arith,
-      ap length (written c) ∙ length-paste (l .rows) (rowSize * l .i) (f (l .i)) n (omega (arith, called c .fill-row .ensures .short)) (omega arith) ∙ l .inv .1,
+      rows-length row (l .rows) (l .counts) (l .i) n (called c .fill-row .ensures) room here ∙ l .inv .1,
       length-set (l .counts) (l .i) n ∙ l .inv .2,
-      λ k h. subst (λ (x : List ℕ). RowIs x (set (l .counts) (l .i) n) k (f k)) (sym (written c))
-          (rows-more f (l .rows) (l .counts) (l .i) n room (omega (arith, few s)) long (called c .fill-row .ensures .short) (l .inv .3) k h),
+      rows-more row (l .rows) (l .counts) (l .i) n (called c .fill-row .ensures) room here (l .inv .3),
     )
 
 same-length : tie.Need-same-length Inv-loop μ-loop
@@ -162,14 +129,12 @@ same-length-2 c = let a = c .before in omega (arith, a .loop .inv .2, start a .p
 returns : tie.Need-returns Inv-loop μ-loop
 returns c =
     let a = c .before in
-    let s = start a in
-    let S = setIn (s .args .pool .now) (s .args .starts .now) in
-    let done : (i : ℕ) → i < length (deltas s) → RowIs (a .loop .rows) (a .loop .counts) i (row (s .args .pool .now) (s .args .starts .now) i) = λ i h. a .loop .inv .3 i (omega (arith, size s)) in
+    let inside : (i : ℕ) → i < length (deltas (start a)) → i < length (start a .args .starts .now) = λ i h. omega (arith, size (start a)) in
     record {
       size = a .loop .inv .1;
       counted = a .loop .inv .2;
-      short = λ i h. done i h .short;
-      row = λ i h. done i h .row ∙ ap (map (indexOf (sequencesOf (deltas s)))) (sym (needs-are S (getD (deltas s) i [])));
+      short = λ i h. a .loop .inv .3 i (omega (arith, inside i h)) .short;
+      row = λ i h. a .loop .inv .3 i (omega (arith, inside i h)) .row;
     }
 
 pub fill-rows-spec : {M : Type 1} → statement M
@@ -182,7 +147,6 @@ fill-rows-spec =
     slice-aggregate-read-sequences-2
     read-sequences-requires
     loop-holds
-    message-at-requires
     mul-fill-row
     array-share-prefix-high
     slice-aggregate-fill-row
