@@ -1,10 +1,8 @@
 // Where the message of a sequence stands in a table, or where it would.
 use crate::entry::sequence_at;
-use layout::SEQUENCE_AT;
 use sequence::Sequence;
 use sequence::equal;
 use sequence::less;
-use sequence::read_sequence;
 ghost use Rattle.sequence.specs.Sequence.{sequenceNumber};
 ghost use Rattle.table.specs.Table.{Holds};
 ghost use Rattle.table.specs.Places.{Finds};
@@ -24,8 +22,7 @@ pub fn find(pool: &[u8], starts: &[u16], s: Sequence) -> Place
     let mut high = starts.len();
     while low < high {
         let middle = low + (high - low) / 2;
-        let at = starts[middle] as usize;
-        let x = read_sequence(pool, at + SEQUENCE_AT);
+        let x = sequence_at(pool, starts, middle);
         if equal(x, s) {
             return Place::Present(middle);
         }
