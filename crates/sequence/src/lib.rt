@@ -1,12 +1,15 @@
-// Sequences as two numbers: how they are read, compared and taken apart.
+// Sequences as two numbers: how they are read, written, compared and taken apart.
 use buffer::get_u32;
 use buffer::get_u64;
+use buffer_writes::put_u32;
+use buffer_writes::put_u64;
 use layout::NUMBERS_OF_LINE;
 ghost use mathlib.Core.Path.{_≡_};
 ghost use Prim.Native.Nat.{_+_, _≤_};
 ghost use lib.ListN.{length};
 ghost use lib.Dec.{eqb, ltb};
-ghost use Rattle.model.specs.Bytes.{field};
+ghost use lib.Seq.{paste};
+ghost use Rattle.model.specs.Bytes.{field, bytes};
 ghost use Rattle.model.specs.Layout.{sequenceSize};
 ghost use Rattle.model.specs.Message.{numberOf, lineOf, predecessorOf};
 ghost use Rattle.sequence.specs.Sequence.{sequenceNumber, predecessorList};
@@ -31,6 +34,15 @@ pub fn read_sequence(s: &[u8], at: usize) -> Sequence
     let high = get_u64(s, at);
     let low = get_u32(s, at + 8);
     Sequence { high, low }
+}
+
+// Writes a sequence from a place on.
+pub fn put_sequence(b: &mut [u8], at: usize, s: Sequence)
+    requires { ⌜ at + sequenceSize ≤ length (now b) ⌝ }
+    ensures { λ _. ⌜ now (b .exit) ≡ paste (now (b .entry)) at (bytes sequenceSize (sequenceNumber s)) sequenceSize ⌝ }
+{
+    put_u64(b, at, s.high);
+    put_u32(b, at + 8, s.low);
 }
 
 // Whether one sequence is below another.

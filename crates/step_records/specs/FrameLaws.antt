@@ -1,41 +1,20 @@
 -- A step's bytes, written in parts: its head, zeros in the unused pairs, and the pairs between.
-use mathlib.Core.Path.{_≡_, refl, sym, _∙_, ap, ap₂}
+use mathlib.Core.Path.{_≡_, sym, _∙_, ap, ap₂}
 use mathlib.Core.List.{List, _∷_, _++_, append-assoc}
 use Prim.Native.Nat.{ℕ, _+_, _*_, _-_, _/_, _%_, _≤_, _<_}
 use native.Mathlib.Omega.{arith}
 use lib.ListN.{length, take, drop, replicate, length-replicate, replicate-append-replicate}
 use lib.Seq.{paste, length-paste, take-append-le}
 use Rattle.model.specs.Bytes.{bytes}
-use Rattle.model.specs.Layout.{mostCommands, sequenceSize, pairCountSize, stepSequenceAt, pairsAt, pairSize, pairsSize, stepSize}
+use Rattle.model.specs.Layout.{mostCommands, pairCountSize, stepSequenceAt, pairsAt, pairSize, pairsSize, stepSize}
 use Rattle.model.specs.Steps.{StepRecord, headBytes, pairsBytes, recordBytes}
 use Rattle.wire_laws.specs.StepBytesLaws.{Fits, length-step, length-pairs}
-use Rattle.sequence.specs.declared.Sequence.{Sequence}
-use Rattle.sequence.specs.Sequence.{sequenceNumber}
 use Rattle.buffer.specs.FieldLaws.{bytes-split, bytes-low}
 use Rattle.buffer_writes.specs.PasteLaws.{paste-paste, paste-behind}
 use Rattle.step_records.specs.Frame.{framed}
 use Rattle.step_pairs.specs.Pairs.{withPairs}
 
 -- ---- the head
--- the bytes of a sequence are its eight high ones and its four low ones
-sequence-bytes : (s : Sequence) → s .low < 4294967296 → bytes sequenceSize (sequenceNumber s) ≡ bytes 8 (s .high) ++ bytes 4 (s .low)
-sequence-bytes s h =
-    let n = sequenceNumber s in
-    let top : n / 4294967296 ≡ s .high = omega arith in
-    let rest : n % 4294967296 ≡ s .low = omega arith in
-    bytes-split 8 4 n ∙ ap₂ (λ (x y : List ℕ). x ++ y) (ap (bytes 8) top) (sym (bytes-low 4 0 n) ∙ ap (bytes 4) rest)
-
--- it is written in three parts
-pub head-bytes : (b : List ℕ) (at first : ℕ) (s : Sequence) → at + pairsAt ≤ length b → s .low < 4294967296
-    → paste (paste (paste b at (bytes 4 first) 4) (at + stepSequenceAt) (bytes 8 (s .high)) 8) (at + stepSequenceAt + 8) (bytes 4 (s .low)) 4
-    ≡ paste b at (bytes stepSequenceAt first ++ bytes sequenceSize (sequenceNumber s)) pairsAt
-head-bytes b at first s h k =
-    ap₂ (λ (d : List ℕ) (n : ℕ). paste d n (bytes 4 (s .low)) 4) {u = at + stepSequenceAt + 8} {v = at + (stepSequenceAt + 8)}
-    (paste-paste b at (bytes 4 first) (bytes 8 (s .high)) 4 8 (omega arith) refl)
-    (omega arith)
-    ∙ paste-paste b at (bytes 4 first ++ bytes 8 (s .high)) (bytes 4 (s .low)) (stepSequenceAt + 8) 4 (omega arith) refl
-    ∙ ap (λ (x : List ℕ). paste b at (bytes 4 first ++ x) pairsAt) (sym (sequence-bytes s k))
-
 -- its first four bytes are the kind and the count of pairs
 pub kind-bytes : (kind count : ℕ) → kind < 256 → count < 16777216 → bytes stepSequenceAt (kind * 16777216 + count) ≡ kind ∷ bytes pairCountSize count
 kind-bytes kind count h k =

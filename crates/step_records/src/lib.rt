@@ -2,7 +2,6 @@
 use buffer::byte;
 use buffer_writes::copy_at;
 use buffer_writes::put_u32;
-use buffer_writes::put_u64;
 use layout::COMMAND_COUNT_AT;
 use layout::MOST_COMMANDS;
 use layout::PAIR_SIZE;
@@ -12,6 +11,7 @@ use layout::SEQUENCE_AT;
 use layout::STEP_SEQUENCE_AT;
 use layout::TAG_COUNT;
 use sequence::Sequence;
+use sequence::put_sequence;
 use sequence::read_sequence;
 use setpoints::run_delta;
 use step_pairs::kinds::Kind;
@@ -31,9 +31,6 @@ ghost use Rattle.sequence.specs.Sequence.{sequenceNumber};
 ghost use Rattle.step_records.specs.Frame.{framed};
 ghost use Rattle.step_records.specs.Records.{firstBy, recordBy};
 
-// the size of a sequence's high part
-const HIGH_SIZE: usize = 8;
-
 // the first byte of a step
 const UNDO: u8 = 1;
 
@@ -47,10 +44,8 @@ fn put_head(steps: &mut [u8], at: usize, first: u32, s: Sequence)
     requires { ⌜ at + pairsAt ≤ length (now steps) ⌝ }
     ensures { λ _. ⌜ now (steps .exit) ≡ paste (now (steps .entry)) at (bytes stepSequenceAt first ++ bytes sequenceSize (sequenceNumber s)) pairsAt ⌝ }
 {
-    let from = at + STEP_SEQUENCE_AT;
     put_u32(steps, at, first);
-    put_u64(steps, from, s.high);
-    put_u32(steps, from + HIGH_SIZE, s.low);
+    put_sequence(steps, at + STEP_SEQUENCE_AT, s);
 }
 
 // Clears the pairs behind so many, of those that start at a place.

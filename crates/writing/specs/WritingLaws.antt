@@ -2,7 +2,7 @@
 use mathlib.Core.Path.{_≡_, refl, sym, _∙_, ap, ap₂}
 use mathlib.Core.Bool.{Bool, true, false, cond}
 use mathlib.Core.List.{List, [], _∷_, _++_, map, append-nil, append-assoc, Memᴰ·of-map}
-use Prim.Native.Nat.{ℕ, _+_, _*_, _/_, _%_, _≤_, _<_}
+use Prim.Native.Nat.{ℕ, _+_, _*_, _/_, _≤_, _<_}
 use native.Mathlib.Omega.{arith}
 use native.Mathlib.Numerals.{add-one}
 use lib.ListN.{length, drop, getD, length-append, length-map}
@@ -12,13 +12,11 @@ use Rattle.model.specs.Layout.{kindAt, lengthAt, sequenceAt, groupAt, headerSiz
 use Rattle.model.specs.Compose.{messageOf}
 use Rattle.model.specs.Calls.{written}
 use Rattle.wire_laws.specs.BytesLaws.{length-bytes, length-join}
-use Rattle.sequence.specs.declared.Sequence.{Sequence}
 use Rattle.sequence.specs.Sequence.{sequenceNumber}
 use Rattle.message.specs.declared.header.Header.{Header}
 use Rattle.message.specs.declared.header.Priority.{Priority}
 use Rattle.message.specs.declared.header.Priority.the-variants.{Absent, Given}
-use Rattle.buffer.specs.FieldLaws.{bytes-low}
-use Rattle.buffer_writes.specs.PasteLaws.{paste-halves, front-written}
+use Rattle.buffer_writes.specs.PasteLaws.{front-written}
 use Rattle.image_header.specs.Pieces.{pasted}
 use Rattle.image_header.specs.PieceLaws.{pasted-pasted, order-pasted}
 use Rattle.compose_numbers.specs.Numbers.{countsBytes, offsetsBytes, fieldsBytes}
@@ -30,15 +28,7 @@ pub header-pasted : (d : List ℕ) → headerSize ≤ length d → (flag s group
     ≡ pasted d 0 (headerBytes flag s group block priority D C)
 header-pasted d room flag s group block priority D C = order-pasted d 0 (countsBytes flag D C ∷ offsetsBytes D C ∷ bytes sequenceSize s ∷ fieldsBytes group block priority ∷ []) room
 
--- ---- a sequence: its eight high bytes, and its four low ones
-pub sequence-pasted : (d : List ℕ) (at : ℕ) (s : Sequence) → at + sequenceSize ≤ length d → s .low < 4294967296
-    → paste (paste d at (bytes 8 (s .high)) 8) (at + 8) (bytes 4 (s .low)) 4 ≡ pasted d at (bytes sequenceSize (sequenceNumber s))
-sequence-pasted d at s h k =
-    let n = sequenceNumber s in
-    let top : s .high ≡ n / 4294967296 = omega arith in
-    let rest : n % 4294967296 ≡ s .low = omega arith in
-    ap₂ (λ (x : ℕ) (y : List ℕ). paste (paste d at (bytes 8 x) 8) (at + 8) y 4) top (ap (bytes 4) (sym rest) ∙ bytes-low 4 0 n) ∙ paste-halves d at 8 4 n (omega arith)
-
+-- ---- sequences
 pub length-sequences : (names : List ℕ) → length (sequencesBytes names) ≡ sequenceSize * length names
 length-sequences names =
     length-join sequenceSize (map (bytes sequenceSize) names) (λ b k. let r = Memᴰ·of-map (bytes sequenceSize) names k in ap length (sym (r .2)) ∙ length-bytes sequenceSize (r .0))

@@ -1,11 +1,11 @@
 // The header of a message, from its value to its 40 bytes.
-use crate::sequences::put_sequence;
 use compose_numbers::put_counts;
 use compose_numbers::put_fields;
 use compose_numbers::put_offsets;
 use layout::SEQUENCE_AT;
 use message::header::Header;
 use message::header::Priority;
+use sequence::put_sequence;
 ghost use mathlib.Core.Path.{_≡_};
 ghost use Prim.Native.Nat.{_<_, _≤_};
 ghost use lib.ListN.{length};

@@ -1,27 +1,14 @@
 // Sequences, written as twelve bytes each.
-use buffer_writes::put_u32;
-use buffer_writes::put_u64;
 use layout::SEQUENCE_SIZE;
-use sequence::Sequence;
+use sequence::put_sequence;
 use table::entry::sequence_at;
 ghost use mathlib.Core.Path.{_≡_};
 ghost use Prim.Native.Nat.{_+_, _*_, _≤_};
 ghost use lib.ListN.{length};
-ghost use Rattle.model.specs.Bytes.{bytes};
 ghost use Rattle.model.specs.Layout.{sequenceSize};
 ghost use Rattle.image_sections.specs.LogPlaces.{TablePlaces};
 ghost use Rattle.image_header.specs.Pieces.{pasted};
-ghost use Rattle.sequence.specs.Sequence.{sequenceNumber};
 ghost use Rattle.writing.specs.Writing.{namesAt, sequencesBytes};
-
-// Writes a sequence from a place on.
-pub fn put_sequence(message: &mut [u8], at: usize, s: Sequence)
-    requires { ⌜ at + sequenceSize ≤ length (now message) ⌝ }
-    ensures { λ _. ⌜ now (message .exit) ≡ pasted (now (message .entry)) at (bytes sequenceSize (sequenceNumber s)) ⌝ }
-{
-    put_u64(message, at, s.high);
-    put_u32(message, at + 8, s.low);
-}
 
 // Writes the sequences at the given places of a table, one behind the other.
 pub fn put_sequences(message: &mut [u8], pool: &[u8], starts: &[u16], places: &[u8], at: usize)
