@@ -3,16 +3,15 @@ use mathlib.Core.Path.{_≡_, sym, _∙_, subst}
 use mathlib.Core.Logic.{⊎-elim}
 use mathlib.Core.Bool.{true, false, not, and-true}
 use mathlib.Core.List.{List}
-use Prim.Native.Nat.{ℕ, suc, _+_, _*_, _-_, _%_, _≤_, _<_}
+use Prim.Native.Nat.{ℕ, suc, _+_, _-_, _≤_, _<_}
 use native.Mathlib.Omega.{arith}
 use lib.Dec.{T, eqb, ltb, leb, eqb→eq, leb→le, ltb→lt, le→leb, lt→ltb, nltb→le, lit≤}
-use lib.ListN.{length, take, drop}
+use lib.ListN.{take, drop}
 use lib.Signed.{leZ}
 use borrow.Author.Tests.{lt-ltb, le-ltb, le-leb, lt-leb}
-use Rattle.model.specs.Bytes.{isBytes, field, word}
-use Rattle.model.specs.Layout.{operationAt, tagAt, commandZerosAt, valueAt, commandSize, mostCommands, tagCount, lowestValue, highestValue}
+use Rattle.model.specs.Bytes.{field, word}
+use Rattle.model.specs.Layout.{operationAt, tagAt, commandZerosAt, valueAt, commandSize, tagCount, lowestValue, highestValue}
 use Rattle.model.specs.Message.{valueOf, commandRight}
-use Rattle.model.specs.Codes.{commandsSized}
 use Rattle.order.specs.TestLaws.{and-l, and-r, and-i, decide, is-true, false-of, eq→eqb, same-leb}
 use Rattle.wire_laws.specs.BytesLaws.{field-part, field-part-start}
 use Rattle.commands.specs.CommandTests.{valueRight}
@@ -94,23 +93,3 @@ value-low n k h = ⊎-elim positive negative (decide (ltb n 2147483648))
     negative t =
         simp (le-ltb n 2147483648 (nltb→le n 2147483648 t), lt-ltb n 4294967296 k)
         (and-true (leb (4294967296 - suc n) depth) ∙ same-leb (4294967296 - suc n) depth (word lowestValue) n (λ e. omega arith) (λ e. omega arith))
-
--- ---- the bytes of commands handed over
-pub record WholeCommands (c : List ℕ) : Type 0 where
-  pub least : commandSize ≤ length c
-  pub most : length c ≤ commandSize * mostCommands
-  pub whole : length c % commandSize ≡ 0
-
-pub sized-wrong : (c : List ℕ) → (WholeCommands c → ⊥) → false ≡ commandsSized c
-sized-wrong c f = sym (false-of (commandsSized c) (λ t. f (record {
-  least = leb→le commandSize (length c) (search (and-l, and-r) depth 8);
-  most = leb→le (length c) (commandSize * mostCommands) (search (and-l, and-r) depth 8);
-  whole = eqb→eq (length c % commandSize) 0 (search (and-l, and-r) depth 8);
-})))
-
-pub sized-right : (c : List ℕ) → T (isBytes c) → WholeCommands c → true ≡ commandsSized c
-sized-right c t f =
-    let least : T (leb commandSize (length c)) = le→leb _ _ (f .least) in
-    let most : T (leb (length c) (commandSize * mostCommands)) = le→leb _ _ (f .most) in
-    let whole : T (eqb (length c % commandSize) 0) = eq→eqb (f .whole) in
-    sym (is-true (commandsSized c) (search and-i depth 8))

@@ -11,6 +11,7 @@ use layout::TAG_AT;
 use layout::TAG_COUNT;
 use layout::VALUE_AT;
 use message::checks::Check;
+use sizes::check_pieces;
 ghost use mathlib.Core.Path.{_≡_};
 ghost use Prim.Native.Nat.{_+_, _/_, _≤_};
 ghost use lib.ListN.{length, take, drop};
@@ -81,14 +82,5 @@ pub fn check_commands(c: &[u8]) -> Check
 pub fn commands_sized(c: &[u8]) -> Check
     ensures { λ r. ⌜ right r ≡ commandsSized (now (c .entry)) ⌝ }
 {
-    if c.len() < COMMAND_SIZE {
-        return Check::Wrong;
-    }
-    if COMMAND_SIZE * MOST_COMMANDS < c.len() {
-        return Check::Wrong;
-    }
-    if COMMAND_SIZE * count_commands(c) != c.len() {
-        return Check::Wrong;
-    }
-    Check::Right
+    check_pieces(c.len(), COMMAND_SIZE, COMMAND_SIZE * MOST_COMMANDS)
 }

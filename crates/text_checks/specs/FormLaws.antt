@@ -1,27 +1,19 @@
--- The forms of a text and of sequences, as the answers of their checks.
+-- The form of a text, as the answer of its check.
 use mathlib.Core.Path.{_≡_, sym, _∙_, ap, ap₂}
-use mathlib.Core.Bool.{Bool, true, false, _&&_}
+use mathlib.Core.Bool.{Bool, false, _&&_}
 use mathlib.Core.List.{List, [], _∷_, _++_}
 use Prim.Native.Nat.{ℕ, suc, _+_, _*_, _/_, _%_, _≤_, _<_}
 use native.Mathlib.Omega.{arith}
 use lib.ListN.{length, take, drop}
 use borrow.Author.Tests.{le-leb, eq-eqb}
 use Rattle.model.specs.Lists.{every}
-use Rattle.model.specs.Layout.{sequenceSize, textPartSize, textRoom}
-use Rattle.model.specs.Text.{comma, textParts, textPartRight, textRight, sequencesRight}
+use Rattle.model.specs.Layout.{textPartSize, textRoom}
+use Rattle.model.specs.Text.{comma, textParts, textPartRight, textRight}
 use Rattle.order.specs.ScanLaws.{every-step}
-use Rattle.order.specs.TestLaws.{is-true, false-of}
+use Rattle.order.specs.TestLaws.{false-of}
 use Rattle.wire_laws.specs.BytesLaws.{length-parts, parts-at}
-use Rattle.text_laws.specs.TextLaws.{Sequences, sized-out, sized-in, Text, text-out}
+use Rattle.text_laws.specs.TextLaws.{Text, text-out}
 
--- ---- sequences
-pub sequences-wrong : (b : List ℕ) → (Sequences b (length b / sequenceSize) → ⊥) → false ≡ sequencesRight b
-sequences-wrong b f = sym (false-of (sequencesRight b) (λ t. f (sized-out b t)))
-
-pub sequences-right : (b : List ℕ) → Sequences b (length b / sequenceSize) → true ≡ sequencesRight b
-sequences-right b s = sym (is-true (sequencesRight b) (sized-in b (length b / sequenceSize) s))
-
--- ---- a text
 pub text-wrong : (t : List ℕ) → (Text t (suc (length t) / textPartSize) → ⊥) → false ≡ textRight t
 text-wrong t f = sym (false-of (textRight t) (λ r. f (text-out t r)))
 

@@ -4,6 +4,7 @@ use layout::SEQUENCES_ROOM;
 use layout::TEXT_PART_SIZE;
 use layout::TEXT_ROOM;
 use message::checks::Check;
+use sizes::check_pieces;
 use text_digits::digits;
 use text_parts::check_part;
 ghost use mathlib.Core.Path.{_≡_};
@@ -47,14 +48,5 @@ pub fn count_sequences(sequences: &[u8]) -> usize
 pub fn check_sequences(sequences: &[u8]) -> Check
     ensures { λ r. ⌜ right r ≡ sequencesRight (now (sequences .entry)) ⌝ }
 {
-    if sequences.len() < SEQUENCE_SIZE {
-        return Check::Wrong;
-    }
-    if SEQUENCES_ROOM < sequences.len() {
-        return Check::Wrong;
-    }
-    if SEQUENCE_SIZE * count_sequences(sequences) != sequences.len() {
-        return Check::Wrong;
-    }
-    Check::Right
+    check_pieces(sequences.len(), SEQUENCE_SIZE, SEQUENCES_ROOM)
 }
