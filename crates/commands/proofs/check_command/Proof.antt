@@ -30,44 +30,17 @@ begun c = start (operated (tagged (c .before .before .before)))
 value-is : (c : tie.After-in-range) {t : Bool} → c .in-range .result ≡ t → valueRight (field (begun c .args .c .now) (begun c .args .at + valueAt) 4) ≡ t
 value-is c e = ap valueRight (sym (c .before .get-u32 .ensures)) ∙ sym (c .in-range .ensures) ∙ e
 
-byte-requires : tie.Need-byte-requires
-byte-requires c κs = search needs
-
 returns : tie.Need-returns
 returns c = let a = start (c .before) .args in command-wrong (a .c .now) (a .at) (λ f. omega arith)
 
 returns-2 : tie.Need-returns-2
 returns-2 c = let a = start (c .before .before) .args in command-wrong (a .c .now) (a .at) (λ f. omega arith)
 
-add-byte : tie.Need-add-byte
-add-byte c = search needs
-
-byte-requires-2 : tie.Need-byte-requires-2
-byte-requires-2 c κs = search needs
-
-cast-if3 : tie.Need-cast-if3
-cast-if3 c = search needs
-
 returns-3 : tie.Need-returns-3
 returns-3 c = let a = start (operated (c .before)) .args in command-wrong (a .c .now) (a .at) (λ f. omega arith)
 
-add-get-u16 : tie.Need-add-get-u16
-add-get-u16 c = search needs
-
-get-u16-requires : tie.Need-get-u16-requires
-get-u16-requires c κs = search needs
-
 returns-4 : tie.Need-returns-4
 returns-4 c = let a = start (operated (tagged (c .before))) .args in command-wrong (a .c .now) (a .at) (λ f. omega arith)
-
-add-get-u32 : tie.Need-add-get-u32
-add-get-u32 c = search needs
-
-get-u32-requires : tie.Need-get-u32-requires
-get-u32-requires c κs = search needs
-
-in-range-requires : tie.Need-in-range-requires
-in-range-requires c κs = search needs
 
 returns-5 : tie.Need-returns-5
 returns-5 c =
@@ -82,18 +55,18 @@ pub check-command-spec : {M : Type 1} → statement M
 check-command-spec =
     tie.close
     (tie.spec
-    byte-requires
+    (λ c κs. search needs)
     returns
     returns-2
-    add-byte
-    byte-requires-2
-    cast-if3
+    (λ c. search needs)
+    (λ c κs. search needs)
+    (λ c. search needs)
     returns-3
-    add-get-u16
-    get-u16-requires
+    (λ c. search needs)
+    (λ c κs. search needs)
     returns-4
-    add-get-u32
-    get-u32-requires
-    in-range-requires
+    (λ c. search needs)
+    (λ c κs. search needs)
+    (λ c κs. search needs)
     returns-5
     returns-6)

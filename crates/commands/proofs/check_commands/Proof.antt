@@ -49,32 +49,14 @@ turn c e =
     l .loop .inv .1 ∙ one-more (bytes l) (l .loop .k) (omega arith)
     ∙ ap (λ (t : Bool). t && every commandRight (drop (l .loop .k + 1) (commands (bytes l)))) (sym (c .check-command .ensures) ∙ e)
 
-count-commands-requires : tie.Need-count-commands-requires Inv-loop μ-loop
-count-commands-requires c κs = search needs
-
 loop-holds : tie.Need-loop-holds Inv-loop μ-loop
 loop-holds c = (search needs, refl)
-
-mul-check-command : tie.Need-mul-check-command Inv-loop μ-loop
-mul-check-command c = omega arith
-
-check-command-requires : tie.Need-check-command-requires Inv-loop μ-loop
-check-command-requires c κs = omega arith
 
 enum-told : tie.Need-enum-told Inv-loop μ-loop
 enum-told c = search needs
 
-enum-told-2 : tie.Need-enum-told-2 Inv-loop μ-loop
-enum-told-2 c = search needs
-
 returns : tie.Need-returns Inv-loop μ-loop
 returns c = sym (turn (c .before .before) (ap right (c .enum-told2 .given .1)))
-
-add-k : tie.Need-add-k Inv-loop μ-loop
-add-k c = omega arith
-
-loop-less : tie.Need-loop-less Inv-loop μ-loop
-loop-less c = omega arith
 
 loop-again : tie.Need-loop-again Inv-loop μ-loop
 loop-again c = (omega arith, turn (c .before .before) (ap right (c .enum-told .given .1)))
@@ -91,14 +73,14 @@ check-commands-spec =
     (tie.spec
     Inv-loop
     μ-loop
-    count-commands-requires
+    (λ c κs. search needs)
     loop-holds
-    mul-check-command
-    check-command-requires
+    (λ c. omega arith)
+    (λ c κs. omega arith)
     enum-told
-    enum-told-2
+    (λ c. search needs)
     returns
-    add-k
-    loop-less
+    (λ c. omega arith)
+    (λ c. omega arith)
     loop-again
     returns-2)

@@ -4,17 +4,8 @@ use borrow.Author.Needs.{needs}
 use Rattle.compose_numbers.proofs.put_byte.Statement.{statement}
 use Rattle.compose_numbers.proofs.put_byte.Tie as tie
 
-cast-s : tie.Need-cast-s
-cast-s c = search needs
-
-slice-write-s : tie.Need-slice-write-s
-slice-write-s c = search needs
-
-same-length : tie.Need-same-length
-same-length c = search needs
-
 returns : tie.Need-returns
 returns c = byte-pasted (c .args .s .now) (c .args .at) (c .args .v) (c .pre .0)
 
 pub put-byte-spec : {M : Type 1} → statement M
-put-byte-spec = tie.close (tie.spec cast-s slice-write-s same-length returns)
+put-byte-spec = tie.close (tie.spec (λ c. search needs) (λ c. search needs) (λ c. search needs) returns)

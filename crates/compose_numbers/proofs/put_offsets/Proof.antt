@@ -11,42 +11,6 @@ use borrow.Author.Needs.{needs}
 use Rattle.compose_numbers.proofs.put_offsets.Statement.{statement}
 use Rattle.compose_numbers.proofs.put_offsets.Tie as tie
 
-mul-start : tie.Need-mul-start
-mul-start c = search needs
-
-add-start : tie.Need-add-start
-add-start c = search needs
-
-mul-total : tie.Need-mul-total
-mul-total c = search needs
-
-add-total : tie.Need-add-total
-add-total c = search needs
-
-cast-put-u16 : tie.Need-cast-put-u16
-cast-put-u16 c = search needs
-
-put-u16-requires : tie.Need-put-u16-requires
-put-u16-requires c κs = search needs
-
-cast-put-u16-2 : tie.Need-cast-put-u16-2
-cast-put-u16-2 c = search needs
-
-put-u16-requires-2 : tie.Need-put-u16-requires-2
-put-u16-requires-2 c κs = search needs
-
-cast-put-u16-3 : tie.Need-cast-put-u16-3
-cast-put-u16-3 c = search needs
-
-put-u16-requires-3 : tie.Need-put-u16-requires-3
-put-u16-requires-3 c κs = search needs
-
-put-u16-requires-4 : tie.Need-put-u16-requires-4
-put-u16-requires-4 c κs = search needs
-
-same-length : tie.Need-same-length
-same-length c = search needs
-
 returns : tie.Need-returns
 returns c =
     let zeros = c .before .before in
@@ -66,16 +30,16 @@ pub put-offsets-spec : {M : Type 1} → statement M
 put-offsets-spec =
     tie.close
     (tie.spec
-    mul-start
-    add-start
-    mul-total
-    add-total
-    cast-put-u16
-    put-u16-requires
-    cast-put-u16-2
-    put-u16-requires-2
-    cast-put-u16-3
-    put-u16-requires-3
-    put-u16-requires-4
-    same-length
+    (λ c. search needs)
+    (λ c. search needs)
+    (λ c. search needs)
+    (λ c. search needs)
+    (λ c. search needs)
+    (λ c κs. search needs)
+    (λ c. search needs)
+    (λ c κs. search needs)
+    (λ c. search needs)
+    (λ c κs. search needs)
+    (λ c κs. search needs)
+    (λ c. search needs)
     returns)

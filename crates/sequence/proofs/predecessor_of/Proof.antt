@@ -14,16 +14,10 @@ use Rattle.sequence.proofs.predecessor_of.Tie as tie
 abbrev start : tie.After-number-of → tie.Start
 start c = c .before
 
-number-of-requires : tie.Need-number-of-requires
-number-of-requires c κs = search needs
-
 returns : tie.Need-returns
 returns c =
     let s = sequenceNumber (start (c .before) .args .s) in
     sym (ap (λ (t : Bool). cond t ((s - 1) ∷ []) []) (le-ltb 1 (numberOf s) (omega arith)))
-
-sub-low : tie.Need-sub-low
-sub-low c = search needs
 
 returns-2 : tie.Need-returns-2
 returns-2 c =
@@ -33,4 +27,4 @@ returns-2 c =
     ap (λ (n : ℕ). n ∷ []) less ∙ sym (ap (λ (t : Bool). cond t ((s - 1) ∷ []) []) (lt-ltb 1 (numberOf s) (omega arith)))
 
 pub predecessor-of-spec : {M : Type 1} → statement M
-predecessor-of-spec = tie.close (tie.spec number-of-requires returns sub-low returns-2)
+predecessor-of-spec = tie.close (tie.spec (λ c κs. search needs) returns (λ c. search needs) returns-2)

@@ -28,28 +28,10 @@ byte-requires c κs = omega (arith, sized (c .before .before) .total)
 read-sequence-requires : tie.Need-read-sequence-requires
 read-sequence-requires c κs = omega (arith, sized (start c) .total)
 
-mul-put-head : tie.Need-mul-put-head
-mul-put-head c = search needs
-
-add-put-head : tie.Need-add-put-head
-add-put-head c = search needs
-
-put-head-requires : tie.Need-put-head-requires
-put-head-requires c κs = search needs
-
-add-clear-unused : tie.Need-add-clear-unused
-add-clear-unused c = search needs
-
-cast-clear-unused : tie.Need-cast-clear-unused
-cast-clear-unused c = search needs
-
 clear-unused-requires : tie.Need-clear-unused-requires
 clear-unused-requires c κs =
     let counted = c .before .before .before .before .before .before in
     (omega (arith, counted .byte .ensures .0, sized (start counted) .commands), omega arith)
-
-same-length : tie.Need-same-length
-same-length c = search needs
 
 returns : tie.Need-returns
 returns c =
@@ -71,11 +53,11 @@ put-frame-spec =
     (tie.spec
     byte-requires
     read-sequence-requires
-    mul-put-head
-    add-put-head
-    put-head-requires
-    add-clear-unused
-    cast-clear-unused
+    (λ c. search needs)
+    (λ c. search needs)
+    (λ c κs. search needs)
+    (λ c. search needs)
+    (λ c. search needs)
     clear-unused-requires
-    same-length
+    (λ c. search needs)
     returns)

@@ -31,41 +31,11 @@ sized s = passes-sized (s .args .m .now) (s .pre .1)
 room : (r : tie.After-run-delta) → Room mostCommands (r .run-delta .last .1 .1 .0) (r .run-delta .last .1 .1 .1 .0) (r .run-delta .last .1 .1 .1 .1 .0)
 room r = record { in-tags = omega arith; in-before = omega arith; in-after = omega arith }
 
-slice-aggregate-run-delta : tie.Need-slice-aggregate-run-delta
-slice-aggregate-run-delta c = search needs
-
-slice-aggregate-run-delta-2 : tie.Need-slice-aggregate-run-delta-2
-slice-aggregate-run-delta-2 c = search needs
-
-slice-aggregate-run-delta-3 : tie.Need-slice-aggregate-run-delta-3
-slice-aggregate-run-delta-3 c = search needs
-
 run-delta-requires : tie.Need-run-delta-requires
 run-delta-requires c κs = (c .before .before .before .before .before .pre .1, record { in-tags = omega arith; in-before = omega arith; in-after = omega arith })
 
-first-byte-requires : tie.Need-first-byte-requires
-first-byte-requires c κs = search needs
-
-put-frame-requires : tie.Need-put-frame-requires
-put-frame-requires c κs = search needs
-
 byte-requires : tie.Need-byte-requires
 byte-requires c κs = omega (arith, sized (start (run (c .before .before))) .total)
-
-cast-count : tie.Need-cast-count
-cast-count c = search needs
-
-add-put-pairs : tie.Need-add-put-pairs
-add-put-pairs c = search needs
-
-slice-aggregate-put-pairs : tie.Need-slice-aggregate-put-pairs
-slice-aggregate-put-pairs c = search needs
-
-slice-aggregate-put-pairs-2 : tie.Need-slice-aggregate-put-pairs-2
-slice-aggregate-put-pairs-2 c = search needs
-
-slice-aggregate-put-pairs-3 : tie.Need-slice-aggregate-put-pairs-3
-slice-aggregate-put-pairs-3 c = search needs
 
 put-pairs-requires : tie.Need-put-pairs-requires
 put-pairs-requires c κs =
@@ -75,9 +45,6 @@ put-pairs-requires c κs =
     let same : length (frame n .put-frame .last .0) ≡ length (s .args .steps .now) = search needs in
     let few = sized s .commands in
     (record { in-tags = omega (arith, kept .in-tags, n .byte .ensures .0); in-before = omega (arith, kept .in-before, n .byte .ensures .0); in-after = omega (arith, kept .in-after, n .byte .ensures .0) }, omega (arith, n .byte .ensures .0, s .pre .0))
-
-same-length : tie.Need-same-length
-same-length c = search needs
 
 returns : tie.Need-returns
 returns c =
@@ -96,18 +63,18 @@ pub put-record-spec : {M : Type 1} → statement M
 put-record-spec =
     tie.close
     (tie.spec
-    slice-aggregate-run-delta
-    slice-aggregate-run-delta-2
-    slice-aggregate-run-delta-3
+    (λ c. search needs)
+    (λ c. search needs)
+    (λ c. search needs)
     run-delta-requires
-    first-byte-requires
-    put-frame-requires
+    (λ c κs. search needs)
+    (λ c κs. search needs)
     byte-requires
-    cast-count
-    add-put-pairs
-    slice-aggregate-put-pairs
-    slice-aggregate-put-pairs-2
-    slice-aggregate-put-pairs-3
+    (λ c. search needs)
+    (λ c. search needs)
+    (λ c. search needs)
+    (λ c. search needs)
+    (λ c. search needs)
     put-pairs-requires
-    same-length
+    (λ c. search needs)
     returns)

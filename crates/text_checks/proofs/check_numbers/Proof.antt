@@ -55,30 +55,12 @@ turn c e =
     l .loop .inv .1 ∙ one-more (bytes l) (l .loop .k) (omega arith)
     ∙ ap (λ (t : Bool). t && every hasNumber (drop (l .loop .k + 1) (sequenceParts (bytes l)))) e
 
-count-sequences-requires : tie.Need-count-sequences-requires Inv-loop μ-loop
-count-sequences-requires c κs = search needs
-
 loop-holds : tie.Need-loop-holds Inv-loop μ-loop
 unfolding allNumbered
 loop-holds c = (search needs, refl)
 
-mul-read-sequence : tie.Need-mul-read-sequence Inv-loop μ-loop
-mul-read-sequence c = omega arith
-
-read-sequence-requires : tie.Need-read-sequence-requires Inv-loop μ-loop
-read-sequence-requires c κs = omega arith
-
-number-of-requires : tie.Need-number-of-requires Inv-loop μ-loop
-number-of-requires c κs = search needs
-
 returns : tie.Need-returns Inv-loop μ-loop
 returns c = let n = c .before in sym (turn n (ap not (eq-eqb (numberOf (sequenceHere n)) 0 (sym (number-here n) ∙ c .if1 .taken))))
-
-add-k : tie.Need-add-k Inv-loop μ-loop
-add-k c = omega arith
-
-loop-less : tie.Need-loop-less Inv-loop μ-loop
-loop-less c = omega arith
 
 loop-again : tie.Need-loop-again Inv-loop μ-loop
 loop-again c =
@@ -97,13 +79,13 @@ check-numbers-spec =
     (tie.spec
     Inv-loop
     μ-loop
-    count-sequences-requires
+    (λ c κs. search needs)
     loop-holds
-    mul-read-sequence
-    read-sequence-requires
-    number-of-requires
+    (λ c. omega arith)
+    (λ c κs. omega arith)
+    (λ c κs. search needs)
     returns
-    add-k
-    loop-less
+    (λ c. omega arith)
+    (λ c. omega arith)
     loop-again
     returns-2)

@@ -13,27 +13,6 @@ use borrow.Author.Needs.{needs}
 use Rattle.writing.proofs.write_message.Statement.{statement}
 use Rattle.writing.proofs.write_message.Tie as tie
 
-put-message-header-requires : tie.Need-put-message-header-requires
-put-message-header-requires c κs = search needs
-
-put-sequences-requires : tie.Need-put-sequences-requires
-put-sequences-requires c κs = search needs
-
-mul-start : tie.Need-mul-start
-mul-start c = search needs
-
-add-start : tie.Need-add-start
-add-start c = search needs
-
-copy-at-requires : tie.Need-copy-at-requires
-copy-at-requires c κs = search needs
-
-add-result : tie.Need-add-result
-add-result c = search needs
-
-same-length : tie.Need-same-length
-same-length c = search needs
-
 returns : tie.Need-returns
 returns c =
     let copied = c .before .before in
@@ -58,11 +37,11 @@ pub write-message-spec : {M : Type 1} → statement M
 write-message-spec =
     tie.close
     (tie.spec
-    put-message-header-requires
-    put-sequences-requires
-    mul-start
-    add-start
-    copy-at-requires
-    add-result
-    same-length
+    (λ c κs. search needs)
+    (λ c κs. search needs)
+    (λ c. search needs)
+    (λ c. search needs)
+    (λ c κs. search needs)
+    (λ c. search needs)
+    (λ c. search needs)
     returns)

@@ -1,5 +1,5 @@
 -- The needs so far stand in the row, each by its index.
-use Prim.Native.Nat.{ℕ, _+_, _-_, _≤_}
+use Prim.Native.Nat.{_-_, _≤_}
 use mathlib.Core.Path.{_≡_, sym, _∙_, ap, ap₂, subst}
 use mathlib.Core.List.{[]}
 use lib.ListN.{length, getD}

@@ -21,29 +21,17 @@ before-is c = c .predecessor-of .ensures ∙ ap predecessorOf (c .before .read-s
 byte-requires : tie.Need-byte-requires
 byte-requires c κs = omega (arith, dependencies-lie (c .before .args .m .now) (c .before .pre))
 
-cast-dependencies : tie.Need-cast-dependencies
-cast-dependencies c = search needs
-
 read-sequence-requires : tie.Need-read-sequence-requires
 read-sequence-requires c κs = omega (arith, dependencies-lie (start c .args .m .now) (start c .pre))
 
-predecessor-of-requires : tie.Need-predecessor-of-requires
-predecessor-of-requires c κs = search needs
-
 enum-told : tie.Need-enum-told
 enum-told c = search needs
-
-enum-told-2 : tie.Need-enum-told-2
-enum-told-2 c = search needs
 
 returns : tie.Need-returns
 returns c =
     let p = c .before .before in
     let none = ap predecessorList (sym (c .enum-told2 .given .1)) ∙ before-is p in
     omega (arith, length-needs (start (counted p) .args .m .now) none, counted p .byte .ensures)
-
-add-result : tie.Need-add-result
-add-result c = search needs
 
 returns-2 : tie.Need-returns-2
 returns-2 c =
@@ -56,11 +44,11 @@ count-needs-spec =
     tie.close
     (tie.spec
     byte-requires
-    cast-dependencies
+    (λ c. search needs)
     read-sequence-requires
-    predecessor-of-requires
+    (λ c κs. search needs)
     enum-told
-    enum-told-2
+    (λ c. search needs)
     returns
-    add-result
+    (λ c. search needs)
     returns-2)

@@ -38,12 +38,6 @@ past c = c .before .before
 read-sequence-requires : tie.Need-read-sequence-requires
 read-sequence-requires c κs = omega (arith, dependencies-lie (c .before .args .m .now) (c .before .pre .0))
 
-predecessor-of-requires : tie.Need-predecessor-of-requires
-predecessor-of-requires c κs = search needs
-
-enum-known-before : tie.Need-enum-known-before
-enum-known-before c = search needs
-
 enum-told : tie.Need-enum-told
 enum-told c = search needs
 
@@ -61,9 +55,6 @@ returns-2 : tie.Need-returns-2
 returns-2 c =
     let p = c .before .before in
     sym (ap₂ (λ (l : List ℕ) (k : ℕ). getD l k 0) (needs-by (start (known p) .args .m .now) (one p)) (c .if1 .taken))
-
-sub-dependency : tie.Need-sub-dependency
-sub-dependency c = search needs
 
 dependency-requires-2 : tie.Need-dependency-requires-2
 dependency-requires-2 c κs =
@@ -83,12 +74,12 @@ need-of-spec =
     tie.close
     (tie.spec
     read-sequence-requires
-    predecessor-of-requires
-    enum-known-before
+    (λ c κs. search needs)
+    (λ c. search needs)
     enum-told
     dependency-requires
     returns
     returns-2
-    sub-dependency
+    (λ c. search needs)
     dependency-requires-2
     returns-3)

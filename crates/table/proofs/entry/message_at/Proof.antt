@@ -18,12 +18,6 @@ lies c = stands (c .args .pool .now) (c .args .starts .now) (c .pre .0) (c .args
 abbrev read : tie.After-shared-slice-known3 → tie.Start
 read c = c .before .before .before
 
-mul-at : tie.Need-mul-at
-mul-at c = search needs
-
-shared-slice-read-at : tie.Need-shared-slice-read-at
-shared-slice-read-at c = search needs
-
 cast-at : tie.Need-cast-at
 cast-at c = let l = lies (read c) in omega arith
 
@@ -33,17 +27,8 @@ add-get-u16 c = let l = lies (read c) in omega arith
 get-u16-requires : tie.Need-get-u16-requires
 get-u16-requires c κs = let l = lies (read c) in omega arith
 
-cast-end : tie.Need-cast-end
-cast-end c = search needs
-
 add-end : tie.Need-add-end
 add-end c = let l = lies (read (c .before)) in omega (arith, c .get-u16 .ensures)
-
-sub-result : tie.Need-sub-result
-sub-result c = search needs
-
-part-result-start : tie.Need-part-result-start
-part-result-start c = search needs
 
 part-result-end : tie.Need-part-result-end
 part-result-end c = let l = lies (read (c .before)) in omega (arith, c .get-u16 .ensures)
@@ -59,14 +44,14 @@ pub message-at-spec : {M : Type 1} → statement M
 message-at-spec =
     tie.close
     (tie.spec
-    mul-at
-    shared-slice-read-at
+    (λ c. search needs)
+    (λ c. search needs)
     cast-at
     add-get-u16
     get-u16-requires
-    cast-end
+    (λ c. search needs)
     add-end
-    sub-result
-    part-result-start
+    (λ c. search needs)
+    (λ c. search needs)
     part-result-end
     returns)

@@ -13,12 +13,6 @@ here c = stands (c .args .pool .now) (c .args .starts .now) (c .pre .0) (c .args
 abbrev read : tie.After-shared-slice-known3 → tie.Start
 read c = c .before .before .before
 
-mul-at : tie.Need-mul-at
-mul-at c = search needs
-
-shared-slice-read-at : tie.Need-shared-slice-read-at
-shared-slice-read-at c = search needs
-
 cast-at : tie.Need-cast-at
 cast-at c = let l = here (read c) .lies in omega arith
 
@@ -34,4 +28,4 @@ returns c = c .read-sequence .ensures ∙ sym (here (read (c .before)) .sequence
 pub sequence-at-spec : {M : Type 1} → statement M
 sequence-at-spec =
     tie.close
-    (tie.spec mul-at shared-slice-read-at cast-at add-read-sequence read-sequence-requires returns)
+    (tie.spec (λ c. search needs) (λ c. search needs) cast-at add-read-sequence read-sequence-requires returns)

@@ -16,39 +16,12 @@ abbrev μ-loop : tie.MeasureT-loop
 loop-holds : tie.Need-loop-holds Inv-loop μ-loop
 loop-holds c = let a = c .args in (omega arith, omega arith, moved-none (a .starts .now) (a .count))
 
-sub-starts : tie.Need-sub-starts Inv-loop μ-loop
-sub-starts c = omega arith
-
-mul-starts : tie.Need-mul-starts Inv-loop μ-loop
-mul-starts c = omega arith
-
-slice-read-starts : tie.Need-slice-read-starts Inv-loop μ-loop
-slice-read-starts c = omega arith
-
-mul-starts-2 : tie.Need-mul-starts-2 Inv-loop μ-loop
-mul-starts-2 c = omega arith
-
-slice-write-starts : tie.Need-slice-write-starts Inv-loop μ-loop
-slice-write-starts c = omega arith
-
-sub-i : tie.Need-sub-i Inv-loop μ-loop
-sub-i c = omega arith
-
-loop-less : tie.Need-loop-less Inv-loop μ-loop
-loop-less c = omega arith
-
 loop-again : tie.Need-loop-again Inv-loop μ-loop
 loop-again c =
     let h = c .before .before in
     let a = h .before .args in
     let l = h .loop in
     (omega arith, omega arith, moved-more (a .starts .now) (a .count) (l .i) (l .starts) (l .inv .2) (omega arith) (omega arith))
-
-mul-starts-3 : tie.Need-mul-starts-3 Inv-loop μ-loop
-mul-starts-3 c = omega arith
-
-slice-write-starts-2 : tie.Need-slice-write-starts-2 Inv-loop μ-loop
-slice-write-starts-2 c = omega arith
 
 same-length : tie.Need-same-length Inv-loop μ-loop
 same-length c = let size = c .before .loop .inv .2 .size in search needs
@@ -68,15 +41,15 @@ insert-start-spec =
     Inv-loop
     μ-loop
     loop-holds
-    sub-starts
-    mul-starts
-    slice-read-starts
-    mul-starts-2
-    slice-write-starts
-    sub-i
-    loop-less
+    (λ c. omega arith)
+    (λ c. omega arith)
+    (λ c. omega arith)
+    (λ c. omega arith)
+    (λ c. omega arith)
+    (λ c. omega arith)
+    (λ c. omega arith)
     loop-again
-    mul-starts-3
-    slice-write-starts-2
+    (λ c. omega arith)
+    (λ c. omega arith)
     same-length
     returns)

@@ -12,18 +12,6 @@ use Rattle.table.specs.PlaceLaws.{places-ascend}
 use Rattle.table.proofs.places.find_from_end.Statement.{statement}
 use Rattle.table.proofs.places.find_from_end.Tie as tie
 
-returns : tie.Need-returns
-returns c = search needs
-
-sub-sequence-at : tie.Need-sub-sequence-at
-sub-sequence-at c = search needs
-
-sequence-at-requires : tie.Need-sequence-at-requires
-sequence-at-requires c κs = search needs
-
-less-requires : tie.Need-less-requires
-less-requires c κs = search needs
-
 returns-2 : tie.Need-returns-2
 returns-2 c =
     let compared = c .before in
@@ -36,20 +24,14 @@ returns-2 c =
     let all = lower-before f n (places-ascend (a .pool .now) (a .starts .now) (s .pre)) (sequenceNumber (a .s)) (n - 1) (omega arith) (omega (arith, read .sequence-at .ensures)) in
     record { inside = omega arith; before = λ k q. all k (omega arith); after = λ k p q. let z : ⊥ = omega arith in absurd z }
 
-find-requires : tie.Need-find-requires
-find-requires c κs = search needs
-
-returns-3 : tie.Need-returns-3
-returns-3 c = search needs
-
 pub find-from-end-spec : {M : Type 1} → statement M
 find-from-end-spec =
     tie.close
     (tie.spec
-    returns
-    sub-sequence-at
-    sequence-at-requires
-    less-requires
+    (λ c. search needs)
+    (λ c. search needs)
+    (λ c κs. search needs)
+    (λ c κs. search needs)
     returns-2
-    find-requires
-    returns-3)
+    (λ c κs. search needs)
+    (λ c. search needs))

@@ -5,9 +5,6 @@ use borrow.Author.Needs.{needs}
 use Rattle.table.proofs.shifting.shift_place.Statement.{statement}
 use Rattle.table.proofs.shifting.shift_place.Tie as tie
 
-add-result : tie.Need-add-result
-add-result c = search needs
-
 returns : tie.Need-returns
 returns c = simp (le-leb _ _ (c .if1 .taken), add-one)
 
@@ -15,4 +12,4 @@ returns-2 : tie.Need-returns-2
 returns-2 c = simp (lt-leb _ _ (c .if1 .left))
 
 pub shift-place-spec : {M : Type 1} → statement M
-shift-place-spec = tie.close (tie.spec add-result returns returns-2)
+shift-place-spec = tie.close (tie.spec (λ c. search needs) returns returns-2)

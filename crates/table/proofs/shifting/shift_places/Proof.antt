@@ -27,9 +27,6 @@ start h = h .before
 loop-holds : tie.Need-loop-holds Inv-loop μ-loop
 loop-holds c = (search needs, (refl, search needs))
 
-array-read-shift-place : tie.Need-array-read-shift-place Inv-loop μ-loop
-array-read-shift-place c = search needs
-
 shift-place-requires : tie.Need-shift-place-requires Inv-loop μ-loop
 shift-place-requires c κs =
     let s = start (c .before) in
@@ -38,15 +35,6 @@ shift-place-requires c κs =
     let i = c .before .loop .i in
     let size : length (take count places) ≡ count = length-take-le count places (omega arith) in
     omega (arith, below-at capacity (take count places) (s .pre .1) i (omega arith), getD-take count places i 0 (omega arith))
-
-array-write-moved : tie.Need-array-write-moved Inv-loop μ-loop
-array-write-moved c = search needs
-
-add-i : tie.Need-add-i Inv-loop μ-loop
-add-i c = search needs
-
-loop-less : tie.Need-loop-less Inv-loop μ-loop
-loop-less c = search needs
 
 loop-again : tie.Need-loop-again Inv-loop μ-loop
 loop-again c =
@@ -74,10 +62,10 @@ shift-places-spec =
     Inv-loop
     μ-loop
     loop-holds
-    array-read-shift-place
+    (λ c. search needs)
     shift-place-requires
-    array-write-moved
-    add-i
-    loop-less
+    (λ c. search needs)
+    (λ c. search needs)
+    (λ c. search needs)
     loop-again
     returns)

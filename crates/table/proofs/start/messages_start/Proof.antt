@@ -5,12 +5,9 @@ use Rattle.model.specs.Image.{messagesStartIn}
 use Rattle.table.proofs.start.messages_start.Statement.{statement}
 use Rattle.table.proofs.start.messages_start.Tie as tie
 
-add-result : tie.Need-add-result
-add-result c = search needs
-
 returns : tie.Need-returns
 unfolding messagesStartIn
 returns c = refl
 
 pub messages-start-spec : {M : Type 1} → statement M
-messages-start-spec = tie.close (tie.spec add-result returns)
+messages-start-spec = tie.close (tie.spec (λ c. search needs) returns)

@@ -42,26 +42,11 @@ turn c e =
 returns : tie.Need-returns Inv-loop μ-loop
 returns c = text-wrong (c .before .before .args .text .now) (λ x. omega arith)
 
-add-count : tie.Need-add-count Inv-loop μ-loop
-add-count c = omega arith
-
-mul-if2 : tie.Need-mul-if2 Inv-loop μ-loop
-mul-if2 c = omega arith
-
-add-if2 : tie.Need-add-if2 Inv-loop μ-loop
-add-if2 c = omega arith
-
 returns-2 : tie.Need-returns-2 Inv-loop μ-loop
 returns-2 c = text-wrong (c .before .before .before .args .text .now) (λ x. omega arith)
 
-digits-requires : tie.Need-digits-requires Inv-loop μ-loop
-digits-requires c κs = search needs
-
 loop-holds : tie.Need-loop-holds Inv-loop μ-loop
 loop-holds c = let t = c .before .before .before .before .args .text .now in (search needs, text-sized t (omega arith) (omega arith))
-
-mul-check-part : tie.Need-mul-check-part Inv-loop μ-loop
-mul-check-part c = omega arith
 
 check-part-requires : tie.Need-check-part-requires Inv-loop μ-loop
 check-part-requires c κs = (c .before .before .before .digits .ensures, omega arith)
@@ -69,17 +54,8 @@ check-part-requires c κs = (c .before .before .before .digits .ensures, omega a
 enum-told : tie.Need-enum-told Inv-loop μ-loop
 enum-told c = search needs
 
-enum-told-2 : tie.Need-enum-told-2 Inv-loop μ-loop
-enum-told-2 c = search needs
-
 returns-3 : tie.Need-returns-3 Inv-loop μ-loop
 returns-3 c = sym (turn (c .before .before) (ap right (c .enum-told2 .given .1)))
-
-add-k : tie.Need-add-k Inv-loop μ-loop
-add-k c = omega arith
-
-loop-less : tie.Need-loop-less Inv-loop μ-loop
-loop-less c = omega arith
 
 loop-again : tie.Need-loop-again Inv-loop μ-loop
 loop-again c = (omega arith, turn (c .before .before) (ap right (c .enum-told .given .1)))
@@ -97,18 +73,18 @@ check-text-spec =
     Inv-loop
     μ-loop
     returns
-    add-count
-    mul-if2
-    add-if2
+    (λ c. omega arith)
+    (λ c. omega arith)
+    (λ c. omega arith)
     returns-2
-    digits-requires
+    (λ c κs. search needs)
     loop-holds
-    mul-check-part
+    (λ c. omega arith)
     check-part-requires
     enum-told
-    enum-told-2
+    (λ c. search needs)
     returns-3
-    add-k
-    loop-less
+    (λ c. omega arith)
+    (λ c. omega arith)
     loop-again
     returns-4)

@@ -10,27 +10,12 @@ use Rattle.writing.proofs.header.put_message_header.Tie as tie
 enum-told : tie.Need-enum-told
 enum-told c = search needs
 
-put-parts-requires : tie.Need-put-parts-requires
-put-parts-requires c κs = search needs
-
-enum-known-given : tie.Need-enum-known-given
-enum-known-given c = search needs
-
-put-parts-requires-2 : tie.Need-put-parts-requires-2
-put-parts-requires-2 c κs = search needs
-
-same-length : tie.Need-same-length
-same-length c = search needs
-
 returns : tie.Need-returns
 returns c =
     let put = c .before .before in
     let told = put .before .before in
     let a = told .before .before .before .args in
     put .put-parts .ensures ∙ ap (λ (p : Priority). pasted (a .message .now) 0 (headerWith (a .h) p)) (sym (told .enum-told .given .1))
-
-same-length-2 : tie.Need-same-length-2
-same-length-2 c = search needs
 
 returns-2 : tie.Need-returns-2
 returns-2 c =
@@ -44,10 +29,10 @@ put-message-header-spec =
     tie.close
     (tie.spec
     enum-told
-    put-parts-requires
-    enum-known-given
-    put-parts-requires-2
-    same-length
+    (λ c κs. search needs)
+    (λ c. search needs)
+    (λ c κs. search needs)
+    (λ c. search needs)
     returns
-    same-length-2
+    (λ c. search needs)
     returns-2)

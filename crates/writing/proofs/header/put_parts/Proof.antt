@@ -12,21 +12,6 @@ use borrow.Author.Needs.{needs}
 use Rattle.writing.proofs.header.put_parts.Statement.{statement}
 use Rattle.writing.proofs.header.put_parts.Tie as tie
 
-put-counts-requires : tie.Need-put-counts-requires
-put-counts-requires c κs = search needs
-
-put-offsets-requires : tie.Need-put-offsets-requires
-put-offsets-requires c κs = search needs
-
-put-sequence-requires : tie.Need-put-sequence-requires
-put-sequence-requires c κs = search needs
-
-put-fields-requires : tie.Need-put-fields-requires
-put-fields-requires c κs = search needs
-
-same-length : tie.Need-same-length
-same-length c = search needs
-
 returns : tie.Need-returns
 returns c =
     let fields = c .before .before in
@@ -46,9 +31,9 @@ pub put-parts-spec : {M : Type 1} → statement M
 put-parts-spec =
     tie.close
     (tie.spec
-    put-counts-requires
-    put-offsets-requires
-    put-sequence-requires
-    put-fields-requires
-    same-length
+    (λ c κs. search needs)
+    (λ c κs. search needs)
+    (λ c κs. search needs)
+    (λ c κs. search needs)
+    (λ c. search needs)
     returns)

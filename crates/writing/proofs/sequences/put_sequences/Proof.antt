@@ -37,9 +37,6 @@ turn r = r .before .before
 loop-holds : tie.Need-loop-holds Inv-loop μ-loop
 loop-holds c = (omega arith, omega arith, refl, refl)
 
-shared-slice-read-sequence-at : tie.Need-shared-slice-read-sequence-at Inv-loop μ-loop
-shared-slice-read-sequence-at c = omega arith
-
 cast-sequence-at : tie.Need-cast-sequence-at Inv-loop μ-loop
 cast-sequence-at c = omega (arith, c .shared-slice-known4 .given (turn c .loop .k))
 
@@ -48,18 +45,6 @@ sequence-at-requires c κs =
     let l = turn c .loop in
     let s = start (turn c) in
     (s .pre .0 .holds, place-inside (s .args .pool .now) (s .args .starts .now) (s .args .places .now) (s .pre .0) (l .k) (omega arith))
-
-put-sequence-requires : tie.Need-put-sequence-requires Inv-loop μ-loop
-put-sequence-requires c κs = omega arith
-
-add-to : tie.Need-add-to Inv-loop μ-loop
-add-to c = omega arith
-
-add-k : tie.Need-add-k Inv-loop μ-loop
-add-k c = omega arith
-
-loop-less : tie.Need-loop-less Inv-loop μ-loop
-loop-less c = omega arith
 
 loop-again : tie.Need-loop-again Inv-loop μ-loop
 loop-again c =
@@ -98,13 +83,13 @@ put-sequences-spec =
     Inv-loop
     μ-loop
     loop-holds
-    shared-slice-read-sequence-at
+    (λ c. omega arith)
     cast-sequence-at
     sequence-at-requires
-    put-sequence-requires
-    add-to
-    add-k
-    loop-less
+    (λ c κs. omega arith)
+    (λ c. omega arith)
+    (λ c. omega arith)
+    (λ c. omega arith)
     loop-again
     same-length
     returns)
