@@ -5,7 +5,7 @@ use mathlib.Core.List.{List, [], _∷_, _++_, map-append, List·Memᴰ·not-nil,
 use Prim.Native.Nat.{ℕ, _+_, _≤_, _<_}
 use native.Mathlib.Omega.{arith}
 use native.Mathlib.Numerals.{add-one}
-use lib.ListN.{length, getD, take, set, replicate, length-set, length-map, length-replicate}
+use lib.ListN.{length, getD, take, set, replicate, length-set, length-replicate}
 use lib.Seq.{take-all, take-suc-set}
 use lib.Dec.{T}
 use Rattle.model.specs.Lists.{_∈_}
@@ -16,6 +16,7 @@ use Rattle.order.specs.ListLaws.{getD-∈, take-next}
 use Rattle.laws.specs.SetLaws.{ascending-names}
 use Rattle.laws.specs.OffsetLaws.{count-messages, log-count, log-message}
 use Rattle.table.specs.Table.{messageFrom, deltasOf, deltasAt}
+use Rattle.table.specs.TableLaws.{deltas-length}
 use Rattle.table.specs.Places.{IsPresent, IsAbsent}
 use Rattle.table.specs.FindLaws.{absent-member}
 use Rattle.walk.specs.WalkLaws.{walked-message}
@@ -64,7 +65,7 @@ module _ (b starts offsets : List ℕ) (r : Readable b starts offsets) where
 
       module _ (i : ℕ) (p : IsPresent b starts (sequenceOf (messageFrom b (getD offsets k 0))) i) where
         in-table : i < length (deltasOf b starts)
-        in-table = omega (arith, p .inside, length-map starts (messageFrom b))
+        in-table = omega (arith, p .inside, deltas-length b starts)
 
         pub place-small : i < capacity
         place-small = omega (arith, in-table, r .holds .fits)

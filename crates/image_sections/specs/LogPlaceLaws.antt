@@ -16,7 +16,8 @@ use Rattle.model.specs.Setpoints.{startValues, runLog, setpointsOf}
 use Rattle.order.specs.ListLaws.{getD-∈, getD-map}
 use Rattle.laws.specs.LogLaws.{log-received, log-length}
 use Rattle.wire_laws.specs.MessageLaws.{passes-sized, sized-range}
-use Rattle.table.specs.Table.{messageFrom, deltasOf, deltasAt, setIn, Holds}
+use Rattle.table.specs.Table.{deltasOf, deltasAt, setIn, Holds}
+use Rattle.table.specs.TableLaws.{deltas-length}
 use Rattle.table.specs.PlaceLaws.{entry-passes}
 use Rattle.image_sections.specs.LogPlaces.{TablePlaces, LogPlaces}
 
@@ -26,7 +27,7 @@ delta-inside pool starts holds i k =
     let m : Message = getD (deltasOf pool starts) i [] in
     let some : headerSize ≤ length m = omega (arith, sized-range m (passes-sized m (holds .pass m k)) .0) in
     let past : length starts ≤ i → ⊥ = λ h.
-    let out : length (deltasOf pool starts) ≤ i = omega (arith, length-map starts (messageFrom pool)) in
+    let out : length (deltasOf pool starts) ≤ i = omega (arith, deltas-length pool starts) in
     let none : length m ≡ 0 = ap length (List·getD-eq-default (deltasOf pool starts) [] out) in omega arith
     in omega arith
 
@@ -42,9 +43,6 @@ log-inside pool starts places l = record {
 -- ---- how many places there are
 pub log-count : (pool starts places : List ℕ) → LogPlaces pool starts places → length places ≡ length (logOf (setIn pool starts))
 log-count pool starts places l = sym (length-map places (λ (i : ℕ). getD (deltasOf pool starts) i [])) ∙ ap length (l .log)
-
-pub table-count : (pool starts : List ℕ) → Holds pool starts → length starts ≤ capacity
-table-count pool starts holds = omega (arith, length-map starts (messageFrom pool), holds .fits)
 
 pub log-fits : (pool starts places : List ℕ) → LogPlaces pool starts places → length places ≤ capacity
 log-fits pool starts places l = omega (arith, log-count pool starts places l, log-length (setIn pool starts) (l .holds .ascends), l .holds .fits)

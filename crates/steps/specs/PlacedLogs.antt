@@ -3,13 +3,14 @@ use mathlib.Core.Path.{_≡_, sym, _∙_, ap, ap₂, subst}
 use mathlib.Core.List.{List, [], map, map-congr-left}
 use Prim.Native.Nat.{ℕ, _-_, _≤_, _<_}
 use native.Mathlib.Omega.{arith}
-use lib.ListN.{length, getD, length-map}
+use lib.ListN.{length, getD}
 use Rattle.model.specs.Message.{Message, sequenceOf}
 use Rattle.model.specs.Order.{State, sequencesOf, logOf}
 use Rattle.model.specs.Steps.{common, undosOf, executionsOf}
 use Rattle.order.specs.ListLaws.{map-map}
 use Rattle.order.specs.CommonLaws.{common-named}
-use Rattle.table.specs.Table.{messageFrom, deltasOf, deltasAt, Holds, insertAt}
+use Rattle.table.specs.Table.{deltasOf, deltasAt, Holds, insertAt}
+use Rattle.table.specs.TableLaws.{deltas-length}
 use Rattle.table.specs.Places.{sequenceIn, AllBelow}
 use Rattle.table.specs.PlaceLaws.{one-place}
 use Rattle.table.specs.InsertLaws.{length-insert}
@@ -38,7 +39,7 @@ names-are pool starts places S h = sym (map-map sequenceOf (λ i. getD (deltasOf
 -- two places of one sequence are one
 places-differ : (pool starts : List ℕ) → Holds pool starts → (i j : ℕ) → i < length starts → j < length starts → sequenceIn pool starts i ≡ sequenceIn pool starts j → i ≡ j
 places-differ pool starts holds i j p q e =
-    let size : length (deltasOf pool starts) ≡ length starts = length-map starts (messageFrom pool) in
+    let size : length (deltasOf pool starts) ≡ length starts = deltas-length pool starts in
     one-place (deltasOf pool starts) (holds .ascends) i j (omega arith) (omega arith) e
 
 -- the longest common start of two lists of names is that of their places

@@ -5,20 +5,22 @@ use mathlib.Core.Bool.{true, false}
 use mathlib.Core.List.{List, [], Memᴰ·cast, Memᴰ·map, Memᴰ·of-map}
 use Prim.Native.Nat.{ℕ, _<_}
 use native.Mathlib.Omega.{arith}
-use lib.ListN.{length, getD, length-map}
+use lib.ListN.{length, getD}
 use lib.Dec.{ltb, ltb→lt, nltb→le}
 use Rattle.model.specs.Lists.{_∈_, has}
 use Rattle.model.specs.Message.{Message, sequenceOf}
 use Rattle.model.specs.Order.{sequencesOf, find}
 use Rattle.order.specs.TestLaws.{decide, is-true, false-of, has→∈, ∈→has}
-use Rattle.order.specs.ListLaws.{getD-∈, ∈-getD}
+use Rattle.order.specs.ListLaws.{∈-getD}
 use Rattle.laws.specs.SetLaws.{find-here}
-use Rattle.table.specs.Table.{messageFrom, deltasOf, Holds}
+use Rattle.table.specs.Table.{deltasOf, Holds}
+use Rattle.table.specs.PlaceLaws.{entry-member}
+use Rattle.table.specs.TableLaws.{deltas-length}
 use Rattle.table.specs.Places.{sequenceIn, IsPresent, IsAbsent}
 
 module _ (pool starts : List ℕ) (s i : ℕ) (present : IsPresent pool starts s i) where
   pub present-member : getD (deltasOf pool starts) i [] ∈ deltasOf pool starts
-  present-member = getD-∈ (deltasOf pool starts) i [] (omega (arith, length-map starts (messageFrom pool), present .inside))
+  present-member = entry-member pool starts i (present .inside)
 
   pub present-has : has s (sequencesOf (deltasOf pool starts)) ≡ true
   present-has = is-true (has s (sequencesOf (deltasOf pool starts))) (∈→has (Memᴰ·cast (sym (present .here)) (Memᴰ·map sequenceOf present-member)))
@@ -38,7 +40,7 @@ module _ (pool starts : List ℕ) (s p : ℕ) (absent : IsAbsent pool starts s p
   pub absent-member : (m : Message) → m ∈ deltasOf pool starts → sequenceOf m ≡ s → ⊥
   absent-member m k e =
       let r = ∈-getD [] k in
-      no-place (r .0) (omega (arith, length-map starts (messageFrom pool), r .1)) (ap sequenceOf (r .2) ∙ e)
+      no-place (r .0) (omega (arith, deltas-length pool starts, r .1)) (ap sequenceOf (r .2) ∙ e)
 
   pub absent-has : has s (sequencesOf (deltasOf pool starts)) ≡ false
   absent-has = false-of (has s (sequencesOf (deltasOf pool starts))) (λ t.

@@ -6,7 +6,7 @@ use mathlib.Core.List.{List, [], _∷_, map}
 use Prim.Native.Nat.{ℕ, zero, suc, _+_, _-_, _≤_, _<_}
 use native.Mathlib.Omega.{arith}
 use native.Mathlib.Nat.{le-of-suc-le-suc}
-use lib.ListN.{length, take, getD, set, length-set, length-map}
+use lib.ListN.{length, take, getD, set, length-set}
 use lib.Seq.{getD-set-same, getD-set-other, getD-take, length-take-le, ext-getD}
 use lib.Dec.{T, eqb, ltb, ltb→lt, nltb→le}
 use borrow.Author.Tests.{lt-ltb, le-ltb, ne-eqb}
@@ -16,6 +16,7 @@ use Rattle.model.specs.Order.{insert}
 use Rattle.order.specs.TestLaws.{decide}
 use Rattle.laws.specs.SetLaws.{insert-from, insert-ascending}
 use Rattle.table.specs.Table.{messageFrom, deltasOf, Holds, insertAt}
+use Rattle.table.specs.TableLaws.{deltas-length}
 use Rattle.table.specs.Places.{IsAbsent}
 
 -- ---- the items of a list after one is put in
@@ -142,7 +143,7 @@ pub insert-holds : (pool : List ℕ) (at p : ℕ) (l : List ℕ) → Holds pool 
     → T (passes (messageFrom pool at)) → length l < capacity → Holds pool (insertAt p at l)
 insert-holds pool at p l holds h t q = record {
   ascends = rw e (insert-ascending m (deltasOf pool l) (holds .ascends));
-  fits = omega (arith, length-map (insertAt p at l) (messageFrom pool), length-insert p at l (h .inside));
+  fits = omega (arith, deltas-length pool (insertAt p at l), length-insert p at l (h .inside));
   pass = λ x k. ⊎-elim (λ u. rw u t) (λ j. holds .pass x j) (insert-from m (deltasOf pool l) x (rw e at k));
 }
   where

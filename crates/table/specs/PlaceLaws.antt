@@ -3,7 +3,7 @@ use mathlib.Core.Path.{_≡_, _∙_, ap}
 use mathlib.Core.List.{List, [], _∷_}
 use Prim.Native.Nat.{ℕ, zero, suc, _+_, _≤_, _<_}
 use native.Mathlib.Omega.{arith}
-use lib.ListN.{length, getD, length-map}
+use lib.ListN.{length, getD}
 use lib.Dec.{T}
 use Rattle.model.specs.Lists.{_∈_}
 use Rattle.model.specs.Bytes.{field}
@@ -13,7 +13,7 @@ use Rattle.model.specs.Order.{Ascending}
 use Rattle.order.specs.ListLaws.{getD-∈, getD-map}
 use Rattle.wire_laws.specs.MessageLaws.{passes-sized, sized-range}
 use Rattle.table.specs.Table.{messageFrom, deltasOf, Holds}
-use Rattle.table.specs.TableLaws.{Lies, passes-lies}
+use Rattle.table.specs.TableLaws.{Lies, passes-lies, deltas-length}
 use Rattle.table.specs.Places.{sequenceIn, AllBelow}
 
 -- ---- a place of a list of places, by its index
@@ -38,6 +38,17 @@ one-place l a i j p q e =
 pub delta-at : (pool starts : List ℕ) (k : ℕ) → k < length starts → getD (deltasOf pool starts) k [] ≡ messageFrom pool (getD starts k 0)
 delta-at pool starts k h = getD-map (messageFrom pool) starts k 0 [] h
 
+-- its entries are there, pass 3 to 6, and have a header
+pub entry-member : (pool starts : List ℕ) (i : ℕ) → i < length starts → getD (deltasOf pool starts) i [] ∈ deltasOf pool starts
+entry-member pool starts i h = getD-∈ (deltasOf pool starts) i [] (omega (arith, deltas-length pool starts))
+
+module _ (pool starts : List ℕ) (holds : Holds pool starts) (i : ℕ) (inside : i < length starts) where
+  pub entry-passes : T (passes (getD (deltasOf pool starts) i []))
+  entry-passes = holds .pass (getD (deltasOf pool starts) i []) (entry-member pool starts i inside)
+
+  pub entry-long : headerSize ≤ length (getD (deltasOf pool starts) i [])
+  entry-long = let m = getD (deltasOf pool starts) i [] in omega (arith, sized-range m (passes-sized m entry-passes))
+
 -- the message at a place lies inside the pool, and its sequence is read there
 pub record Stands (pool starts : List ℕ) (k : ℕ) : Type 0 where
   pub lies : Lies pool (getD starts k 0)
@@ -46,19 +57,10 @@ pub record Stands (pool starts : List ℕ) (k : ℕ) : Type 0 where
 pub stands : (pool starts : List ℕ) → Holds pool starts → (k : ℕ) → k < length starts → Stands pool starts k
 stands pool starts h k q =
     let e : getD (deltasOf pool starts) k [] ≡ messageFrom pool (getD starts k 0) = delta-at pool starts k q in
-    let member : getD (deltasOf pool starts) k [] ∈ deltasOf pool starts = getD-∈ (deltasOf pool starts) k [] (omega (arith, length-map starts (messageFrom pool))) in
-    let t : T (passes (messageFrom pool (getD starts k 0))) = rw e at (h .pass (getD (deltasOf pool starts) k []) member) in
+    let t : T (passes (messageFrom pool (getD starts k 0))) = rw e at (entry-passes pool starts h k q) in
     let l : Lies pool (getD starts k 0) = passes-lies pool (getD starts k 0) t in
     record { lies = l; sequence = ap sequenceOf e ∙ l .fields sequenceAt sequenceSize (omega arith) }
 
 -- sequences ascend by place
 pub places-ascend : (pool starts : List ℕ) → Holds pool starts → (i j : ℕ) → i < j → j < length starts → sequenceIn pool starts i < sequenceIn pool starts j
-places-ascend pool starts holds i j p q = ascending-at (deltasOf pool starts) (holds .ascends) i j p (omega (arith, length-map starts (messageFrom pool)))
-
--- ---- the entries of a table pass 3 to 6, and have a header
-module _ (pool starts : List ℕ) (holds : Holds pool starts) (i : ℕ) (inside : i < length starts) where
-  pub entry-passes : T (passes (getD (deltasOf pool starts) i []))
-  entry-passes = holds .pass (getD (deltasOf pool starts) i []) (getD-∈ (deltasOf pool starts) i [] (omega (arith, length-map starts (messageFrom pool))))
-
-  pub entry-long : headerSize ≤ length (getD (deltasOf pool starts) i [])
-  entry-long = let m = getD (deltasOf pool starts) i [] in omega (arith, sized-range m (passes-sized m entry-passes))
+places-ascend pool starts holds i j p q = ascending-at (deltasOf pool starts) (holds .ascends) i j p (omega (arith, deltas-length pool starts))

@@ -5,11 +5,12 @@ use mathlib.Core.List.{List, [], _∷_, _++_, map, map-append, Memᴰ·of-map}
 use Prim.Native.Nat.{ℕ, suc, _+_, _≤_, _<_}
 use native.Mathlib.Omega.{arith}
 use native.Mathlib.Numerals.{add-one}
-use lib.ListN.{length, take, getD, set, length-map}
+use lib.ListN.{length, take, getD, set}
 use lib.Seq.{take-suc, take-suc-set}
 use lib.Dec.{T, leb, leb→le, nleb→lt}
 use Rattle.model.specs.Message.{Message}
 use Rattle.table.specs.Table.{messageFrom, deltasOf, insertAt}
+use Rattle.table.specs.TableLaws.{deltas-length}
 use Rattle.table.specs.Places.{AllBelow}
 use Rattle.table.specs.InsertLaws.{insert-lower, insert-higher, insert-map}
 use Rattle.table.specs.Shifting.{shifted}
@@ -26,7 +27,7 @@ pub delta-shifted : (pool starts : List ℕ) (p at i : ℕ) → p ≤ length sta
     → getD (deltasOf pool (insertAt p at starts)) (shifted p i) [] ≡ getD (deltasOf pool starts) i []
 delta-shifted pool starts p at i h =
     ap (λ (l : List Message). getD l (shifted p i) []) (insert-map (messageFrom pool) p at starts)
-    ∙ insert-shifted p (messageFrom pool at) (deltasOf pool starts) i [] (omega (arith, length-map starts (messageFrom pool)))
+    ∙ insert-shifted p (messageFrom pool at) (deltasOf pool starts) i [] (omega (arith, deltas-length pool starts))
 
 -- ---- shifted places are places of a table of one more
 shifted-below : (p n i : ℕ) → i < n → shifted p i < suc n

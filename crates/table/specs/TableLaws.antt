@@ -1,16 +1,22 @@
--- A message that passes 3 to 6 lies inside the pool, and its fields are read there.
+-- A table has as many messages as starts; one that passes 3 to 6 lies inside the pool, and its fields are read there.
 use mathlib.Core.Path.{_≡_}
 use mathlib.Core.List.{List}
 use Prim.Native.Nat.{ℕ, _+_, _-_, _≤_, min}
 use native.Mathlib.Omega.{arith}
-use lib.ListN.{length, drop, length-take, length-drop}
+use lib.ListN.{length, drop, length-take, length-drop, length-map}
 use lib.Dec.{T}
 use Rattle.model.specs.Bytes.{field}
-use Rattle.model.specs.Layout.{lengthAt, headerSize, messageRoom}
+use Rattle.model.specs.Layout.{lengthAt, headerSize, messageRoom, capacity}
 use Rattle.model.specs.Message.{Message, passes}
 use Rattle.wire_laws.specs.BytesLaws.{field-part}
 use Rattle.wire_laws.specs.MessageLaws.{Sized, passes-sized, sized-range, sized-cut}
-use Rattle.table.specs.Table.{messageFrom}
+use Rattle.table.specs.Table.{messageFrom, deltasOf, Holds}
+
+pub deltas-length : (pool starts : List ℕ) → length (deltasOf pool starts) ≡ length starts
+deltas-length pool starts = length-map starts (messageFrom pool)
+
+pub table-count : (pool starts : List ℕ) → Holds pool starts → length starts ≤ capacity
+table-count pool starts holds = omega (arith, deltas-length pool starts, holds .fits)
 
 pub record Lies (pool : List ℕ) (at : ℕ) : Type 0 where
   pub least : headerSize ≤ field pool (at + lengthAt) 2

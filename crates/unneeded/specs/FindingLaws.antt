@@ -16,7 +16,7 @@ use Rattle.model.specs.Compose.{newDependencies}
 use Rattle.table.specs.Table.{messageFrom, deltasOf, setIn, Holds}
 use Rattle.table.specs.Places.{sequenceIn}
 use Rattle.needs.specs.NameLaws.{sequence-at}
-use Rattle.image_sections.specs.LogPlaceLaws.{table-count}
+use Rattle.table.specs.TableLaws.{table-count}
 use Rattle.unneeded.specs.Unneeded.{chosen, IsDependencies, Finding}
 
 -- ---- what a test keeps of names, one after the other

@@ -13,7 +13,7 @@ use Rattle.model.specs.Codes.{heldOn}
 use Rattle.sequence.specs.Sequence.{sequenceNumber}
 use Rattle.table.specs.Table.{deltasOf, deltasAt, setIn}
 use Rattle.image_sections.specs.LogPlaces.{TablePlaces}
-use Rattle.image_sections.specs.LogPlaceLaws.{table-count}
+use Rattle.table.specs.TableLaws.{table-count}
 use Rattle.image_sections.specs.HeldLaws.{others-inside, others-length}
 use Rattle.held_line.specs.Line.{someOn}
 use Rattle.held_line.specs.LineLaws.{held-on}

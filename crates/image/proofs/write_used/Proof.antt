@@ -12,7 +12,8 @@ use Rattle.laws.specs.ImageLaws.{messages-room}
 use Rattle.table.specs.Table.{setIn}
 use Rattle.table.specs.StartLaws.{start-in}
 use Rattle.image_sections.specs.LogPlaces.{othersBelow, LogPlaces}
-use Rattle.image_sections.specs.LogPlaceLaws.{log-inside, log-count, table-count, log-fits, log-values}
+use Rattle.table.specs.TableLaws.{table-count}
+use Rattle.image_sections.specs.LogPlaceLaws.{log-inside, log-count, log-fits, log-values}
 use Rattle.image_sections.specs.HeldLaws.{others-length, others-count}
 use Rattle.image_header.specs.Pieces.{pasted, Copied}
 use Rattle.image_sections.specs.SectionLaws.{header-is, values-are, used-written}

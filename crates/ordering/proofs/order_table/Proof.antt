@@ -1,10 +1,11 @@
 -- The log beside the old one is what `order` grows from the prepared table, and an order that is begun has placed none.
 use mathlib.Core.Path.{_≡_, refl, sym, _∙_}
 use native.Mathlib.Omega.{arith}
-use lib.ListN.{length, length-map}
+use lib.ListN.{length}
 use lib.Seq.{length-take-le}
 use Rattle.model.specs.Layout.{capacity}
-use Rattle.table.specs.Table.{startsOf, messageFrom}
+use Rattle.table.specs.Table.{startsOf}
+use Rattle.table.specs.TableLaws.{deltas-length}
 use borrow.Author.Needs.{needs}
 use Rattle.ordering.proofs.order_table.Statement.{statement}
 use Rattle.ordering.proofs.order_table.Tie as tie
@@ -80,7 +81,7 @@ returns c =
     let b = begun (lent (prepared (again (c .before)))) in
     let a = began b .args in
     record {
-      log = record { log = placed .log; within = λ i k. omega (arith, placed .within i k, length-map (startsOf (a .table)) (messageFrom (a .pool .now))) };
+      log = record { log = placed .log; within = λ i k. omega (arith, placed .within i k, deltas-length (a .pool .now) (startsOf (a .table))) };
       right = placed .right;
       olds = placed .olds ∙ b .begin .ensures .olds;
     }

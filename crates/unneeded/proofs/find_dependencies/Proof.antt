@@ -7,7 +7,7 @@ use native.Mathlib.Omega.{arith}
 use lib.ListN.{length, set}
 use Rattle.sequence.specs.Sequence.{sequenceNumber}
 use Rattle.model.specs.Layout.{capacity}
-use Rattle.image_sections.specs.LogPlaceLaws.{table-count}
+use Rattle.table.specs.TableLaws.{table-count}
 use Rattle.unneeded.specs.Unneeded.{Finding}
 use Rattle.unneeded.specs.FindingLaws.{finding-none, finding-more, finding-less, finding-all}
 use Rattle.unneeded.proofs.find_dependencies.Statement.{statement}

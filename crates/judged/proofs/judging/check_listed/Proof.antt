@@ -1,11 +1,12 @@
 -- The table and the listed places are lent to the log's check.
 use mathlib.Core.Path.{_≡_, refl, sym}
-use lib.ListN.{length, length-map, length-take}
+use lib.ListN.{length, length-take}
 use lib.Seq.{length-take-le}
 use native.Mathlib.Omega.{arith}
 use borrow.Author.Needs.{needs}
 use Rattle.model.specs.Layout.{capacity}
-use Rattle.table.specs.Table.{messageFrom, startsOf}
+use Rattle.table.specs.Table.{startsOf}
+use Rattle.table.specs.TableLaws.{deltas-length}
 use Rattle.image_log.specs.LogRead.{ReadsLog}
 use Rattle.judged.proofs.judging.check_listed.Statement.{statement}
 use Rattle.judged.proofs.judging.check_listed.Tie as tie
@@ -88,7 +89,7 @@ check-log-requires c κs =
       p .prepare .ensures,
       record {
         few = omega (arith, length-take (l .logged) (l .places), s .pre .2 .fits);
-        small = λ i k. omega (arith, read s .inside i k, length-map (startsOf (l .table)) (messageFrom (s .args .b .now)));
+        small = λ i k. omega (arith, read s .inside i k, deltas-length (s .args .b .now) (startsOf (l .table)));
       },
     )
 

@@ -2,13 +2,14 @@
 use Prim.Native.Nat.{ℕ, _-_, _<_}
 use mathlib.Core.Path.{_≡_, sym, _∙_, subst}
 use mathlib.Core.List.{List}
-use lib.ListN.{length, getD, take, length-map}
+use lib.ListN.{length, getD, take}
 use lib.Seq.{length-take-le}
 use native.Mathlib.Omega.{arith}
 use borrow.Author.Needs.{needs}
 use Rattle.model.specs.Layout.{capacity}
 use Rattle.model.specs.Order.{State}
-use Rattle.table.specs.Table.{messageFrom, setIn}
+use Rattle.table.specs.Table.{setIn}
+use Rattle.table.specs.TableLaws.{deltas-length}
 use Rattle.needs.specs.RowLaws.{rows-fit}
 use Rattle.log.specs.declared.next.Next.the-variants.{At}
 use Rattle.sorting.specs.Sorted.{Sorted}
@@ -52,7 +53,7 @@ abbrev setOf : tie.Start Inv-loop μ-loop → State
 setOf s = setIn (s .args .pool .now) (s .args .starts .now)
 
 size : (s : tie.Start Inv-loop μ-loop) → length (s .args .starts .now) ≡ length (setOf s .deltas)
-size s = let e = length-map (s .args .starts .now) (messageFrom (s .args .pool .now)) in omega arith
+size s = let e = deltas-length (s .args .pool .now) (s .args .starts .now) in omega arith
 
 sorted-size : (c : tie.After-sort-by-key Inv-loop μ-loop) → length (c .sort-by-key .result) ≡ capacity
 sorted-size c = search needs

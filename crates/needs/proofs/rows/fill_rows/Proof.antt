@@ -2,12 +2,13 @@
 use Prim.Native.Nat.{ℕ, _+_, _*_, _-_, _≤_, _<_}
 use mathlib.Core.Path.{_≡_, refl, sym, _∙_}
 use mathlib.Core.List.{List}
-use lib.ListN.{length, length-set, length-map}
+use lib.ListN.{length, length-set}
 use lib.Seq.{length-take-le}
 use native.Mathlib.Omega.{arith}
 use Rattle.model.specs.Layout.{capacity}
 use Rattle.model.specs.Message.{Message}
-use Rattle.table.specs.Table.{messageFrom, deltasOf, setIn}
+use Rattle.table.specs.Table.{deltasOf, setIn}
+use Rattle.table.specs.TableLaws.{deltas-length, table-count}
 use Rattle.needs.specs.NameLaws.{names-read, set-searchable}
 use Rattle.needs.specs.Rows.{rowSize, rowOf, RowIs}
 use Rattle.needs.specs.RowLaws.{rows-length, rows-more}
@@ -42,16 +43,10 @@ abbrev deltas : tie.Start Inv-loop μ-loop → List Message
 deltas s = deltasOf (s .args .pool .now) (s .args .starts .now)
 
 size : (s : tie.Start Inv-loop μ-loop) → length (s .args .starts .now) ≡ length (deltas s)
-size s = sym (length-map (s .args .starts .now) (messageFrom (s .args .pool .now)))
+size s = sym (deltas-length (s .args .pool .now) (s .args .starts .now))
 
 few : (s : tie.Start Inv-loop μ-loop) → length (s .args .starts .now) ≤ capacity
-few s = omega (arith, size s, s .pre .2 .fits)
-
-slice-aggregate-read-sequences : tie.Need-slice-aggregate-read-sequences Inv-loop μ-loop
-slice-aggregate-read-sequences c = refl
-
-slice-aggregate-read-sequences-2 : tie.Need-slice-aggregate-read-sequences-2 Inv-loop μ-loop
-slice-aggregate-read-sequences-2 c = refl
+few s = table-count (s .args .pool .now) (s .args .starts .now) (s .pre .2)
 
 read-sequences-requires : tie.Need-read-sequences-requires Inv-loop μ-loop
 read-sequences-requires c κs = (refl, refl, c .before .before .before .before .before .before .pre .2)
@@ -102,9 +97,6 @@ slice-write-counts c = omega (arith, few (start (turn (lent c))), turn (lent c) 
 add-i : tie.Need-add-i Inv-loop μ-loop
 add-i c = omega (arith, few (start (turn (lent c))))
 
-loop-less : tie.Need-loop-less Inv-loop μ-loop
-loop-less c = omega arith
-
 loop-again : tie.Need-loop-again Inv-loop μ-loop
 loop-again c =
     let a = turn (lent c) in
@@ -143,8 +135,8 @@ fill-rows-spec =
     (tie.spec
     Inv-loop
     μ-loop
-    slice-aggregate-read-sequences
-    slice-aggregate-read-sequences-2
+    (λ c. refl)
+    (λ c. refl)
     read-sequences-requires
     loop-holds
     mul-fill-row
@@ -156,7 +148,7 @@ fill-rows-spec =
     cast-counts
     slice-write-counts
     add-i
-    loop-less
+    (λ c. omega arith)
     loop-again
     same-length
     same-length-2

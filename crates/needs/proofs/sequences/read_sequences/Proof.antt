@@ -1,10 +1,11 @@
 -- The parts that are read so far are those of the first messages' sequences.
 use Prim.Native.Nat.{ℕ, _-_, _≤_, _<_}
 use mathlib.Core.Path.{_≡_, _∙_}
-use lib.ListN.{length, getD, length-set, length-map}
+use lib.ListN.{length, getD, length-set}
 use native.Mathlib.Omega.{arith}
 use Rattle.model.specs.Layout.{capacity}
-use Rattle.table.specs.Table.{messageFrom, deltasOf}
+use Rattle.table.specs.Table.{deltasOf}
+use Rattle.table.specs.TableLaws.{deltas-length, table-count}
 use Rattle.table.specs.Places.{sequenceIn}
 use Rattle.needs.specs.Names.{nameOf}
 use Rattle.needs.specs.NameLaws.{names-more, names-of-set}
@@ -23,12 +24,9 @@ abbrev μ-loop : tie.MeasureT-loop
 abbrev start : tie.At-loop Inv-loop μ-loop → tie.Start Inv-loop μ-loop
 start a = a .before .before .before .before .before
 
-size : (s : tie.Start Inv-loop μ-loop) → length (deltasOf (s .args .pool .now) (s .args .starts .now)) ≡ length (s .args .starts .now)
-size s = length-map (s .args .starts .now) (messageFrom (s .args .pool .now))
-
 -- a turn's index is one of the arrays
 inside : (t : tie.In-loop Inv-loop μ-loop) → t .before .loop .i < capacity
-inside t = omega (arith, size (start (t .before)), start (t .before) .pre .2 .fits)
+inside t = let s = start (t .before) in omega (arith, table-count (s .args .pool .now) (s .args .starts .now) (s .pre .2))
 
 loop-holds : tie.Need-loop-holds Inv-loop μ-loop
 loop-holds c = let s = c .before .before .before .before in (omega arith, s .pre .0, s .pre .1, λ k h. let z : ⊥ = omega arith in absurd z)
@@ -50,9 +48,6 @@ slice-write-low c = omega (arith, inside (c .before))
 
 add-i : tie.Need-add-i Inv-loop μ-loop
 add-i c = omega (arith, inside (c .before))
-
-loop-less : tie.Need-loop-less Inv-loop μ-loop
-loop-less c = omega arith
 
 loop-again : tie.Need-loop-again Inv-loop μ-loop
 loop-again c =
@@ -81,7 +76,7 @@ returns c =
       low-size = l .inv .2;
       names =
           names-of-set (deltasOf (s .args .pool .now) (s .args .starts .now)) (l .high) (l .low) (omega (arith, s .pre .2 .fits)) (omega arith)
-          (λ k h. l .inv .3 k (omega (arith, size s)));
+          (λ k h. l .inv .3 k (omega (arith, deltas-length (s .args .pool .now) (s .args .starts .now))));
     }
 
 pub read-sequences-spec : {M : Type 1} → statement M
@@ -97,7 +92,7 @@ read-sequences-spec =
     mul-low
     slice-write-low
     add-i
-    loop-less
+    (λ c. omega arith)
     loop-again
     same-length
     same-length-2
