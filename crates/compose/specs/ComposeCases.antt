@@ -1,6 +1,6 @@
 -- The cases of compose: which answer the definitions give, by what is known of the arguments.
-use mathlib.Core.Path.{_≡_, refl, sym, _∙_, ap, ap₂}
-use mathlib.Core.Bool.{Bool, true, false, cond, not, _&&_, _||_}
+use mathlib.Core.Path.{_≡_, refl, sym, _∙_, ap}
+use mathlib.Core.Bool.{Bool, true, false, not, _&&_, _||_}
 use mathlib.Core.List.{List}
 use Prim.Native.Nat.{ℕ}
 use lib.ListN.{length}
@@ -9,9 +9,10 @@ use Rattle.model.specs.Bytes.{isBytes, number}
 use Rattle.model.specs.Layout.{imageSize, messageRoom, lineSize}
 use Rattle.model.specs.Image.{stateIn, isImage}
 use Rattle.model.specs.Compose.{composed}
-use Rattle.model.specs.Codes.{lowestCode, wrongSize, commandsSized, composeContent}
+use Rattle.model.specs.Codes.{lowestCode, wrongSize, commandsSized, composeContent, composeConditions}
 use Rattle.model.specs.Calls.{Composed, composeAnswer, composeCode, compose}
 use Rattle.order.specs.TestLaws.{is-true}
+use Rattle.code_ladder.specs.Ladder.{Answers, Passed, met, free, fails, passes}
 use Rattle.compose_message.specs.Answer.{refusal}
 use Rattle.compose_checks.specs.Checks.{sizesRight}
 use Rattle.compose_message.specs.Stages.{lateConditions, lateAnswer}
@@ -26,12 +27,9 @@ module _ (b line commands : List ℕ) (flag priority : ℕ) (buffer : List ℕ) 
   abbrev answer : ℕ → Composed
   answer code = composeAnswer code (composed (stateIn b) (number line) commands (eqb flag 1) priority) buffer
 
-  by-tests : {w i s c : Bool} → wrong ≡ w → isImage b ≡ i → commandsSized commands ≡ s → composeContent commands flag priority ≡ c
-      → compose b line commands flag priority buffer ≡ answer (cond w 1 (cond (not i) 2 (cond (not s) 3 (cond (not c) 6 late))))
+  answered : {n : ℕ} → Answers (composeConditions b line commands flag priority (length buffer)) n → answer n ≡ compose b line commands flag priority buffer
   unfolding compose composeCode
-  by-tests {w} {i} {s} {c} p q r t =
-      ap₂ (λ (x y : Bool). answer (cond x 1 (cond (not y) 2 (cond (not (commandsSized commands)) 3 (cond (not (composeContent commands flag priority)) 6 late))))) p q
-      ∙ ap₂ (λ (x y : Bool). answer (cond w 1 (cond (not i) 2 (cond (not x) 3 (cond (not y) 6 late))))) r t
+  answered r = ap answer (sym (r .is))
 
   -- ---- 1
   module _ (bytes : T (isBytes line)) where
@@ -46,7 +44,7 @@ module _ (b line commands : List ℕ) (flag priority : ℕ) (buffer : List ℕ) 
         go false r l = refl
 
     pub sizes-case : false ≡ sizesRight (length b) (length buffer) (length line) → refusal 1 buffer ≡ compose b line commands flag priority buffer
-    sizes-case e = sym (by-tests (wrong-is ∙ ap not (sym e)) refl refl refl)
+    sizes-case e = answered (met (wrong-is ∙ ap not (sym e)))
 
     module _ (sizes : true ≡ sizesRight (length b) (length buffer) (length line)) where
       right : wrong ≡ false
@@ -54,17 +52,20 @@ module _ (b line commands : List ℕ) (flag priority : ℕ) (buffer : List ℕ) 
 
       -- ---- 2, 3 and 6
       pub image-case : isImage b ≡ false → refusal 2 buffer ≡ compose b line commands flag priority buffer
-      image-case e = sym (by-tests right e refl refl)
+      image-case e = answered (free right (fails (sym e)))
 
       module _ (image : T (isImage b)) where
+        image-passed : Passed 2 (composeConditions b line commands flag priority (length buffer))
+        image-passed n r = free right (passes (sym (is-true (isImage b) image)) r)
+
         pub commands-case : false ≡ commandsSized commands → refusal 3 buffer ≡ compose b line commands flag priority buffer
-        commands-case e = sym (by-tests right (is-true (isImage b) image) (sym e) refl)
+        commands-case e = answered (image-passed 3 (fails e))
 
         module _ (eights : true ≡ commandsSized commands) where
           pub content-case : false ≡ composeContent commands flag priority → refusal 6 buffer ≡ compose b line commands flag priority buffer
-          content-case e = sym (by-tests right (is-true (isImage b) image) (sym eights) (sym e))
+          content-case e = answered (image-passed 6 (passes eights (fails e)))
 
           -- ---- 9 to 11, and the message
           pub late-case : true ≡ composeContent commands flag priority → lateAnswer (stateIn b) (number line) commands flag priority buffer ≡ compose b line commands flag priority buffer
           unfolding lateAnswer
-          late-case e = sym (by-tests right (is-true (isImage b) image) (sym eights) (sym e))
+          late-case e = answered (image-passed late (passes eights (passes e (record { is = refl }))))

@@ -2,7 +2,7 @@
 -- its execution the first step.
 use mathlib.Core.Path.{_≡_, refl, sym, _∙_, ap, ap₂, subst}
 use mathlib.Core.Logic.{_⊎_, inl, inr, ⊎-elim}
-use mathlib.Core.Bool.{Bool, true, false, cond, not, _&&_, _||_}
+use mathlib.Core.Bool.{Bool, true, false, not, _&&_, _||_}
 use mathlib.Core.Option.{some}
 use mathlib.Core.List.{List, [], _∷_, _++_, map, List·Memᴰ·append-cases, Memᴰ·append-left, Memᴰ·append-right, Memᴰ·map, Memᴰ·of-map, map-append}
 use Prim.Native.Nat.{ℕ, zero, suc, _+_, _-_, _/_, _^_, _≤_, _<_}
@@ -19,7 +19,7 @@ use Rattle.model.specs.Order.{State, add, insert, Ascending, sequencesOf, needs
 use Rattle.model.specs.Image.{imageOf, Valid, stateIn, isImage}
 use Rattle.model.specs.Steps.{Step, execute, common, stepsOf, undosOf, readSteps}
 use Rattle.model.specs.Compose.{newNumber, newSequence, unneeded, newDependencies, newGroup, newBlock, composed}
-use Rattle.model.specs.Codes.{commandsSized, composeContent, heldOn, pastLimit, manyDependencies, smallSteps, conflicts, full, present}
+use Rattle.model.specs.Codes.{composeConditions, commandsSized, composeContent, heldOn, smallSteps, conflicts, full, present}
 use Rattle.model.specs.Calls.{Composed, composeAnswer, composeCode, compose, deliver}
 use Rattle.model.specs.PlainStation.{accepts, receive}
 use Rattle.model_runs.specs.Run.{delivery, CallAgrees}
@@ -37,6 +37,7 @@ use Rattle.laws.specs.ImageLaws.{log-passes, image-own, own-valid}
 use Rattle.laws.specs.CodeLaws.{compose-code}
 use Rattle.laws.specs.DeliverLaws.{code-zero, receive-accepted}
 use Rattle.run_laws.specs.RunLaws.{steps-read, call-facts}
+use Rattle.code_ladder.specs.Ladder.{all-free, not-not}
 use Rattle.compose_laws.specs.ComposedMessage.{HasParts, Parts, made-parts, made-passes}
 use Rattle.compose_laws.specs.ComposeFacts.{own-numbered, own-new, predecessor-logged, dependency-logged, dependencies-ascend, dependencies-numbered, dependencies-other, dependencies-not-predecessor, unneeded-named}
 
@@ -74,43 +75,28 @@ pub record Granted (b line commands : List ℕ) (flag priority room : ℕ) : Typ
   pub block-small : newBlock (stateIn b) (eqb flag 1) ≤ fieldLimit
   pub few : length (newDependencies (stateIn b) (newSequence (stateIn b) (number line))) ≤ mostDependencies
 
-none-applies : (a b c d e f g : Bool) → _≡_ {A = ℕ} (cond a 1 (cond b 2 (cond c 3 (cond d 6 (cond e 9 (cond f 10 (cond g 11 0))))))) 0
-    → T (not a) × T (not b) × T (not c) × T (not d) × T (not e) × T (not f) × T (not g)
-none-applies true b c d e f g q = absurd (suc-ne-zero 0 q)
-none-applies false true c d e f g q = absurd (suc-ne-zero 1 q)
-none-applies false false true d e f g q = absurd (suc-ne-zero 2 q)
-none-applies false false false true e f g q = absurd (suc-ne-zero 5 q)
-none-applies false false false false true f g q = absurd (suc-ne-zero 8 q)
-none-applies false false false false false true g q = absurd (suc-ne-zero 9 q)
-none-applies false false false false false false true q = absurd (suc-ne-zero 10 q)
-none-applies false false false false false false false q = (tt, tt, tt, tt, tt, tt, tt)
-
-not-not : (b : Bool) → T (not (not b)) → T b
-not-not true t = tt
-not-not false t = t
-
 granted : (b line commands : List ℕ) (flag priority room : ℕ) → composeCode b line commands flag priority room ≡ 0 → Granted b line commands flag priority room
 unfolding composeCode
 granted b line commands flag priority room q =
     let S = stateIn b in
     let s = newSequence S (number line) in
-    let h = none-applies (not (eqb (length b) imageSize) || ltb room messageRoom || not (isBytes line && eqb (length line) lineSize)) (not (isImage b)) (not (commandsSized commands)) (not (composeContent commands flag priority))
-    (heldOn S (number line)) (pastLimit S (number line) (eqb flag 1)) (manyDependencies S (number line)) q in
+    let h = all-free (composeConditions b line commands flag priority room) (omega arith) q in
+    let late = h .1 .1 .1 .1 in
     let l : T (isBytes line && eqb (length line) lineSize) =
     not-not (isBytes line && eqb (length line) lineSize) (nor-r (not (eqb (length b) imageSize) || ltb room messageRoom) (not (isBytes line && eqb (length line) lineSize)) (h .0)) in
     let n : T (not (leb numbersOfLine (newNumber S (number line)) || ltb fieldLimit (newGroup S s))) =
-    nor-l (leb numbersOfLine (newNumber S (number line)) || ltb fieldLimit (newGroup S s)) (ltb fieldLimit (newBlock S (eqb flag 1))) (h .5) in
+    nor-l (leb numbersOfLine (newNumber S (number line)) || ltb fieldLimit (newGroup S s)) (ltb fieldLimit (newBlock S (eqb flag 1))) (late .1 .0) in
     record {
       line-bytes = and-l (isBytes line) (eqb (length line) lineSize) l;
       line-length = eqb→eq (length line) lineSize (and-r (isBytes line) (eqb (length line) lineSize) l);
-      image = not-not (isImage b) (h .1);
-      sized = not-not (commandsSized commands) (h .2);
-      content = not-not (composeContent commands flag priority) (h .3);
-      free = h .4;
+      image = not-not (isImage b) (h .1 .0);
+      sized = not-not (commandsSized commands) (h .1 .1 .0);
+      content = not-not (composeContent commands flag priority) (h .1 .1 .1 .0);
+      free = late .0;
       number-small = nleb→lt numbersOfLine (newNumber S (number line)) (nor-l (leb numbersOfLine (newNumber S (number line))) (ltb fieldLimit (newGroup S s)) n);
       group-small = nltb→le fieldLimit (newGroup S s) (nor-r (leb numbersOfLine (newNumber S (number line))) (ltb fieldLimit (newGroup S s)) n);
-      block-small = nltb→le fieldLimit (newBlock S (eqb flag 1)) (nor-r (leb numbersOfLine (newNumber S (number line)) || ltb fieldLimit (newGroup S s)) (ltb fieldLimit (newBlock S (eqb flag 1))) (h .5));
-      few = nltb→le mostDependencies (length (newDependencies S s)) (h .6);
+      block-small = nltb→le fieldLimit (newBlock S (eqb flag 1)) (nor-r (leb numbersOfLine (newNumber S (number line)) || ltb fieldLimit (newGroup S s)) (ltb fieldLimit (newBlock S (eqb flag 1))) (late .1 .0));
+      few = nltb→le mostDependencies (length (newDependencies S s)) (late .1 .1 .0);
     }
 
 module _ (b line commands : List ℕ) (flag priority room : ℕ) (g : Granted b line commands flag priority room) where

@@ -1,12 +1,2 @@
-// What deliver answers: the counts of its steps, or why it refused.
-pub enum Delivery {
-    Accepted { undos: usize, executions: usize },
-    WrongSize,
-    NoImage,
-    WrongLayout,
-    WrongNumber,
-    WrongDependencies,
-    WrongContent,
-    Conflict,
-    Full,
-}
+// What deliver answers.
+pub use deliver_taking::answer::Delivery;

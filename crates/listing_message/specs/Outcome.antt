@@ -6,8 +6,8 @@ use Rattle.model.specs.Calls.{Delivered, deliver}
 use Rattle.model.specs.Program.{printedLine, stepBuffer}
 use Rattle.decimal.specs.Puts.{Puts}
 use Rattle.listing_lines.specs.Rooms.{lineRoom}
-use Rattle.deliver.specs.declared.answer.Delivery.{Delivery}
-use Rattle.deliver.specs.Answer.{deliveredBy}
+use Rattle.deliver_taking.specs.declared.answer.Delivery.{Delivery}
+use Rattle.deliver_taking.specs.Answer.{deliveredBy}
 use Rattle.listing_message.specs.declared.delivering.Outcome.{Outcome}
 
 -- The answer with an outcome's code and counts.

@@ -4,8 +4,8 @@ use mathlib.Core.List.{List}
 use Prim.Native.Nat.{ℕ}
 use Rattle.model.specs.Calls.{Delivered, deliver}
 use Rattle.model.specs.Program.{printedLine, stepBuffer}
-use Rattle.deliver.specs.declared.answer.Delivery.{Delivery}
-use Rattle.deliver.specs.Answer.{deliveredBy}
+use Rattle.deliver_taking.specs.declared.answer.Delivery.{Delivery}
+use Rattle.deliver_taking.specs.Answer.{deliveredBy}
 use Rattle.decimal.specs.Puts.{Puts}
 use Rattle.decimal.specs.PutsLaws.{puts-as}
 use Rattle.listing_lines.specs.Rooms.{lineRoom}

@@ -1,6 +1,6 @@
 // One message delivered, and what its line says.
-use deliver::answer::Delivery;
 use deliver::delivery::deliver;
+use deliver_taking::answer::Delivery;
 use layout::STEP_ROOM;
 use listing_lines::printing::put_line;
 ghost use mathlib.Core.Path.{_≡_};

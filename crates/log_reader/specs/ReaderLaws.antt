@@ -1,7 +1,6 @@
 -- The reader moves on past the part that it gave, which ends inside 64 bits.
-use mathlib.Core.Path.{_≡_, refl, ap, ap₂}
+use mathlib.Core.Path.{_≡_, refl, sym, ap}
 use mathlib.Core.Logic.{⊎-elim}
-use mathlib.Core.Bool.{Bool, true, cond, not}
 use mathlib.Core.List.{List}
 use Prim.Native.Nat.{ℕ, zero, suc, _+_, _^_, _≤_, _<_}
 use native.Mathlib.Omega.{arith}
@@ -15,7 +14,7 @@ use Rattle.model.specs.Codes.{lowestCode, readConditions}
 use Rattle.model.specs.Calls as model
 use Rattle.model.specs.Calls.{nextMessage}
 use Rattle.laws.specs.OffsetLaws.{Placed, message-placed, log-count, log-offset}
-use Rattle.reading.specs.ReadCodes.{all-right}
+use Rattle.code_ladder.specs.Ladder.{Answers, all-free, not-not}
 use Rattle.reading.specs.PartLaws.{part-lies, part-size}
 use Rattle.log_reader.specs.declared.reader.LogReader.{LogReader}
 use Rattle.log_reader.specs.Reader.{firstOffset, Starts, readOf, Reads}
@@ -25,9 +24,8 @@ abbrev pub nextOf : List ℕ → ℕ → Message
 nextOf b offset = nextMessage (lowestCode (readConditions b)) b offset
 
 -- 1 or 2, and else what was looked for
-pub next-told : (b : List ℕ) (offset : ℕ) {sized image : Bool} → sized ≡ eqb (length b) imageSize → image ≡ isImage b
-    → nextMessage (cond (not sized) 1 (cond (not image) 2 0)) b offset ≡ nextMessage (lowestCode (readConditions b)) b offset
-next-told b offset s i = ap₂ (λ (x y : Bool). nextMessage (cond (not x) 1 (cond (not y) 2 0)) b offset) s i
+pub next-told : (b : List ℕ) (offset : ℕ) {n : ℕ} → Answers (readConditions b) n → nextMessage n b offset ≡ nextMessage (lowestCode (readConditions b)) b offset
+next-told b offset r = ap (λ (n : ℕ). nextMessage n b offset) (sym (r .is))
 
 pub starts-at : (r : LogReader) → r .offset ≡ firstOffset (now (r .image)) → Starts (now (r .image)) r
 unfolding model.start
@@ -39,7 +37,9 @@ reads-on r part e = ap (λ (m : Message). readOf m (record { image = now (r .ima
 
 -- 0 is answered for an image only
 pub code-image : (b : List ℕ) → lowestCode (readConditions b) ≡ 0 → (length b ≡ imageSize) × T (isImage b)
-code-image b e = let right = all-right (eqb (length b) imageSize) (isImage b) true e in (eqb→eq (length b) imageSize (right .0), right .1)
+code-image b e =
+    let r = all-free (readConditions b) (omega arith) e in
+    (eqb→eq (length b) imageSize (not-not (eqb (length b) imageSize) (r .0)), not-not (isImage b) (r .1 .0))
 
 pub next-fits : (b : List ℕ) (offset : ℕ) → offset < 2 ^ 64 → offset + length (nextOf b offset) < 2 ^ 64
 next-fits b offset h = go (lowestCode (readConditions b)) refl

@@ -5,13 +5,13 @@ use Prim.Native.Nat.{ℕ, _<_}
 use native.Mathlib.Omega.{arith}
 use Rattle.model.specs.Message.{Message}
 use Rattle.model.specs.Calls as model
-use Rattle.deliver.specs.declared.answer.Delivery.{Delivery}
-use Rattle.deliver.specs.declared.answer.Delivery.the-variants as delivery
+use Rattle.deliver_taking.specs.declared.answer.Delivery.{Delivery}
+use Rattle.deliver_taking.specs.declared.answer.Delivery.the-variants as delivery
 use Rattle.emptying.specs.declared.Emptying.{Emptying}
 use Rattle.emptying.specs.declared.Emptying.the-variants as emptying
-use Rattle.deliver.specs.Answer.{deliveredBy}
+use Rattle.deliver_taking.specs.Answer.{deliveredBy}
 use Rattle.emptying.specs.EmptyAnswer.{emptiedBy}
-use Rattle.deliver.specs.CountLaws.{Counted, deliver-counted}
+use Rattle.packing.specs.CountLaws.{Counted, deliver-counted}
 use Rattle.packing.specs.Packing.{packed, AnswerFits, Unpacks}
 use Rattle.packing.specs.PackingLaws.{unpacked}
 use Rattle.packing.specs.Answers.{Empties, Delivers, Small, packedBy, codeBy}

@@ -5,8 +5,8 @@ use Prim.Native.Nat.{ℕ, _≤_}
 use Rattle.model.specs.Layout.{capacity}
 use Rattle.model.specs.Message.{Message}
 use Rattle.model.specs.Calls.{empty, deliver}
-use Rattle.deliver.specs.declared.answer.Delivery.{Delivery}
-use Rattle.deliver.specs.declared.answer.Delivery.the-variants as delivery
+use Rattle.deliver_taking.specs.declared.answer.Delivery.{Delivery}
+use Rattle.deliver_taking.specs.declared.answer.Delivery.the-variants as delivery
 use Rattle.emptying.specs.declared.Emptying.{Emptying}
 use Rattle.emptying.specs.declared.Emptying.the-variants as emptying
 use Rattle.packing.specs.Packing.{packed, Unpacks}

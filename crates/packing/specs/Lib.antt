@@ -1,6 +1,7 @@
 pub mod Packing
 pub mod PackingLaws
 pub mod Answers
+pub mod CountLaws
 pub mod AnswerLaws
 pub mod ReadAnswers
 pub mod ReadAnswerLaws

@@ -1,5 +1,5 @@
 // The answers of deliver and of empty.
-use deliver::answer::Delivery;
+use deliver_taking::answer::Delivery;
 use emptying::Emptying;
 ghost use mathlib.Core.Path.{_≡_};
 ghost use Rattle.packing.specs.Packing.{packed, AnswerFits};

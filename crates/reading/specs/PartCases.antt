@@ -10,26 +10,18 @@ use borrow.Author.Tests.{leb-false, ne-eqb, not-true}
 use Rattle.model.specs.Bytes.{field}
 use Rattle.model.specs.Layout.{lengthAt, headerSize, imageSize}
 use Rattle.model.specs.Image.{isImage, logCount, logIn, messageOffset}
+use Rattle.model.specs.Codes.{logMessageConditions}
 use Rattle.model.specs.Calls.{logMessageCode, logMessage}
 use Rattle.order.specs.TestLaws.{true-T}
 use Rattle.table.specs.TableLaws.{Lies}
+use Rattle.code_ladder.specs.Ladder.{Answers, none, free, passes, all-free, not-not}
 use Rattle.reading.specs.Parts.{Part, partAnswer, logPart}
 use Rattle.reading.specs.PartLaws.{part-lies, part-size, part-is}
-use Rattle.reading.specs.ReadCodes.{all-right, place-told}
 
 module _ (b : List ℕ) (place : ℕ) where
-  part-told : (n : ℕ) → n ≡ logMessageCode b place → partAnswer n b place ≡ logPart b place
-  unfolding logPart
-  part-told n e = ap (λ (k : ℕ). partAnswer k b place) e
-
-  pub part-wrong-size : false ≡ eqb (length b) imageSize → record { code = 1; offset = 0; size = 0 } ≡ logPart b place
-  part-wrong-size s = part-told 1 (place-told b s refl place refl)
-
-  pub part-no-image : true ≡ eqb (length b) imageSize → false ≡ isImage b → record { code = 2; offset = 0; size = 0 } ≡ logPart b place
-  part-no-image s i = part-told 2 (place-told b s i place refl)
-
-  pub part-no-place : true ≡ eqb (length b) imageSize → true ≡ isImage b → false ≡ not (leb (logCount b) place) → record { code = 12; offset = 0; size = 0 } ≡ logPart b place
-  part-no-place s i t = part-told 12 (place-told b s i place t)
+  pub part-told : {n : ℕ} → Answers (logMessageConditions b place) n → partAnswer n b place ≡ logPart b place
+  unfolding logPart logMessageCode
+  part-told r = ap (λ (n : ℕ). partAnswer n b place) (sym (r .is))
 
   -- a place of the log
   module _ (s : true ≡ eqb (length b) imageSize) (i : true ≡ isImage b) (t : true ≡ not (leb (logCount b) place)) where
@@ -46,7 +38,7 @@ module _ (b : List ℕ) (place : ℕ) where
     pub part-at : {offset size : ℕ} → offset ≡ messageOffset b place → size ≡ field b (offset + lengthAt) 2 → record { code = 0; offset = offset; size = size } ≡ logPart b place
     part-at e f =
         ap₂ (λ (o n : ℕ). record { code = 0; offset = o; size = n }) e (f ∙ ap (λ (o : ℕ). field b (o + lengthAt) 2) e ∙ sym (part-size b image place below))
-        ∙ part-told 0 (place-told b s i place t)
+        ∙ part-told (passes s (passes i (free (not-true _ (sym t)) none)))
 
 -- ---- the part is the message
 pub record IsPart (b : List ℕ) (place : ℕ) (p : Part) : Type 0 where
@@ -56,9 +48,10 @@ pub record IsPart (b : List ℕ) (place : ℕ) (p : Part) : Type 0 where
 
 -- 0 is answered for a place of an image's log only
 accepted : (b : List ℕ) (place : ℕ) → logMessageCode b place ≡ 0 → (length b ≡ imageSize) × T (isImage b) × (place < logCount b)
+unfolding logMessageCode
 accepted b place e =
-    let r = all-right (eqb (length b) imageSize) (isImage b) (not (leb (logCount b) place)) (place-told b refl refl place refl ∙ e) in
-    (eqb→eq (length b) imageSize (r .0), r .1, nleb→lt (logCount b) place (r .2))
+    let r = all-free (logMessageConditions b place) (omega arith) e in
+    (eqb→eq (length b) imageSize (not-not (eqb (length b) imageSize) (r .0)), not-not (isImage b) (r .1 .0), nleb→lt (logCount b) place (r .1 .1 .0))
 
 pub is-part : (b : List ℕ) (place : ℕ) → IsPart b place (logPart b place)
 unfolding logPart logMessage

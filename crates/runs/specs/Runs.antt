@@ -10,9 +10,9 @@ use Rattle.model.specs.Calls.{Emptied, empty, Delivered, deliver}
 use Rattle.model_runs.specs.Run.{Agreement}
 use Rattle.model_runs.specs.RunOrder.{OrderKept}
 use Rattle.run_laws.specs.CalledRuns.{Began, Answered, called-agreement, called-order}
-use Rattle.deliver.specs.declared.answer.Delivery.{Delivery}
+use Rattle.deliver_taking.specs.declared.answer.Delivery.{Delivery}
 use Rattle.emptying.specs.declared.Emptying.{Emptying}
-use Rattle.deliver.specs.Answer.{deliveredBy}
+use Rattle.deliver_taking.specs.Answer.{deliveredBy}
 use Rattle.emptying.specs.EmptyAnswer.{emptiedBy}
 use Rattle.emptying.proofs.empty.Reads as empty-reads
 use Rattle.deliver.proofs.delivery.deliver.Reads as deliver-reads

@@ -13,7 +13,8 @@ use Rattle.model.specs.Text.{textOf, sequenceBytesIn}
 use Rattle.model.specs.Codes.{lowestCode, readSequencesConditions, writeSequencesConditions}
 use Rattle.model.specs.Calls.{written, Converted, convertedAnswer, readSequences, writeSequences}
 use Rattle.model.specs.Program.{lineFeed, printable, withoutLineFeed, Printed, printed, printedSequences, printedText, otherForm}
-use Rattle.text_laws.specs.AnswerLaws.{read-by, write-by}
+use Rattle.code_ladder.specs.Ladder.{free}
+use Rattle.text_laws.specs.AnswerLaws.{read-told, write-told}
 use Rattle.text_checks.specs.declared.answer.Conversion.{Conversion}
 use Rattle.text_checks.specs.Answer.{convertedBy, buffer-is}
 use Rattle.text_forms.specs.Forms.{putAtFront, LineSize}
@@ -26,7 +27,7 @@ answer-printed (suc n) new entry = refl
 
 pub sequences-printed : (t entry : List ℕ) → sequencesRoom ≤ length entry → readSequences t entry ≡ putAtFront (printedSequences t) entry
 sequences-printed t entry room =
-    read-by t entry (le-ltb (length entry) sequencesRoom room) refl refl
+    sym (read-told t entry (free (le-ltb (length entry) sequencesRoom room) (record { is = refl })))
     ∙ answer-printed (lowestCode (readSequencesConditions t sequencesRoom)) (sequenceBytesIn t) entry
 
 -- ---- sequences: what the writer wrote, and a line feed behind it
@@ -65,7 +66,7 @@ module _ (b entry : List ℕ) (room : textRoom < length entry) where
   code = lowestCode (writeSequencesConditions b textRoom)
 
   answers : writeSequences b entry ≡ convertedAnswer code (textOf b) entry
-  answers = write-by b entry (le-ltb (length entry) textRoom (omega arith)) refl refl
+  answers = sym (write-told b entry (free (le-ltb (length entry) textRoom (omega arith)) (record { is = refl })))
 
   pub text-printed : (size : ℕ) (exit : List ℕ) → record { code = 0; size = size; buffer = exit } ≡ writeSequences b entry → size ≤ textRoom
       → record { code = 0; size = size + 1; buffer = set exit size lineFeed } ≡ putAtFront (printedText b) entry

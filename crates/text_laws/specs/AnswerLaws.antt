@@ -1,28 +1,16 @@
--- What the reader and the writer answer, by their three tests: room, form and numbers.
-use mathlib.Core.Path.{_≡_, refl, _∙_, ap, ap₂}
-use mathlib.Core.Bool.{Bool, not}
-use mathlib.Core.List.{List, [], _∷_}
+-- What the reader and the writer answer, by their code.
+use mathlib.Core.Path.{_≡_, refl, sym, ap}
+use mathlib.Core.List.{List}
 use Prim.Native.Nat.{ℕ, zero, suc}
-use lib.Dec.{ltb}
 use lib.ListN.{length}
-use Rattle.model.specs.Layout.{sequencesRoom, textRoom}
-use Rattle.model.specs.Text.{textOf, sequenceBytesIn, textRight, sequencesRight, allNumbered}
+use Rattle.model.specs.Text.{textOf, sequenceBytesIn}
 use Rattle.model.specs.Codes.{lowestCode, readSequencesConditions, writeSequencesConditions}
-use Rattle.model.specs.Calls.{Converted, convertedAnswer, readSequences, writeSequences}
-
--- too small is 1, not well formed 13, not numbered 14
-abbrev pub codeOf : Bool → Bool → Bool → ℕ
-codeOf small formed numbered = lowestCode ((1, small) ∷ (13, not formed) ∷ (14, not numbered) ∷ [])
+use Rattle.model.specs.Calls.{convertedAnswer, readSequences, writeSequences}
+use Rattle.code_ladder.specs.Ladder.{Answers}
 
 module _ (new buffer : List ℕ) where
-  abbrev answer : Bool → Bool → Bool → Converted
-  answer small formed numbered = convertedAnswer (codeOf small formed numbered) new buffer
-
-  by-tests : {a b c x y z : Bool} → a ≡ x → b ≡ y → c ≡ z → answer a b c ≡ answer x y z
-  by-tests {c = c} {x = x} {y = y} e f g = ap₂ (λ (s t : Bool). answer s t c) e f ∙ ap (answer x y) g
-
   -- the code of an answer is the one that was found
-  code-is : (n : ℕ) → convertedAnswer n new buffer .code ≡ n
+  pub code-is : (n : ℕ) → convertedAnswer n new buffer .code ≡ n
   code-is zero = refl
   code-is (suc n) = refl
 
@@ -32,10 +20,9 @@ module _ (new buffer : List ℕ) where
   refused (suc n) h = (refl, refl)
 
 -- ---- the reader
-pub read-by : (t buffer : List ℕ) {x y z : Bool} → ltb (length buffer) sequencesRoom ≡ x → textRight t ≡ y → allNumbered (sequenceBytesIn t) ≡ z
-    → readSequences t buffer ≡ convertedAnswer (codeOf x y z) (sequenceBytesIn t) buffer
+pub read-told : (t buffer : List ℕ) {n : ℕ} → Answers (readSequencesConditions t (length buffer)) n → convertedAnswer n (sequenceBytesIn t) buffer ≡ readSequences t buffer
 unfolding readSequences
-read-by t buffer e f g = by-tests (sequenceBytesIn t) buffer e f g
+read-told t buffer r = ap (λ (n : ℕ). convertedAnswer n (sequenceBytesIn t) buffer) (sym (r .is))
 
 pub read-code : (t buffer : List ℕ) → readSequences t buffer .code ≡ lowestCode (readSequencesConditions t (length buffer))
 unfolding readSequences
@@ -46,10 +33,9 @@ unfolding readSequences
 read-refused t buffer h = refused (sequenceBytesIn t) buffer (lowestCode (readSequencesConditions t (length buffer))) h
 
 -- ---- the writer
-pub write-by : (b buffer : List ℕ) {x y z : Bool} → ltb (length buffer) textRoom ≡ x → sequencesRight b ≡ y → allNumbered b ≡ z
-    → writeSequences b buffer ≡ convertedAnswer (codeOf x y z) (textOf b) buffer
+pub write-told : (b buffer : List ℕ) {n : ℕ} → Answers (writeSequencesConditions b (length buffer)) n → convertedAnswer n (textOf b) buffer ≡ writeSequences b buffer
 unfolding writeSequences
-write-by b buffer e f g = by-tests (textOf b) buffer e f g
+write-told b buffer r = ap (λ (n : ℕ). convertedAnswer n (textOf b) buffer) (sym (r .is))
 
 pub write-code : (b buffer : List ℕ) → writeSequences b buffer .code ≡ lowestCode (writeSequencesConditions b (length buffer))
 unfolding writeSequences

@@ -1,10 +1,9 @@
 -- The reader and the writer as calls of the definitions: when they answer 0, and that each gives back what the other was given.
 use mathlib.Core.Path.{_≡_, refl, sym, _∙_, ap, subst}
-use mathlib.Core.Bool.{Bool, true, false, not}
 use mathlib.Core.List.{List}
 use Prim.Native.Nat.{ℕ, zero, suc, _/_, _≤_}
 use native.Mathlib.Omega.{arith}
-use lib.Dec.{T, ltb, nltb→le}
+use lib.Dec.{T, nltb→le}
 use lib.ListN.{length, drop}
 use lib.Seq.{take-at}
 use borrow.Author.Tests.{le-ltb}
@@ -13,22 +12,13 @@ use Rattle.model.specs.Text.{textOf, sequenceBytesIn, textRight, sequencesRight
 use Rattle.model.specs.Codes.{lowestCode, readSequencesConditions, writeSequencesConditions}
 use Rattle.model.specs.Calls.{convertedAnswer, front, readSequences, writeSequences}
 use Rattle.order.specs.TestLaws.{is-true}
-use Rattle.text_laws.specs.AnswerLaws.{codeOf, read-by, write-by}
+use Rattle.code_ladder.specs.Ladder.{none, free, passes, all-free, not-not}
+use Rattle.text_laws.specs.AnswerLaws.{code-is, read-told, write-told}
 use Rattle.text_laws.specs.TextLaws.{Sequences, sized-out, sized-in, text-length, written-reads, written-right, Text, text-out, read-sized, read-writes}
 
 -- ---- an answer of 0
-code-is : (n : ℕ) (new buffer : List ℕ) → convertedAnswer n new buffer .code ≡ n
-code-is zero new buffer = refl
-code-is (suc n) new buffer = refl
-
 front-is : (new buffer : List ℕ) → front (convertedAnswer 0 new buffer) ≡ new
 front-is new buffer = take-at new (drop (length new) buffer) (length new) refl
-
-none-holds : (x y z : Bool) → codeOf x y z ≡ 0 → T (not x) × T y × T z
-none-holds true y z e = let f : ⊥ = omega arith in absurd f
-none-holds false false z e = let f : ⊥ = omega arith in absurd f
-none-holds false true false e = let f : ⊥ = omega arith in absurd f
-none-holds false true true e = (tt, tt, tt)
 
 -- ---- the reader
 record Readable (t buffer : List ℕ) : Type 0 where
@@ -38,14 +28,13 @@ record Readable (t buffer : List ℕ) : Type 0 where
 
 reads : (t buffer : List ℕ) → Readable t buffer → readSequences t buffer ≡ convertedAnswer 0 (sequenceBytesIn t) buffer
 reads t buffer r =
-    read-by t buffer (le-ltb (length buffer) sequencesRoom (r .room)) (is-true (textRight t) (r .formed)) (is-true (allNumbered (sequenceBytesIn t)) (r .numbers))
+    sym (read-told t buffer (free (le-ltb (length buffer) sequencesRoom (r .room)) (passes (sym (is-true (textRight t) (r .formed))) (passes (sym (is-true (allNumbered (sequenceBytesIn t)) (r .numbers))) none))))
 
 readable : (t buffer : List ℕ) → readSequences t buffer .code ≡ 0 → Readable t buffer
 unfolding readSequences
 readable t buffer e =
-    let n = none-holds (ltb (length buffer) sequencesRoom) (textRight t) (allNumbered (sequenceBytesIn t))
-    (sym (code-is (lowestCode (readSequencesConditions t (length buffer))) (sequenceBytesIn t) buffer) ∙ e) in
-    record { room = nltb→le (length buffer) sequencesRoom (n .0); formed = n .1; numbers = n .2 }
+    let n = all-free (readSequencesConditions t (length buffer)) (omega arith) (sym (code-is (sequenceBytesIn t) buffer (lowestCode (readSequencesConditions t (length buffer)))) ∙ e) in
+    record { room = nltb→le (length buffer) sequencesRoom (n .0); formed = not-not (textRight t) (n .1 .0); numbers = not-not (allNumbered (sequenceBytesIn t)) (n .1 .1 .0) }
 
 -- ---- the writer
 record Writable (b buffer : List ℕ) : Type 0 where
@@ -55,14 +44,13 @@ record Writable (b buffer : List ℕ) : Type 0 where
 
 writes : (b buffer : List ℕ) → Writable b buffer → writeSequences b buffer ≡ convertedAnswer 0 (textOf b) buffer
 writes b buffer w =
-    write-by b buffer (le-ltb (length buffer) textRoom (w .room)) (is-true (sequencesRight b) (w .formed)) (is-true (allNumbered b) (w .numbers))
+    sym (write-told b buffer (free (le-ltb (length buffer) textRoom (w .room)) (passes (sym (is-true (sequencesRight b) (w .formed))) (passes (sym (is-true (allNumbered b) (w .numbers))) none))))
 
 writable : (b buffer : List ℕ) → writeSequences b buffer .code ≡ 0 → Writable b buffer
 unfolding writeSequences
 writable b buffer e =
-    let n = none-holds (ltb (length buffer) textRoom) (sequencesRight b) (allNumbered b)
-    (sym (code-is (lowestCode (writeSequencesConditions b (length buffer))) (textOf b) buffer) ∙ e) in
-    record { room = nltb→le (length buffer) textRoom (n .0); formed = n .1; numbers = n .2 }
+    let n = all-free (writeSequencesConditions b (length buffer)) (omega arith) (sym (code-is (textOf b) buffer (lowestCode (writeSequencesConditions b (length buffer)))) ∙ e) in
+    record { room = nltb→le (length buffer) textRoom (n .0); formed = not-not (sequencesRight b) (n .1 .0); numbers = not-not (allNumbered b) (n .1 .1 .0) }
 
 -- ---- "Reading a written list yields the sequences"
 pub written-read : (b buffer : List ℕ) → writeSequences b buffer .code ≡ 0 → (out : List ℕ) → sequencesRoom ≤ length out

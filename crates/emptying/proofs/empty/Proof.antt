@@ -1,12 +1,15 @@
 -- A buffer of the right size becomes the image of no deltas; another is the definitions' refusal.
 use mathlib.Core.Path.{_≡_, sym, ap, _∙_}
 use mathlib.Core.Bool.{true}
+use mathlib.Core.List.{List}
+use Prim.Native.Nat.{ℕ}
 use lib.ListN.{length}
 use lib.Dec.{eqb}
 use borrow.Author.Tests.{eqb-true}
 use Rattle.model.specs.Layout.{imageSize}
 use Rattle.message.specs.Check.{right}
-use Rattle.emptying.specs.EmptyCases.{empty-wrong, empty-done}
+use Rattle.code_ladder.specs.Ladder.{tells, none, fails, passes}
+use Rattle.emptying.specs.EmptyCases.{answered}
 use borrow.Author.Needs.{needs}
 use Rattle.emptying.proofs.empty.Statement.{statement}
 use Rattle.emptying.proofs.empty.Tie as tie
@@ -17,7 +20,7 @@ began c = c .before .before
 
 -- what the check told
 sized : (c : tie.After-enum-told) → true ≡ eqb (length (began (c .before .before) .args .image .now)) imageSize
-sized c = sym (ap right (c .enum-told .given .1)) ∙ c .before .before .check-image-size .ensures
+sized c = tells right (c .enum-told .given .1) (c .before .before .check-image-size .ensures)
 
 check-image-size-requires : tie.Need-check-image-size-requires
 check-image-size-requires c κs = search needs
@@ -31,7 +34,7 @@ enum-told-2 c = search needs
 returns : tie.Need-returns
 returns c =
     let m = c .before .before in
-    empty-wrong (began m .args .image .now) (sym (ap right (c .enum-told2 .given .1)) ∙ m .check-image-size .ensures)
+    answered (began m .args .image .now) (fails (tells right (c .enum-told2 .given .1) (m .check-image-size .ensures)))
 
 put-empty-requires : tie.Need-put-empty-requires
 put-empty-requires c κs = eqb-true (length (began (c .before .before .before) .args .image .now)) imageSize (sym (sized (c .before)))
@@ -43,7 +46,7 @@ returns-2 : tie.Need-returns-2
 returns-2 c =
     let put = c .before .before in
     let t = put .before .before in
-    empty-done (began (t .before .before) .args .image .now) (put .put-empty .last .0) (sized t) (put .put-empty .ensures)
+    ap (λ (i : List ℕ). record { code = 0; image = i }) (put .put-empty .ensures) ∙ answered (began (t .before .before) .args .image .now) (passes (sized t) none)
 
 pub empty-spec : {M : Type 1} → statement M
 empty-spec =

@@ -1,5 +1,5 @@
 -- The checks run in the order of their codes, and each tells one of the definition's tests; what is left is copied.
-use mathlib.Core.Path.{_≡_, refl, sym, _∙_, ap, ap₂}
+use mathlib.Core.Path.{_≡_, sym, _∙_, ap, ap₂}
 use mathlib.Core.Bool.{true, false}
 use mathlib.Core.List.{List}
 use Prim.Native.Nat.{ℕ, _≤_}
@@ -11,9 +11,11 @@ use borrow.Author.Tests.{ltb-false, not-true, not-false}
 use borrow.Author.Needs.{needs}
 use Rattle.model.specs.Layout.{sequencesRoom}
 use Rattle.model.specs.Text.{sequenceBytesIn, textRight, allNumbered}
+use Rattle.model.specs.Codes.{readSequencesConditions}
 use Rattle.order.specs.TestLaws.{true-T}
 use Rattle.message.specs.Check.{right}
-use Rattle.text_laws.specs.AnswerLaws.{read-by}
+use Rattle.code_ladder.specs.Ladder.{Passed, tells, none, met, free, fails, passes}
+use Rattle.text_laws.specs.AnswerLaws.{read-told}
 use Rattle.text_reading.specs.ReadCases.{size-most, exit-length, bytes-are, copied}
 use Rattle.text_reading.proofs.read_sequences.Statement.{statement}
 use Rattle.text_reading.proofs.read_sequences.Tie as tie
@@ -26,10 +28,13 @@ abbrev measured : tie.After-check-text → tie.After-check-sequences-room
 measured c = c .before .before .before
 
 room-right : (c : tie.After-enum-told) → ltb (length (began (c .before .before) .args .sequences .now)) sequencesRoom ≡ false
-room-right c = not-true _ (sym (c .before .before .check-sequences-room .ensures) ∙ ap right (c .enum-told .given .1))
+room-right c = not-true _ (sym (tells right (c .enum-told .given .1) (c .before .before .check-sequences-room .ensures)))
 
-form-right : (c : tie.After-enum-told3) → textRight (began (measured (c .before .before)) .args .text .now) ≡ true
-form-right c = sym (c .before .before .check-text .ensures) ∙ ap right (c .enum-told3 .given .1)
+form-right : (c : tie.After-enum-told3) → true ≡ textRight (began (measured (c .before .before)) .args .text .now)
+form-right c = tells right (c .enum-told3 .given .1) (c .before .before .check-text .ensures)
+
+form-passed : (c : tie.After-enum-told3) → let a = began (measured (c .before .before)) .args in Passed 2 (readSequencesConditions (a .text .now) (length (a .sequences .now)))
+form-passed c n r = free (room-right (c .before .before .before)) (passes (form-right c) r)
 
 -- what was read: at most eight sequences, into an array of that size
 abbrev formed : tie.After-read-text → tie.After-enum-told3
@@ -39,7 +44,7 @@ abbrev text : tie.After-read-text → List ℕ
 text c = began (measured (formed c .before .before)) .args .text .now
 
 fits : (c : tie.After-read-text) → c .read-text .result ≤ sequencesRoom
-fits c = size-most (c .read-text .ensures) (true-T (textRight (text c)) (form-right (formed c)))
+fits c = size-most (c .read-text .ensures) (true-T (textRight (text c)) (sym (form-right (formed c))))
 
 array-size : (c : tie.After-read-text) → length (c .read-text .last .1 .0) ≡ sequencesRoom
 array-size c = exit-length (c .read-text .ensures) (fits c)
@@ -64,7 +69,7 @@ returns : tie.Need-returns
 returns c =
     let k = c .before .before in
     let a = began k .args in
-    sym (read-by (a .text .now) (a .sequences .now) (not-false _ (sym (k .check-sequences-room .ensures) ∙ ap right (c .enum-told2 .given .1))) refl refl)
+    read-told (a .text .now) (a .sequences .now) (met (not-false _ (sym (tells right (c .enum-told2 .given .1) (k .check-sequences-room .ensures)))))
 
 check-text-requires : tie.Need-check-text-requires
 check-text-requires c κs = search needs
@@ -79,13 +84,13 @@ returns-2 : tie.Need-returns-2
 returns-2 c =
     let k = c .before .before in
     let a = began (measured k) .args in
-    sym (read-by (a .text .now) (a .sequences .now) (room-right (k .before)) (sym (k .check-text .ensures) ∙ ap right (c .enum-told4 .given .1)) refl)
+    read-told (a .text .now) (a .sequences .now) (free (room-right (k .before)) (fails (tells right (c .enum-told4 .given .1) (k .check-text .ensures))))
 
 slice-aggregate-read-text : tie.Need-slice-aggregate-read-text
 slice-aggregate-read-text c = search needs
 
 read-text-requires : tie.Need-read-text-requires
-read-text-requires c κs = record { formed = true-T _ (form-right (c .before)); room = lit≤ tt }
+read-text-requires c κs = record { formed = true-T _ (sym (form-right (c .before))); room = lit≤ tt }
 
 array-share-prefix-bytes : tie.Need-array-share-prefix-bytes
 array-share-prefix-bytes c = omega (arith, fits (c .before), array-size (c .before))
@@ -109,7 +114,7 @@ returns-3 c =
     let n = c .before .before in
     let e = formed (reading n) in
     let a = began (measured (e .before .before)) .args in
-    sym (read-by (a .text .now) (a .sequences .now) (room-right (e .before .before .before)) (form-right e) (sym (numbers-are n) ∙ ap right (c .enum-told6 .given .1)))
+    read-told (a .text .now) (a .sequences .now) (form-passed e 14 (fails (tells right (c .enum-told6 .given .1) (numbers-are n))))
 
 slice-aggregate-copy-at : tie.Need-slice-aggregate-copy-at
 slice-aggregate-copy-at c = search needs
@@ -131,7 +136,7 @@ returns-4 c =
     let e = formed r in
     let a = began (measured (e .before .before)) .args in
     ap₂ (λ (n : ℕ) (l : List ℕ). record { code = 0; size = n; buffer = l }) (r .read-text .ensures .sized) (copy .copy-at .ensures ∙ copied (r .read-text .ensures) (a .sequences .now))
-    ∙ sym (read-by (a .text .now) (a .sequences .now) (room-right (e .before .before .before)) (form-right e) (sym (numbers-are (told .before .before)) ∙ ap right (told .enum-told5 .given .1)))
+    ∙ read-told (a .text .now) (a .sequences .now) (form-passed e 0 (passes (tells right (told .enum-told5 .given .1) (numbers-are (told .before .before))) none))
 
 pub read-sequences-spec : {M : Type 1} → statement M
 read-sequences-spec =

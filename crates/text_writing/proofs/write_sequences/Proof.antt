@@ -1,5 +1,5 @@
 -- The checks run in the order of their codes, and each tells one of the definition's tests; what is left is put down.
-use mathlib.Core.Path.{_≡_, refl, sym, _∙_, ap, ap₂}
+use mathlib.Core.Path.{_≡_, sym, _∙_, ap₂}
 use mathlib.Core.Bool.{true, false}
 use mathlib.Core.List.{List}
 use Prim.Native.Nat.{ℕ}
@@ -8,10 +8,12 @@ use lib.Dec.{ltb}
 use borrow.Author.Tests.{ltb-false, not-true, not-false}
 use borrow.Author.Needs.{needs}
 use Rattle.model.specs.Layout.{textRoom}
-use Rattle.model.specs.Text.{sequencesRight, allNumbered}
+use Rattle.model.specs.Text.{sequencesRight}
+use Rattle.model.specs.Codes.{writeSequencesConditions}
 use Rattle.order.specs.TestLaws.{true-T}
 use Rattle.message.specs.Check.{right}
-use Rattle.text_laws.specs.AnswerLaws.{write-by}
+use Rattle.code_ladder.specs.Ladder.{Passed, tells, none, met, free, fails, passes}
+use Rattle.text_laws.specs.AnswerLaws.{write-told}
 use Rattle.text_writing.proofs.write_sequences.Statement.{statement}
 use Rattle.text_writing.proofs.write_sequences.Tie as tie
 
@@ -27,13 +29,14 @@ formed c = c .before .before .before
 
 -- what each told
 room-right : (c : tie.After-enum-told) → ltb (length (began (c .before .before) .args .text .now)) textRoom ≡ false
-room-right c = not-true _ (sym (c .before .before .check-text-room .ensures) ∙ ap right (c .enum-told .given .1))
+room-right c = not-true _ (sym (tells right (c .enum-told .given .1) (c .before .before .check-text-room .ensures)))
 
-form-right : (c : tie.After-enum-told3) → sequencesRight (began (measured (c .before .before)) .args .sequences .now) ≡ true
-form-right c = sym (c .before .before .check-sequences .ensures) ∙ ap right (c .enum-told3 .given .1)
+form-right : (c : tie.After-enum-told3) → true ≡ sequencesRight (began (measured (c .before .before)) .args .sequences .now)
+form-right c = tells right (c .enum-told3 .given .1) (c .before .before .check-sequences .ensures)
 
-numbers-right : (c : tie.After-enum-told5) → allNumbered (began (measured (formed (c .before .before))) .args .sequences .now) ≡ true
-numbers-right c = sym (c .before .before .check-numbers .ensures) ∙ ap right (c .enum-told5 .given .1)
+-- and how far the ladder was passed
+form-passed : (c : tie.After-enum-told3) → let a = began (measured (c .before .before)) .args in Passed 2 (writeSequencesConditions (a .sequences .now) (length (a .text .now)))
+form-passed c n r = free (room-right (c .before .before .before)) (passes (form-right c) r)
 
 check-text-room-requires : tie.Need-check-text-room-requires
 check-text-room-requires c κs = search needs
@@ -48,7 +51,7 @@ returns : tie.Need-returns
 returns c =
     let k = c .before .before in
     let a = began k .args in
-    sym (write-by (a .sequences .now) (a .text .now) (not-false _ (sym (k .check-text-room .ensures) ∙ ap right (c .enum-told2 .given .1))) refl refl)
+    write-told (a .sequences .now) (a .text .now) (met (not-false _ (sym (tells right (c .enum-told2 .given .1) (k .check-text-room .ensures)))))
 
 check-sequences-requires : tie.Need-check-sequences-requires
 check-sequences-requires c κs = search needs
@@ -63,7 +66,7 @@ returns-2 : tie.Need-returns-2
 returns-2 c =
     let k = c .before .before in
     let a = began (measured k) .args in
-    sym (write-by (a .sequences .now) (a .text .now) (room-right (k .before)) (sym (k .check-sequences .ensures) ∙ ap right (c .enum-told4 .given .1)) refl)
+    write-told (a .sequences .now) (a .text .now) (free (room-right (k .before)) (fails (tells right (c .enum-told4 .given .1) (k .check-sequences .ensures))))
 
 check-numbers-requires : tie.Need-check-numbers-requires
 check-numbers-requires c κs = search needs
@@ -77,9 +80,8 @@ enum-told-6 c = search needs
 returns-3 : tie.Need-returns-3
 returns-3 c =
     let n = c .before .before in
-    let k = formed n in
-    let a = began (measured k) .args in
-    sym (write-by (a .sequences .now) (a .text .now) (room-right (k .before)) (form-right (n .before)) (sym (n .check-numbers .ensures) ∙ ap right (c .enum-told6 .given .1)))
+    let a = began (measured (formed n)) .args in
+    write-told (a .sequences .now) (a .text .now) (form-passed (n .before) 14 (fails (tells right (c .enum-told6 .given .1) (n .check-numbers .ensures))))
 
 put-text-requires : tie.Need-put-text-requires
 put-text-requires c κs =
@@ -87,7 +89,7 @@ put-text-requires c κs =
     let k = formed n in
     let a = began (measured k) .args in
     record {
-      formed = true-T (sequencesRight (a .sequences .now)) (form-right (n .before));
+      formed = true-T (sequencesRight (a .sequences .now)) (sym (form-right (n .before)));
       room = ltb-false (length (a .text .now)) textRoom (room-right (k .before));
     }
 
@@ -99,10 +101,9 @@ returns-4 c =
     let put = c .before .before in
     let told = put .before .before in
     let n = told .before .before in
-    let k = formed n in
-    let a = began (measured k) .args in
+    let a = began (measured (formed n)) .args in
     ap₂ (λ (m : ℕ) (l : List ℕ). record { code = 0; size = m; buffer = l }) (put .put-text .ensures .sized) (put .put-text .ensures .put)
-    ∙ sym (write-by (a .sequences .now) (a .text .now) (room-right (k .before)) (form-right (n .before)) (numbers-right told))
+    ∙ write-told (a .sequences .now) (a .text .now) (form-passed (n .before) 0 (passes (tells right (told .enum-told5 .given .1) (n .check-numbers .ensures)) none))
 
 pub write-sequences-spec : {M : Type 1} → statement M
 write-sequences-spec =

@@ -1,5 +1,5 @@
 -- The checks run in the order of their codes; of an image the part is the message that was found, and without one it is empty.
-use mathlib.Core.Path.{_≡_, refl, sym, _∙_, ap, subst}
+use mathlib.Core.Path.{_≡_, sym, _∙_, ap, subst}
 use mathlib.Core.Bool.{true}
 use Prim.Native.Nat.{ℕ, _≤_}
 use native.Mathlib.Omega.{arith}
@@ -15,6 +15,7 @@ use Rattle.model.specs.Codes.{lowestCode, readConditions}
 use Rattle.model.specs.Calls.{nextMessage}
 use Rattle.order.specs.TestLaws.{true-T}
 use Rattle.message.specs.Check.{right}
+use Rattle.code_ladder.specs.Ladder.{tells, none, fails, passes}
 use Rattle.judged.specs.Judging.{IsStation}
 use Rattle.judged.specs.JudgingLaws.{judges-right, judgement}
 use Rattle.read_search.specs.Finding.{startingAt, IsMessage, Finds}
@@ -34,17 +35,17 @@ told c = began (measured (c .before .before))
 
 -- what the checks told
 sized : (c : tie.After-enum-told) → true ≡ eqb (length (began (c .before .before) .args .image .now)) imageSize
-sized c = sym (ap right (c .enum-told .given .1)) ∙ c .before .before .check-image-size .ensures
+sized c = tells right (c .enum-told .given .1) (c .before .before .check-image-size .ensures)
 
 judgement-is : (c : tie.After-read-station) → right (c .read-station .result .check) ≡ isImage (began (measured c) .args .image .now)
 judgement-is c = judgement (began (measured c) .args .image .now) (c .read-station .result) (c .read-station .ensures)
 
 image : (c : tie.After-enum-told3) → true ≡ isImage (told c .args .image .now)
-image c = sym (ap right (c .enum-told3 .given .1)) ∙ judgement-is (c .before .before)
+image c = tells right (c .enum-told3 .given .1) (judgement-is (c .before .before))
 
 -- what is next of an image is what was looked for
 next-is : (c : tie.After-enum-told3) → let a = told c .args in startingAt (a .image .now) (a .offset) ≡ nextMessage (lowestCode (readConditions (a .image .now))) (a .image .now) (a .offset)
-next-is c = let a = told c .args in next-told (a .image .now) (a .offset) (sized (c .before .before .before)) (image c)
+next-is c = let a = told c .args in next-told (a .image .now) (a .offset) (passes (sized (c .before .before .before)) (passes (image c) none))
 
 check-image-size-requires : tie.Need-check-image-size-requires
 check-image-size-requires c κs = search needs
@@ -68,7 +69,7 @@ returns : tie.Need-returns
 returns c =
     let m = c .before .before .before in
     let a = began m .args in
-    next-told (a .image .now) (a .offset) (sym (ap right (c .before .enum-told2 .given .1)) ∙ m .check-image-size .ensures) refl
+    next-told (a .image .now) (a .offset) (fails (tells right (c .before .enum-told2 .given .1) (m .check-image-size .ensures)))
 
 read-station-requires : tie.Need-read-station-requires
 read-station-requires c κs = eqb-true (length (began (c .before .before) .args .image .now)) imageSize (sym (sized c))
@@ -92,7 +93,7 @@ returns-2 : tie.Need-returns-2
 returns-2 c =
     let j = c .before .before .before in
     let a = began (measured j) .args in
-    next-told (a .image .now) (a .offset) (sized (j .before)) (sym (ap right (c .before .enum-told4 .given .1)) ∙ judgement-is j)
+    next-told (a .image .now) (a .offset) (passes (sized (j .before)) (fails (tells right (c .before .enum-told4 .given .1) (judgement-is j))))
 
 -- the offsets of the log, which the station has
 station : (c : tie.After-enum-told3) → IsStation (told c .args .image .now) (c .before .before .read-station .result)

@@ -1,18 +1,19 @@
 -- The checks run in the order of their codes, and each tells what the definition's case asks for; what is left lies at the offset that the walk wrote down.
-use mathlib.Core.Path.{_≡_, sym, _∙_, ap}
+use mathlib.Core.Path.{_≡_, sym}
 use mathlib.Core.Bool.{true, not}
 use Prim.Native.Nat.{_+_, _≤_, _<_}
 use native.Mathlib.Omega.{arith}
 use lib.ListN.{length, getD}
 use lib.Dec.{eqb, leb}
 use borrow.Author.Needs.{needs}
-use borrow.Author.Tests.{eqb-true}
+use borrow.Author.Tests.{eqb-true, not-false}
 use Rattle.model.specs.Layout.{headerSize, imageSize, capacity}
 use Rattle.model.specs.Image.{isImage, logCount, messageOffset}
 use Rattle.message.specs.Check.{right}
+use Rattle.code_ladder.specs.Ladder.{tells, met, fails, passes}
 use Rattle.judged.specs.Judging.{IsStation}
 use Rattle.judged.specs.JudgingLaws.{judges-right, judgement, place-offset}
-use Rattle.reading.specs.PartCases.{part-wrong-size, part-no-image, part-no-place, below, place-inside, part-at}
+use Rattle.reading.specs.PartCases.{part-told, below, place-inside, part-at}
 use Rattle.reading.proofs.locating.locate.Statement.{statement}
 use Rattle.reading.proofs.locating.locate.Tie as tie
 
@@ -28,16 +29,16 @@ judged c = c .before .before .before
 
 -- what the checks told
 sized : (c : tie.After-enum-told) → true ≡ eqb (length (began (c .before .before) .args .image .now)) imageSize
-sized c = sym (ap right (c .enum-told .given .1)) ∙ c .before .before .check-image-size .ensures
+sized c = tells right (c .enum-told .given .1) (c .before .before .check-image-size .ensures)
 
 judgement-is : (c : tie.After-read-station) → right (c .read-station .result .check) ≡ isImage (began (measured c) .args .image .now)
 judgement-is c = judgement (began (measured c) .args .image .now) (c .read-station .result) (c .read-station .ensures)
 
 image : (c : tie.After-enum-told3) → true ≡ isImage (began (measured (c .before .before)) .args .image .now)
-image c = sym (ap right (c .enum-told3 .given .1)) ∙ judgement-is (c .before .before)
+image c = tells right (c .enum-told3 .given .1) (judgement-is (c .before .before))
 
 placed : (c : tie.After-enum-told5) → true ≡ not (let a = began (measured (judged (c .before .before))) .args in leb (logCount (a .image .now)) (a .place))
-placed c = sym (ap right (c .enum-told5 .given .1)) ∙ c .before .before .check-place .ensures
+placed c = tells right (c .enum-told5 .given .1) (c .before .before .check-place .ensures)
 
 check-image-size-requires : tie.Need-check-image-size-requires
 check-image-size-requires c κs = search needs
@@ -51,8 +52,7 @@ enum-told-2 c = search needs
 returns : tie.Need-returns
 returns c =
     let m = c .before .before in
-    let a = began m .args in
-    part-wrong-size (a .image .now) (a .place) (sym (ap right (c .enum-told2 .given .1)) ∙ m .check-image-size .ensures)
+    part-told (began m .args .image .now) (began m .args .place) (fails (tells right (c .enum-told2 .given .1) (m .check-image-size .ensures)))
 
 read-station-requires : tie.Need-read-station-requires
 read-station-requires c κs = eqb-true (length (began (c .before .before) .args .image .now)) imageSize (sym (sized c))
@@ -67,7 +67,7 @@ returns-2 : tie.Need-returns-2
 returns-2 c =
     let j = c .before .before in
     let a = began (measured j) .args in
-    part-no-image (a .image .now) (a .place) (sized (j .before)) (sym (ap right (c .enum-told4 .given .1)) ∙ judgement-is j)
+    part-told (a .image .now) (a .place) (passes (sized (j .before)) (fails (tells right (c .enum-told4 .given .1) (judgement-is j))))
 
 check-place-requires : tie.Need-check-place-requires
 check-place-requires c κs =
@@ -85,7 +85,7 @@ returns-3 c =
     let t = c .before .before in
     let j = judged t in
     let a = began (measured j) .args in
-    part-no-place (a .image .now) (a .place) (sized (j .before)) (image (t .before)) (sym (ap right (c .enum-told6 .given .1)) ∙ t .check-place .ensures)
+    part-told (a .image .now) (a .place) (passes (sized (j .before)) (passes (image (t .before)) (met (not-false _ (sym (tells right (c .enum-told6 .given .1) (t .check-place .ensures)))))))
 
 -- where all three are right
 abbrev told : tie.After-enum-told5 → tie.Start

@@ -6,13 +6,14 @@ use native.Mathlib.Omega.{arith}
 use lib.ListN.{length}
 use lib.Dec.{eqb, leb}
 use borrow.Author.Needs.{needs}
-use borrow.Author.Tests.{eqb-true}
+use borrow.Author.Tests.{eqb-true, not-false}
 use mir.Facts.{toZ-ofZ}
 use Rattle.model.specs.Bytes.{integer}
 use Rattle.model.specs.Layout.{imageSize, tagCount}
 use Rattle.model.specs.Image.{isImage}
 use Rattle.message.specs.Check.{right}
-use Rattle.reading.specs.ValueCases.{value-wrong-size, value-no-image, value-no-tag, tag-below, value-there}
+use Rattle.code_ladder.specs.Ladder.{tells, met, fails, passes}
+use Rattle.reading.specs.ValueCases.{value-told, tag-below, value-there}
 use Rattle.reading.proofs.setpoint.setpoint.Statement.{statement}
 use Rattle.reading.proofs.setpoint.setpoint.Tie as tie
 
@@ -28,13 +29,13 @@ judged c = c .before .before .before
 
 -- what the checks told
 sized : (c : tie.After-enum-told) → true ≡ eqb (length (began (c .before .before) .args .image .now)) imageSize
-sized c = sym (ap right (c .enum-told .given .1)) ∙ c .before .before .check-image-size .ensures
+sized c = tells right (c .enum-told .given .1) (c .before .before .check-image-size .ensures)
 
 image : (c : tie.After-enum-told3) → true ≡ isImage (began (measured (c .before .before)) .args .image .now)
-image c = sym (ap right (c .enum-told3 .given .1)) ∙ c .before .before .check-image .ensures
+image c = tells right (c .enum-told3 .given .1) (c .before .before .check-image .ensures)
 
 named : (c : tie.After-enum-told5) → true ≡ not (leb tagCount (began (measured (judged (c .before .before))) .args .tag))
-named c = sym (ap right (c .enum-told5 .given .1)) ∙ c .before .before .check-tag .ensures
+named c = tells right (c .enum-told5 .given .1) (c .before .before .check-tag .ensures)
 
 check-image-size-requires : tie.Need-check-image-size-requires
 check-image-size-requires c κs = search needs
@@ -48,8 +49,7 @@ enum-told-2 c = search needs
 returns : tie.Need-returns
 returns c =
     let m = c .before .before in
-    let a = began m .args in
-    value-wrong-size (a .image .now) (a .tag) (sym (ap right (c .enum-told2 .given .1)) ∙ m .check-image-size .ensures)
+    value-told (began m .args .image .now) (began m .args .tag) (fails (tells right (c .enum-told2 .given .1) (m .check-image-size .ensures)))
 
 check-image-requires : tie.Need-check-image-requires
 check-image-requires c κs = eqb-true (length (began (c .before .before) .args .image .now)) imageSize (sym (sized c))
@@ -64,7 +64,7 @@ returns-2 : tie.Need-returns-2
 returns-2 c =
     let j = c .before .before in
     let a = began (measured j) .args in
-    value-no-image (a .image .now) (a .tag) (sized (j .before)) (sym (ap right (c .enum-told4 .given .1)) ∙ j .check-image .ensures)
+    value-told (a .image .now) (a .tag) (passes (sized (j .before)) (fails (tells right (c .enum-told4 .given .1) (j .check-image .ensures))))
 
 check-tag-requires : tie.Need-check-tag-requires
 check-tag-requires c κs = search needs
@@ -80,7 +80,7 @@ returns-3 c =
     let t = c .before .before in
     let j = judged t in
     let a = began (measured j) .args in
-    value-no-tag (a .image .now) (a .tag) (sized (j .before)) (image (t .before)) (sym (ap right (c .enum-told6 .given .1)) ∙ t .check-tag .ensures)
+    value-told (a .image .now) (a .tag) (passes (sized (j .before)) (passes (image (t .before)) (met (not-false _ (sym (tells right (c .enum-told6 .given .1) (t .check-tag .ensures)))))))
 
 -- where all three are right
 abbrev told : tie.After-enum-told5 → tie.Start

@@ -2,8 +2,8 @@
 use mathlib.Core.List.{List}
 use Prim.Native.Nat.{ℕ}
 use Rattle.model.specs.Calls.{Delivered}
-use Rattle.deliver.specs.declared.answer.Delivery.{Delivery}
-use Rattle.deliver.specs.declared.answer.Delivery.the-variants as delivery
+use Rattle.deliver_taking.specs.declared.answer.Delivery.{Delivery}
+use Rattle.deliver_taking.specs.declared.answer.Delivery.the-variants as delivery
 
 -- a refusal: its number, and no steps
 abbrev pub refusal : ℕ → List ℕ → List ℕ → Delivered

@@ -1,6 +1,5 @@
 -- A delivery has at most 64 undos and 64 executions, so that its answer fits one number.
 use mathlib.Core.Path.{_≡_, refl, sym, ap, subst}
-use mathlib.Core.Bool.{Bool, true, false, cond, not, _||_}
 use mathlib.Core.List.{List}
 use Prim.Native.Nat.{ℕ, zero, suc, _≤_}
 use native.Mathlib.Omega.{arith}
@@ -10,7 +9,7 @@ use Rattle.model.specs.Layout.{capacity}
 use Rattle.model.specs.Message.{Message, sequenceOf}
 use Rattle.model.specs.Order.{State, sequencesOf, logOf}
 use Rattle.model.specs.Image.{imageOf, Valid, stateIn, isImage}
-use Rattle.model.specs.Codes.{wrongSize, smallSteps}
+use Rattle.model.specs.Codes.{deliverConditions}
 use Rattle.model.specs.Calls.{Delivered, deliverAnswer, deliverCode, deliver}
 use Rattle.model.specs.PlainStation.{receive}
 use Rattle.model_runs.specs.Run.{delivery, CallAgrees}
@@ -18,6 +17,7 @@ use Rattle.laws.specs.LogLaws.{log-length}
 use Rattle.laws.specs.ImageLaws.{image-own, own-valid}
 use Rattle.laws.specs.DeliverLaws.{receive-valid}
 use Rattle.run_laws.specs.RunLaws.{call-facts}
+use Rattle.code_ladder.specs.Ladder.{all-free, not-not}
 
 pub record Counted (d : Delivered) : Type 0 where
   pub undos : d .undos ≤ capacity
@@ -26,12 +26,7 @@ pub record Counted (d : Delivered) : Type 0 where
 -- what is accepted is an image
 accepted-image : (b : List ℕ) (m : Message) (room : ℕ) → deliverCode b m room ≡ 0 → T (isImage b)
 unfolding deliverCode
-accepted-image b m room e = go (wrongSize b || smallSteps room) (isImage b) _ e
-  where
-    go : (s i : Bool) (later : ℕ) → cond s 1 (cond (not i) 2 later) ≡ 0 → T i
-    go true i later e = let z : ⊥ = omega arith in absurd z
-    go false true later e = tt
-    go false false later e = let z : ⊥ = omega arith in absurd z
+accepted-image b m room e = not-not (isImage b) (all-free (deliverConditions b m room) (omega arith) e .1 .0)
 
 names-few : (S : State) → Valid S → length (sequencesOf (logOf S)) ≤ capacity
 names-few S v = omega (arith, length-map (logOf S) sequenceOf, log-length S (v .ascends), v .fits)

@@ -1,27 +1,29 @@
 -- The cases of deliver at a judged station, for a message that passes 3 to 6: by what the checks of 7 and 8 tell, and where its sequence was looked for.
-use mathlib.Core.Path.{_≡_, sym, _∙_, ap}
-use mathlib.Core.Bool.{Bool, true, false, not}
+use mathlib.Core.Path.{_≡_, sym, _∙_, ap, ap₂}
+use mathlib.Core.Bool.{Bool, true, false, not, _&&_, and-false}
 use mathlib.Core.List.{List}
 use Prim.Native.Nat.{ℕ, _≤_, _<_}
 use native.Mathlib.Omega.{arith}
 use lib.ListN.{length, length-map}
 use lib.Seq.{length-take-le}
-use lib.Dec.{ltb}
+use lib.Dec.{ltb, leb}
 use borrow.Author.Tests.{ltb-false, le-leb, lt-leb, not-true, not-false}
+use Rattle.model.specs.Lists.{same}
 use Rattle.model.specs.Layout.{capacity}
 use Rattle.model.specs.Message.{Message, sequenceOf}
-use Rattle.model.specs.Order.{State, add}
+use Rattle.model.specs.Order.{State, find, add}
 use Rattle.model.specs.Image.{stateIn}
-use Rattle.model.specs.Codes.{present, conflicts}
+use Rattle.model.specs.Codes.{present, conflicts, full}
 use Rattle.model.specs.Calls.{acceptedAnswer, deliver}
 use Rattle.table.specs.Table.{startsOf, messageFrom, setIn}
 use Rattle.table.specs.Places.{IsPresent, IsAbsent}
 use Rattle.table.specs.FindLaws.{present-has, absent-has}
 use Rattle.judged.specs.declared.judging.Station.{Station}
-use Rattle.deliver.specs.declared.answer.Delivery.the-variants as delivery
-use Rattle.deliver.specs.Answer.{deliveredBy}
-use Rattle.deliver.specs.Delivering.{Takeable}
-use Rattle.deliver.specs.DeliverCases.{conflict-case, repeat-case, full-case, new-case}
+use Rattle.code_ladder.specs.Ladder.{none, free, met}
+use Rattle.deliver_taking.specs.declared.answer.Delivery.the-variants as delivery
+use Rattle.deliver_taking.specs.Answer.{deliveredBy}
+use Rattle.deliver_taking.specs.Taking.{Takeable}
+use Rattle.deliver_taking.specs.DeliverCases.{answered, repeat-case}
 
 module _ (b : List ℕ) (m : Message) (steps pool : List ℕ) (station : Station) (t : Takeable b m (length steps) pool station) where
   abbrev starts : List ℕ
@@ -35,19 +37,26 @@ module _ (b : List ℕ) (m : Message) (steps pool : List ℕ) (station : Station
 
   -- ---- 7
   pub conflict : false ≡ not (conflicts (setIn b starts) m) → deliveredBy delivery.Conflict b steps ≡ deliver b m steps
-  conflict e = conflict-case b m steps (t .size) (t .steps-room) (t .judged .image) (t .right) (conflicts-is (not-false _ (sym e)))
+  conflict e = answered b m steps (t .passed 7 (met (conflicts-is (not-false _ (sym e)))))
 
   -- its sequence is there
   pub repeated : {i : ℕ} → IsPresent b starts (sequenceOf m) i → true ≡ not (conflicts (setIn b starts) m)
       → deliveredBy (delivery.Accepted 0 0) b steps ≡ deliver b m steps
-  repeated {i} here e =
-      repeat-case b m steps (t .size) (t .steps-room) (t .judged .image) (t .right)
-      (ap (λ (R : State). present R (sequenceOf m)) (sym set-is) ∙ present-has b starts (sequenceOf m) i here) (conflicts-is (not-true _ (sym e)))
+  repeated {i} here e = repeat-case b m steps (t .judged .image) there ∙ answered b m steps (t .passed 0 (free (conflicts-is (not-true _ (sym e))) (free not-full none)))
+    where
+      there : present (stateIn b) (sequenceOf m) ≡ true
+      there = ap (λ (R : State). present R (sequenceOf m)) (sym set-is) ∙ present-has b starts (sequenceOf m) i here
+
+      not-full : full (stateIn b) m ≡ false
+      not-full = ap (λ (p : Bool). leb capacity (length (stateIn b .deltas)) && not p) there ∙ and-false (leb capacity (length (stateIn b .deltas)))
 
   -- its sequence is new
   module _ {p : ℕ} (absent : IsAbsent b starts (sequenceOf m) p) (array : length (station .table .starts) ≡ capacity) where
     new : present (stateIn b) (sequenceOf m) ≡ false
     new = ap (λ (R : State). present R (sequenceOf m)) (sym set-is) ∙ absent-has b starts (sequenceOf m) p absent
+
+    no-conflict : conflicts (stateIn b) m ≡ false
+    no-conflict = ap (λ (t : Bool). t && not (same (find (stateIn b .deltas) (sequenceOf m)) m)) new
 
     count-is : length (stateIn b .deltas) ≡ station .table .count
     count-is =
@@ -55,13 +64,16 @@ module _ (b : List ℕ) (m : Message) (steps pool : List ℕ) (station : Station
         ap (λ (R : State). length (R .deltas)) (sym set-is) ∙ length-map starts (messageFrom b)
         ∙ length-take-le (station .table .count) (station .table .starts) (omega arith)
 
+    full-is : {f : Bool} → leb capacity (length (stateIn b .deltas)) ≡ f → full (stateIn b) m ≡ f && true
+    full-is e = ap₂ (λ (x y : Bool). x && not y) e new
+
     -- ---- 8
     pub filled : false ≡ ltb (station .table .count) capacity → deliveredBy delivery.Full b steps ≡ deliver b m steps
     filled e =
-        full-case b m steps (t .size) (t .steps-room) (t .judged .image) (t .right) new
-        (le-leb capacity (length (stateIn b .deltas)) (omega (arith, count-is, ltb-false (station .table .count) capacity (sym e))))
+        let many : capacity ≤ length (stateIn b .deltas) = omega (arith, count-is, ltb-false (station .table .count) capacity (sym e)) in
+        answered b m steps (t .passed 8 (free no-conflict (met (full-is (le-leb capacity _ many)))))
 
-    pub joins : station .table .count < capacity → deliver b m steps ≡ acceptedAnswer (stateIn b) (add m (stateIn b)) steps
+    pub joins : station .table .count < capacity → acceptedAnswer (stateIn b) (add m (stateIn b)) steps ≡ deliver b m steps
     joins h =
-        new-case b m steps (t .size) (t .steps-room) (t .judged .image) (t .right) new
-        (lt-leb capacity (length (stateIn b .deltas)) (omega (arith, count-is)))
+        let few : length (stateIn b .deltas) < capacity = omega (arith, count-is) in
+        answered b m steps (t .passed 0 (free no-conflict (free (full-is (lt-leb capacity _ few)) none)))

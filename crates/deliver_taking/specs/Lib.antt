@@ -1,5 +1,4 @@
 pub mod Answer
+pub mod Taking
 pub mod DeliverCases
-pub mod Delivering
 pub mod PlaceCases
-pub mod CountLaws

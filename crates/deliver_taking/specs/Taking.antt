@@ -6,6 +6,8 @@ use lib.ListN.{length, take}
 use lib.Dec.{T}
 use Rattle.model.specs.Layout.{imageSize, messageRoom, stepRoom}
 use Rattle.model.specs.Message.{Message, passes}
+use Rattle.model.specs.Codes.{deliverConditions}
+use Rattle.code_ladder.specs.Ladder.{Passed}
 use Rattle.judged.specs.declared.judging.Station.{Station}
 use Rattle.judged.specs.Judging.{IsStation}
 
@@ -14,5 +16,6 @@ pub record Takeable (b : List ℕ) (m : Message) (room : ℕ) (pool : List ℕ) 
   pub steps-room : stepRoom ≤ room
   pub judged : IsStation b station
   pub right : T (passes m)
+  pub passed : Passed 6 (deliverConditions b m room)
   pub pool-size : length pool ≡ imageSize + messageRoom
   pub pooled : take imageSize pool ≡ b

@@ -1,5 +1,5 @@
 -- The message's sequence is looked for; what is there under it is compared, and a new one is taken in at its place, where there is room.
-use mathlib.Core.Path.{_≡_, sym, _∙_, ap, subst}
+use mathlib.Core.Path.{_≡_, sym, _∙_, subst}
 use Prim.Native.Nat.{ℕ, _≤_, _<_}
 use native.Mathlib.Omega.{arith}
 use lib.ListN.{length}
@@ -9,12 +9,13 @@ use Rattle.model.specs.Layout.{capacity}
 use Rattle.model.specs.Message.{sequenceOf}
 use Rattle.wire_laws.specs.MessageLaws.{passes-sized, sized-range}
 use Rattle.message.specs.Check.{right}
+use Rattle.code_ladder.specs.Ladder.{tells}
 use Rattle.table.specs.Table.{startsOf}
 use Rattle.table.specs.Places.{IsAbsent, Finds}
-use Rattle.deliver.specs.PlaceCases.{conflict, repeated, filled, joins}
+use Rattle.deliver_taking.specs.PlaceCases.{conflict, repeated, filled, joins}
 use borrow.Author.Needs.{needs}
-use Rattle.deliver.proofs.delivery.take_in.Statement.{statement}
-use Rattle.deliver.proofs.delivery.take_in.Tie as tie
+use Rattle.deliver_taking.proofs.take_in.Statement.{statement}
+use Rattle.deliver_taking.proofs.take_in.Tie as tie
 
 -- the array's length, and the places in use, which are as many as the table says
 array : (s : tie.Start) → length (s .args .station .table .starts) ≡ capacity
@@ -93,7 +94,7 @@ returns c =
     let r = c .before .before in
     let s = begun r in
     let a = s .args in
-    conflict (a .image .now) (a .message .now) (a .steps .now) (a .pool .now) (a .station) (s .pre) (sym (ap right (c .enum-told2 .given .1)) ∙ r .check-repeat .ensures)
+    conflict (a .image .now) (a .message .now) (a .steps .now) (a .pool .now) (a .station) (s .pre) (tells right (c .enum-told2 .given .1) (r .check-repeat .ensures))
 
 enum-known-place : tie.Need-enum-known-place
 enum-known-place c = search needs
@@ -112,7 +113,7 @@ returns-2 c =
     let a = s .args in
     repeated (a .image .now) (a .message .now) (a .steps .now) (a .pool .now) (a .station) (s .pre)
     (subst (Finds (a .image .now) (startsOf (a .station .table)) (sequenceOf (a .message .now))) (c .enum-told3 .given .1) (found (sought r)))
-    (sym (ap right (t .enum-told .given .1)) ∙ r .check-repeat .ensures)
+    (tells right (t .enum-told .given .1) (r .check-repeat .ensures))
 
 check-room-requires : tie.Need-check-room-requires
 check-room-requires c κs = search needs
@@ -131,11 +132,11 @@ returns-3 c =
     let m = c .before .before in
     let s = begun (checked (new m)) in
     let a = s .args in
-    filled (a .image .now) (a .message .now) (a .steps .now) (a .pool .now) (a .station) (s .pre) (absent (new m)) (array s) (sym (ap right (c .enum-told5 .given .1)) ∙ m .check-room .ensures)
+    filled (a .image .now) (a .message .now) (a .steps .now) (a .pool .now) (a .station) (s .pre) (absent (new m)) (array s) (tells right (c .enum-told5 .given .1) (m .check-room .ensures))
 
 -- there is room
 few : (c : tie.After-enum-told4) → begun (checked (new (c .before .before))) .args .station .table .count < capacity
-few c = ltb-true _ capacity (sym (c .before .before .check-room .ensures) ∙ ap right (c .enum-told4 .given .1))
+few c = ltb-true _ capacity (sym (tells right (c .enum-told4 .given .1) (c .before .before .check-room .ensures)))
 
 accept-requires : tie.Need-accept-requires
 accept-requires c κs =
@@ -160,7 +161,7 @@ returns-4 c =
     let k = new (t .before .before) in
     let s = begun (checked k) in
     let a = s .args in
-    accepted .accept .ensures ∙ sym (joins (a .image .now) (a .message .now) (a .steps .now) (a .pool .now) (a .station) (s .pre) (absent k) (array s) (few t))
+    accepted .accept .ensures ∙ joins (a .image .now) (a .message .now) (a .steps .now) (a .pool .now) (a .station) (s .pre) (absent k) (array s) (few t)
 
 pub take-in-spec : {M : Type 1} → statement M
 take-in-spec =

@@ -1,0 +1,1 @@
+// Laws only: what a call answers by what its checks told.

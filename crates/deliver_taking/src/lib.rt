@@ -1,0 +1,55 @@
+// What a message that passes 3 to 6 meets at a judged station: codes 7 and 8, or the image with the message in it.
+pub mod answer;
+
+use crate::answer::Delivery;
+use accepting::accept;
+use deliver_checks::check_repeat;
+use deliver_checks::check_room;
+use judged::judging::Station;
+use layout::SEQUENCE_AT;
+use message::checks::Check;
+use sequence::read_sequence;
+use table::places::Place;
+use table::places::find;
+ghost use mathlib.Core.Path.{_≡_};
+ghost use lib.ListN.{length};
+ghost use Rattle.model.specs.Calls as model;
+ghost use Rattle.deliver_taking.specs.Answer.{deliveredBy};
+ghost use Rattle.deliver_taking.specs.Taking.{Takeable};
+
+// Codes 7 and 8, of a message that passes 3 to 6. One that is present with equal bytes is accepted with no step; any other is taken in.
+pub fn take_in(
+    image: &mut [u8],
+    message: &[u8],
+    steps: &mut [u8],
+    pool: &mut [u8],
+    station: Station,
+) -> Delivery
+    requires { ⌜ Takeable (now image) (now message) (length (now steps)) (now pool) station ⌝ }
+    ensures { λ r. ⌜ deliveredBy r (now (image .exit)) (now (steps .exit)) ≡ model.deliver (now (image .entry)) (now (message .entry)) (now (steps .entry)) ⌝ }
+{
+    let table = station.table;
+    let starts = table.starts;
+    let count = table.count;
+    let s = read_sequence(message, SEQUENCE_AT);
+    let place = find(image, &starts[..count], s);
+    let repeat = check_repeat(image, &starts[..count], place, message);
+    let Check::Right = repeat else {
+        return Delivery::Conflict;
+    };
+    let Place::Absent(p) = place else {
+        return Delivery::Accepted {
+            undos: 0,
+            executions: 0,
+        };
+    };
+    let room = check_room(count);
+    let Check::Right = room else {
+        return Delivery::Full;
+    };
+    let change = accept(image, message, steps, pool, station, p);
+    Delivery::Accepted {
+        undos: change.undos,
+        executions: change.executions,
+    }
+}
