@@ -5,17 +5,28 @@ use Rattle.model.specs.Calls.{Delivered}
 use Rattle.deliver_taking.specs.declared.answer.Delivery.{Delivery}
 use Rattle.deliver_taking.specs.declared.answer.Delivery.the-variants as delivery
 
--- a refusal: its number, and no steps
-abbrev pub refusal : ℕ → List ℕ → List ℕ → Delivered
-refusal code image steps = record { code = code; undos = 0; executions = 0; image = image; steps = steps }
+abbrev pub codeBy : Delivery → ℕ
+codeBy (delivery.Accepted undos executions) = 0
+codeBy delivery.WrongSize = 1
+codeBy delivery.NoImage = 2
+codeBy delivery.WrongLayout = 3
+codeBy delivery.WrongNumber = 4
+codeBy delivery.WrongDependencies = 5
+codeBy delivery.WrongContent = 6
+codeBy delivery.Conflict = 7
+codeBy delivery.Full = 8
+
+-- undos and executions; a refusal has none
+abbrev pub countsBy : Delivery → ℕ × ℕ
+countsBy (delivery.Accepted undos executions) = (undos, executions)
+countsBy delivery.WrongSize = (0, 0)
+countsBy delivery.NoImage = (0, 0)
+countsBy delivery.WrongLayout = (0, 0)
+countsBy delivery.WrongNumber = (0, 0)
+countsBy delivery.WrongDependencies = (0, 0)
+countsBy delivery.WrongContent = (0, 0)
+countsBy delivery.Conflict = (0, 0)
+countsBy delivery.Full = (0, 0)
 
 abbrev pub deliveredBy : Delivery → List ℕ → List ℕ → Delivered
-deliveredBy (delivery.Accepted undos executions) image steps = record { code = 0; undos = undos; executions = executions; image = image; steps = steps }
-deliveredBy delivery.WrongSize image steps = refusal 1 image steps
-deliveredBy delivery.NoImage image steps = refusal 2 image steps
-deliveredBy delivery.WrongLayout image steps = refusal 3 image steps
-deliveredBy delivery.WrongNumber image steps = refusal 4 image steps
-deliveredBy delivery.WrongDependencies image steps = refusal 5 image steps
-deliveredBy delivery.WrongContent image steps = refusal 6 image steps
-deliveredBy delivery.Conflict image steps = refusal 7 image steps
-deliveredBy delivery.Full image steps = refusal 8 image steps
+deliveredBy d image steps = record { code = codeBy d; undos = countsBy d .0; executions = countsBy d .1; image = image; steps = steps }

@@ -7,16 +7,12 @@ use Rattle.model.specs.Program.{printedLine, stepBuffer}
 use Rattle.decimal.specs.Puts.{Puts}
 use Rattle.listing_lines.specs.Rooms.{lineRoom}
 use Rattle.deliver_taking.specs.declared.answer.Delivery.{Delivery}
-use Rattle.deliver_taking.specs.Answer.{deliveredBy}
+use Rattle.deliver_taking.specs.Answer.{codeBy, countsBy}
 use Rattle.listing_message.specs.declared.delivering.Outcome.{Outcome}
 
--- The answer with an outcome's code and counts.
-abbrev pub deliveredAs : Outcome → List ℕ → List ℕ → Delivered
-deliveredAs r image steps = record { code = r .code; undos = r .undos; executions = r .executions; image = image; steps = steps }
-
--- An outcome tells an answer's code and counts.
-abbrev pub Tells : Delivery → Outcome → Type 0
-Tells d r = (image steps : List ℕ) → deliveredBy d image steps ≡ deliveredAs r image steps
+-- An answer's code and counts.
+abbrev pub outcomeBy : Delivery → Outcome
+outcomeBy d = record { code = codeBy d; undos = countsBy d .0; executions = countsBy d .1 }
 
 -- A delivery of the listing program, under a name that stays shut.
 unfoldable pub answered : List ℕ → List ℕ → Delivered

@@ -1,5 +1,5 @@
 -- An outcome is what deliver answered, and its line is that of the answer.
-use mathlib.Core.Path.{_≡_, sym, _∙_, ap, ap₂}
+use mathlib.Core.Path.{_≡_, _∙_, ap, ap₂}
 use mathlib.Core.List.{List}
 use Prim.Native.Nat.{ℕ}
 use Rattle.model.specs.Calls.{Delivered, deliver}
@@ -11,23 +11,16 @@ use Rattle.decimal.specs.PutsLaws.{puts-as}
 use Rattle.listing_lines.specs.Rooms.{lineRoom}
 use Rattle.listing_lines.specs.LineSizes.{line-few}
 use Rattle.listing_message.specs.declared.delivering.Outcome.{Outcome}
-use Rattle.listing_message.specs.Outcome.{deliveredAs, Tells, answered, Answers, answerLine, Listed}
+use Rattle.listing_message.specs.Outcome.{outcomeBy, answered, Answers, answerLine, Listed}
 
-pub tells : {d e : Delivery} {r o : Outcome} → d ≡ e → r ≡ o → Tells e o → Tells d r
-tells p q t image steps =
-    ap (λ (x : Delivery). deliveredBy x image steps) p ∙ t image steps ∙ ap (λ (x : Outcome). deliveredAs x image steps) (sym q)
-
-pub answers : (image message exit steps : List ℕ) (d : Delivery) {r : Outcome} → deliveredBy d exit steps ≡ deliver image message stepBuffer → Tells d r → Answers image message r exit
+pub answers : (image message exit steps : List ℕ) (d : Delivery) {r : Outcome} → deliveredBy d exit steps ≡ deliver image message stepBuffer → r ≡ outcomeBy d → Answers image message r exit
 unfolding answered
-answers image message exit steps d {r} e t = record {
-  code = ap (λ (x : Delivered). x .code) is;
-  undos = ap (λ (x : Delivered). x .undos) is;
-  executions = ap (λ (x : Delivered). x .executions) is;
-  image-after = ap (λ (x : Delivered). x .image) is;
+answers image message exit steps d e t = record {
+  code = ap (λ (o : Outcome). o .code) t ∙ ap (λ (x : Delivered). x .code) e;
+  undos = ap (λ (o : Outcome). o .undos) t ∙ ap (λ (x : Delivered). x .undos) e;
+  executions = ap (λ (o : Outcome). o .executions) t ∙ ap (λ (x : Delivered). x .executions) e;
+  image-after = ap (λ (x : Delivered). x .image) e;
 }
-  where
-    is : deliveredAs r exit steps ≡ deliver image message stepBuffer
-    is = sym (t exit steps) ∙ e
 
 pub listed : {image message image-exit out out-exit : List ℕ} {at number r : ℕ} {o : Outcome} → Answers image message o image-exit
     → Puts out at lineRoom (printedLine number (o .code) (o .undos) (o .executions)) r out-exit → Listed image message out at number r image-exit out-exit

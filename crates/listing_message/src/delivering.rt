@@ -7,7 +7,7 @@ ghost use mathlib.Core.Path.{_≡_};
 ghost use Prim.Native.Nat.{_+_, _≤_};
 ghost use lib.ListN.{length};
 ghost use Rattle.listing_lines.specs.Rooms.{lineRoom};
-ghost use Rattle.listing_message.specs.Outcome.{Tells, Answers, Listed};
+ghost use Rattle.listing_message.specs.Outcome.{outcomeBy, Answers, Listed};
 
 // The numbers of a message's line.
 pub struct Outcome {
@@ -28,7 +28,7 @@ fn refused(code: usize) -> Outcome
 
 // The code and the counts of what deliver answered.
 fn outcome_of(d: Delivery) -> Outcome
-    ensures { λ r. ⌜ Tells d r ⌝ }
+    ensures { λ r. ⌜ r ≡ outcomeBy d ⌝ }
 {
     match d {
         Delivery::Accepted { undos, executions } => Outcome {

@@ -6,7 +6,7 @@ use Rattle.model.specs.Layout.{capacity}
 use Rattle.model.specs.Message.{Message}
 use Rattle.model.specs.Calls.{empty, deliver}
 use Rattle.deliver_taking.specs.declared.answer.Delivery.{Delivery}
-use Rattle.deliver_taking.specs.declared.answer.Delivery.the-variants as delivery
+use Rattle.deliver_taking.specs.Answer.{codeBy, countsBy}
 use Rattle.emptying.specs.declared.Emptying.{Emptying}
 use Rattle.emptying.specs.declared.Emptying.the-variants as emptying
 use Rattle.packing.specs.Packing.{packed, Unpacks}
@@ -24,28 +24,12 @@ pub record Delivers (image : List ℕ) (message : Message) (steps : List ℕ) (r
 
 -- the number of each answer
 abbrev pub packedBy : Delivery → ℕ
-packedBy (delivery.Accepted undos executions) = packed 0 undos executions
-packedBy delivery.WrongSize = 1
-packedBy delivery.NoImage = 2
-packedBy delivery.WrongLayout = 3
-packedBy delivery.WrongNumber = 4
-packedBy delivery.WrongDependencies = 5
-packedBy delivery.WrongContent = 6
-packedBy delivery.Conflict = 7
-packedBy delivery.Full = 8
+packedBy d = packed (codeBy d) (countsBy d .0) (countsBy d .1)
 
-abbrev pub codeBy : Emptying → ℕ
-codeBy emptying.Done = 0
-codeBy emptying.WrongSize = 1
+abbrev pub emptiedCode : Emptying → ℕ
+emptiedCode emptying.Done = 0
+emptiedCode emptying.WrongSize = 1
 
--- the counts of an accepted delivery are at most 64
+-- its counts are at most 64
 abbrev pub Small : Delivery → Type 0
-Small (delivery.Accepted undos executions) = (undos ≤ capacity) × (executions ≤ capacity)
-Small delivery.WrongSize = Unit {0}
-Small delivery.NoImage = Unit {0}
-Small delivery.WrongLayout = Unit {0}
-Small delivery.WrongNumber = Unit {0}
-Small delivery.WrongDependencies = Unit {0}
-Small delivery.WrongContent = Unit {0}
-Small delivery.Conflict = Unit {0}
-Small delivery.Full = Unit {0}
+Small d = (countsBy d .0 ≤ capacity) × (countsBy d .1 ≤ capacity)

@@ -3,7 +3,7 @@ use deliver_taking::answer::Delivery;
 use emptying::Emptying;
 ghost use mathlib.Core.Path.{_≡_};
 ghost use Rattle.packing.specs.Packing.{packed, AnswerFits};
-ghost use Rattle.packing.specs.Answers.{packedBy, codeBy, Small};
+ghost use Rattle.packing.specs.Answers.{packedBy, emptiedCode, Small};
 
 // what an answer's counts are multiplied by
 const UNDOS_UNIT: u32 = 256;
@@ -38,7 +38,7 @@ pub fn pack_delivery(d: Delivery) -> u32
 
 // The code of what empty answers.
 pub fn pack_emptying(e: Emptying) -> u32
-    ensures { λ r. ⌜ r ≡ codeBy e ⌝ }
+    ensures { λ r. ⌜ r ≡ emptiedCode e ⌝ }
 {
     match e {
         Emptying::Done => 0,
