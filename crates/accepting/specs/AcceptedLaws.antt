@@ -22,8 +22,8 @@ use Rattle.table.specs.Places.{AllBelow}
 use Rattle.table.specs.FindLaws.{absent-member}
 use Rattle.table.specs.Shifting.{shifted}
 use Rattle.steps.specs.PlacedLogs.{IsLogOf, log-shifted}
-use Rattle.judged.specs.declared.judging.Station.{Station}
-use Rattle.judged.specs.Judging.{placesIn}
+use Rattle.listed.specs.declared.Station.{Station}
+use Rattle.listed.specs.Listed.{placesIn}
 use Rattle.accepting.specs.DeliveryPool.{pool-front, old-deltas, new-holds, new-set}
 use Rattle.accepting.specs.Accepting.{Updatable, Updates, Acceptable}
 

@@ -12,7 +12,7 @@ use Rattle.model.specs.Calls.{Delivered, acceptedAnswer}
 use Rattle.table.specs.declared.Table.{Table}
 use Rattle.table.specs.Table.{startsOf, setIn, Holds}
 use Rattle.table.specs.Places.{IsAbsent}
-use Rattle.judged.specs.declared.judging.Station.{Station}
+use Rattle.listed.specs.declared.Station.{Station}
 use Rattle.judged.specs.Judging.{IsStation}
 use Rattle.steps.specs.PlacedLogs.{IsLogOf}
 use Rattle.accepting.specs.declared.Counts.{Counts}

@@ -18,7 +18,7 @@ use Rattle.model.specs.Calls.{acceptedAnswer, deliver}
 use Rattle.table.specs.Table.{startsOf, messageFrom, setIn}
 use Rattle.table.specs.Places.{IsPresent, IsAbsent}
 use Rattle.table.specs.FindLaws.{present-has, absent-has}
-use Rattle.judged.specs.declared.judging.Station.{Station}
+use Rattle.listed.specs.declared.Station.{Station}
 use Rattle.code_ladder.specs.Ladder.{none, free, met}
 use Rattle.deliver_taking.specs.declared.answer.Delivery.the-variants as delivery
 use Rattle.deliver_taking.specs.Answer.{deliveredBy}

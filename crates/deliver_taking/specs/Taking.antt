@@ -8,7 +8,7 @@ use Rattle.model.specs.Layout.{imageSize, messageRoom, stepRoom}
 use Rattle.model.specs.Message.{Message, passes}
 use Rattle.model.specs.Codes.{deliverConditions}
 use Rattle.code_ladder.specs.Ladder.{Passed}
-use Rattle.judged.specs.declared.judging.Station.{Station}
+use Rattle.listed.specs.declared.Station.{Station}
 use Rattle.judged.specs.Judging.{IsStation}
 
 pub record Takeable (b : List ℕ) (m : Message) (room : ℕ) (pool : List ℕ) (station : Station) : Type 0 where

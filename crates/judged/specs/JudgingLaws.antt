@@ -21,7 +21,7 @@ use Rattle.table_reading.specs.TableReading.{IsTable, ReadsTable}
 use Rattle.message.specs.Check.{right}
 use Rattle.message.specs.declared.checks.Check.{Check}
 use Rattle.message.specs.declared.checks.Check.the-variants.{Right, Wrong}
-use Rattle.judged.specs.declared.judging.Station.{Station}
+use Rattle.listed.specs.declared.Station.{Station}
 use Rattle.image_log.specs.LogRead.{ReadsLog}
 use Rattle.judged.specs.Judging.{IsStation, Judges, Copies}
 

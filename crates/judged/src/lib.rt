@@ -1,3 +1,2 @@
 // An image read and judged: its table, its log as places of the table, and whether it is an image at all. Every call that is handed an image begins here.
-mod comparing;
 pub mod judging;

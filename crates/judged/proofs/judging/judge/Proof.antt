@@ -23,7 +23,7 @@ use Rattle.walk.specs.Walk.{LogOffsets}
 use Rattle.table_reading.specs.TableReading.{IsTable}
 use Rattle.log_check.specs.Checking.{ChecksLog}
 use Rattle.image_log.specs.LogRead.{ReadsLog}
-use Rattle.judged.specs.Judging.{placesIn}
+use Rattle.listed.specs.Listed.{placesIn}
 use Rattle.judged.specs.JudgingLaws.{judged, other-log, refused}
 use Rattle.judged.proofs.judging.judge.Statement.{statement}
 use Rattle.judged.proofs.judging.judge.Tie as tie

@@ -5,8 +5,8 @@ use lib.Seq.{length-take-le}
 use native.Mathlib.Omega.{arith}
 use borrow.Author.Needs.{needs}
 use Rattle.model.specs.Layout.{capacity}
-use Rattle.judged.proofs.judging.rewrite.Statement.{statement}
-use Rattle.judged.proofs.judging.rewrite.Tie as tie
+use Rattle.listed.proofs.rewrite.Statement.{statement}
+use Rattle.listed.proofs.rewrite.Tie as tie
 
 starts-size : (s : tie.Start) → length (s .args .listed .table .starts) ≡ capacity
 starts-size s = search needs

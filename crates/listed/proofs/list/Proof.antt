@@ -10,8 +10,8 @@ use Rattle.model.specs.Layout.{capacity}
 use Rattle.table.specs.Table.{startsOf}
 use Rattle.walk.specs.Walk.{LogOffsets}
 use Rattle.image_log.specs.LogRead.{ReadsLog}
-use Rattle.judged.proofs.judging.list.Statement.{statement}
-use Rattle.judged.proofs.judging.list.Tie as tie
+use Rattle.listed.proofs.list.Statement.{statement}
+use Rattle.listed.proofs.list.Tie as tie
 
 starts-size : (s : tie.Start) → length (s .args .table .starts) ≡ capacity
 starts-size s = search needs

@@ -8,8 +8,8 @@ use Rattle.model.specs.Layout.{capacity}
 use Rattle.table.specs.Table.{startsOf}
 use Rattle.table.specs.TableLaws.{deltas-length}
 use Rattle.image_log.specs.LogRead.{ReadsLog}
-use Rattle.judged.proofs.judging.check_listed.Statement.{statement}
-use Rattle.judged.proofs.judging.check_listed.Tie as tie
+use Rattle.listed.proofs.check_listed.Statement.{statement}
+use Rattle.listed.proofs.check_listed.Tie as tie
 
 starts-size : (s : tie.Start) → length (s .args .listed .table .starts) ≡ capacity
 starts-size s = search needs

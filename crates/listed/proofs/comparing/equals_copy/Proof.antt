@@ -12,8 +12,8 @@ use borrow.Author.Needs.{needs}
 use borrow.Author.Tests.{not-true, not-false}
 use Rattle.model.specs.Lists.{same}
 use Rattle.order.specs.TestLaws.{same-test, eq→eqb}
-use Rattle.judged.proofs.comparing.equals_copy.Statement.{statement}
-use Rattle.judged.proofs.comparing.equals_copy.Tie as tie
+use Rattle.listed.proofs.comparing.equals_copy.Statement.{statement}
+use Rattle.listed.proofs.comparing.equals_copy.Tie as tie
 
 -- two lists are the same if their fronts are, and what is behind these
 parted : (n : ℕ) (a b : List ℕ) → same a b ≡ same (take n a) (take n b) && same (drop n a) (drop n b)
