@@ -1,8 +1,7 @@
 // An image read and judged: code 2.
-pub use listed::Station;
-
 use layout::CAPACITY;
 use layout::IMAGE_SIZE;
+pub use listed::Station;
 use listed::check_listed;
 use listed::comparing::equals_copy;
 use listed::list;

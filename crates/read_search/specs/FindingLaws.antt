@@ -13,7 +13,6 @@ use Rattle.model.specs.Calls.{messageAt}
 use Rattle.order.specs.TestLaws.{decide}
 use Rattle.laws.specs.OffsetLaws.{message-at-offset, Placed, message-placed, log-count, log-offset, log-full}
 use Rattle.table.specs.TableLaws.{Lies}
-use Rattle.code_ladder.specs.Ladder.{Answers}
 use Rattle.reading.specs.PartLaws.{part-lies, part-size, part-is}
 use Rattle.read_search.specs.Finding.{Searchable, startingAt, IsMessage, Looking}
 

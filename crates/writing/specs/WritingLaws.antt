@@ -6,7 +6,7 @@ use Prim.Native.Nat.{ℕ, _+_, _*_, _/_, _≤_, _<_}
 use native.Mathlib.Omega.{arith}
 use native.Mathlib.Numerals.{add-one}
 use lib.ListN.{length, drop, getD, length-append, length-map}
-use lib.Seq.{paste, drop-cons}
+use lib.Seq.{drop-cons}
 use Rattle.model.specs.Bytes.{bytes}
 use Rattle.model.specs.Layout.{kindAt, lengthAt, sequenceAt, groupAt, headerSize, sequenceSize, commandSize}
 use Rattle.model.specs.Compose.{messageOf}
