@@ -28,9 +28,6 @@ copy-at-requires c κs =
     let a = s .args in
     (omega arith, message-fits (a .image .now) (a .message .now) (length (a .steps .now)) (a .pool .now) (a .station) (a .p) (s .pre) (starts-size s) (places-size s))
 
-cast-insert : tie.Need-cast-insert
-cast-insert c = omega arith
-
 insert-requires : tie.Need-insert-requires
 insert-requires c κs =
     let s = start (c .before .before .before) in
@@ -51,15 +48,6 @@ update-requires c κs =
     let a = s .args in
     updatable (a .image .now) (a .message .now) (length (a .steps .now)) (a .pool .now) (a .station) (a .p) (s .pre) (starts-size s) (places-size s) _ (filled shifted .copy-at .ensures) _ (inserted .insert .ensures .starts) (inserted .insert .ensures .count) _ (shifted .shift-places .ensures)
 
-same-length : tie.Need-same-length
-same-length c = search needs
-
-same-length-2 : tie.Need-same-length-2
-same-length-2 c = search needs
-
-same-length-3 : tie.Need-same-length-3
-same-length-3 c = search needs
-
 returns : tie.Need-returns
 returns c =
     let updated = c .before .before .before .before in
@@ -74,11 +62,11 @@ accept-spec =
     tie.close
     (tie.spec
     copy-at-requires
-    cast-insert
+    (λ c. omega arith)
     insert-requires
     shift-places-requires
     update-requires
-    same-length
-    same-length-2
-    same-length-3
+    (λ c. search needs)
+    (λ c. search needs)
+    (λ c. search needs)
     returns)

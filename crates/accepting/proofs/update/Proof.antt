@@ -33,12 +33,6 @@ old-log : (c : tie.After-order-table) (S : State) → IsLogOf (began c .args .po
     → IsLogOf (began c .args .pool .now) (startsOf (began c .args .table)) (oldOf (c .order-table .result)) S
 old-log c S h = subst (λ (k : List ℕ). IsLogOf (began c .args .pool .now) (startsOf (began c .args .table)) k S) (sym (c .order-table .ensures .olds)) h
 
-order-table-requires : tie.Need-order-table-requires
-order-table-requires c κs = search needs
-
-write-table-requires : tie.Need-write-table-requires
-write-table-requires c κs = search needs
-
 write-change-requires : tie.Need-write-change-requires
 write-change-requires c κs =
     let at = ordered (c .before .before .before) in
@@ -53,18 +47,6 @@ write-change-requires c κs =
       after = o .log;
       steps-fit = steps-room (at .order-table .result) (o .right) _ (o .olds) (pre .few) _ (pre .steps-room);
     }
-
-undos-requires : tie.Need-undos-requires
-undos-requires c κs = search needs
-
-executions-requires : tie.Need-executions-requires
-executions-requires c κs = search needs
-
-same-length : tie.Need-same-length
-same-length c = search needs
-
-same-length-2 : tie.Need-same-length-2
-same-length-2 c = search needs
 
 returns : tie.Need-returns
 returns c =
@@ -86,11 +68,11 @@ pub update-spec : {M : Type 1} → statement M
 update-spec =
     tie.close
     (tie.spec
-    order-table-requires
-    write-table-requires
+    (λ c κs. search needs)
+    (λ c κs. search needs)
     write-change-requires
-    undos-requires
-    executions-requires
-    same-length
-    same-length-2
+    (λ c κs. search needs)
+    (λ c κs. search needs)
+    (λ c. search needs)
+    (λ c. search needs)
     returns)

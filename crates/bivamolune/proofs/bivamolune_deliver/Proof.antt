@@ -8,20 +8,11 @@ use Rattle.bivamolune.proofs.bivamolune_deliver.Tie as tie
 abbrev began : tie.After-deliver → tie.Start
 began c = c .before .before .before .before .before .before
 
-deliver-requires : tie.Need-deliver-requires
-deliver-requires c κs = search needs
-
 pack-delivery-requires : tie.Need-pack-delivery-requires
 pack-delivery-requires c κs =
     let d = c .before .before .before .before in
     let a = began d .args in
     small (a .image .now) (a .message .now) (a .steps .now) (d .deliver .result) _ _ (d .deliver .ensures)
-
-same-length : tie.Need-same-length
-same-length c = search needs
-
-same-length-2 : tie.Need-same-length-2
-same-length-2 c = search needs
 
 returns : tie.Need-returns
 returns c =
@@ -31,4 +22,4 @@ returns c =
 
 pub bivamolune-deliver-spec : {M : Type 1} → statement M
 bivamolune-deliver-spec =
-    tie.close (tie.spec deliver-requires pack-delivery-requires same-length same-length-2 returns)
+    tie.close (tie.spec (λ c κs. search needs) pack-delivery-requires (λ c. search needs) (λ c. search needs) returns)

@@ -8,19 +8,10 @@ use Rattle.bivamolune.proofs.bivamolune_empty.Tie as tie
 abbrev began : tie.After-empty → tie.Start
 began c = c .before .before .before
 
-empty-requires : tie.Need-empty-requires
-empty-requires c κs = search needs
-
-pack-emptying-requires : tie.Need-pack-emptying-requires
-pack-emptying-requires c κs = search needs
-
-same-length : tie.Need-same-length
-same-length c = search needs
-
 returns : tie.Need-returns
 returns c =
     let e = c .before .before .before in
     empties (began e .args .image .now) (e .empty .result) (c .pack-emptying .result) _ (e .empty .ensures) (c .pack-emptying .ensures)
 
 pub bivamolune-empty-spec : {M : Type 1} → statement M
-bivamolune-empty-spec = tie.close (tie.spec empty-requires pack-emptying-requires same-length returns)
+bivamolune-empty-spec = tie.close (tie.spec (λ c κs. search needs) (λ c κs. search needs) (λ c. search needs) returns)

@@ -5,21 +5,6 @@ use borrow.Author.Needs.{needs}
 use Rattle.buffer.proofs.get_u32.Statement.{statement}
 use Rattle.buffer.proofs.get_u32.Tie as tie
 
-get-u16-requires : tie.Need-get-u16-requires
-get-u16-requires c κs = search needs
-
-mul-result : tie.Need-mul-result
-mul-result c = search needs
-
-add-get-u16 : tie.Need-add-get-u16
-add-get-u16 c = search needs
-
-get-u16-requires-2 : tie.Need-get-u16-requires-2
-get-u16-requires-2 c κs = search needs
-
-add-result : tie.Need-add-result
-add-result c = search needs
-
 returns : tie.Need-returns
 returns c =
     let a = c .before .before .before .args in
@@ -29,4 +14,4 @@ returns c =
 pub get-u32-spec : {M : Type 1} → statement M
 get-u32-spec =
     tie.close
-    (tie.spec get-u16-requires mul-result add-get-u16 get-u16-requires-2 add-result returns)
+    (tie.spec (λ c κs. search needs) (λ c. search needs) (λ c. search needs) (λ c κs. search needs) (λ c. search needs) returns)

@@ -52,12 +52,6 @@ loop-holds c =
       ),
     )
 
-slice-write-dst : tie.Need-slice-write-dst Inv-loop μ-loop
-slice-write-dst c = omega arith
-
-add-i : tie.Need-add-i Inv-loop μ-loop
-add-i c = omega arith
-
 loop-less : tie.Need-loop-less Inv-loop μ-loop
 loop-less c = simp length-set (omega arith)
 
@@ -91,8 +85,8 @@ clear-from-spec =
     Inv-loop
     μ-loop
     loop-holds
-    slice-write-dst
-    add-i
+    (λ c. omega arith)
+    (λ c. omega arith)
     loop-less
     loop-again
     same-length

@@ -52,9 +52,6 @@ turn c e =
 loop-holds : tie.Need-loop-holds Inv-loop μ-loop
 loop-holds c = (search needs, refl)
 
-enum-told : tie.Need-enum-told Inv-loop μ-loop
-enum-told c = search needs
-
 returns : tie.Need-returns Inv-loop μ-loop
 returns c = sym (turn (c .before .before) (ap right (c .enum-told2 .given .1)))
 
@@ -77,7 +74,7 @@ check-commands-spec =
     loop-holds
     (λ c. omega arith)
     (λ c κs. omega arith)
-    enum-told
+    (λ c. search needs)
     (λ c. search needs)
     returns
     (λ c. omega arith)

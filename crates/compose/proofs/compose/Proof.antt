@@ -139,9 +139,6 @@ compose-at-requires c κs =
       },
     )
 
-same-length : tie.Need-same-length
-same-length c = search needs
-
 returns-5 : tie.Need-returns-5
 returns-5 c =
     let w = c .before .before in
@@ -175,5 +172,5 @@ compose-spec =
     enum-told-8
     returns-4
     compose-at-requires
-    same-length
+    (λ c. search needs)
     returns-5)

@@ -38,9 +38,6 @@ compose-behind-requires c κs =
     let s = began (c .before .before .before) in
     (record { holds = s .pre .0 .table .holds; log = s .pre .0 .log }, s .pre .1)
 
-same-length : tie.Need-same-length
-same-length c = search needs
-
 returns : tie.Need-returns
 returns c =
     let w = c .before .before in
@@ -58,5 +55,5 @@ compose-at-spec =
     array-share-prefix-places
     slice-aggregate-compose-behind-2
     compose-behind-requires
-    same-length
+    (λ c. search needs)
     returns)

@@ -17,20 +17,8 @@ told c e =
     let a = c .before .before .args in
     content-parts (a .flag) (a .priority) (a .commands .now) ∙ ap (λ (b : Bool). b && commandsRight (a .commands .now)) (sym (c .check-given .ensures) ∙ ap right e)
 
-check-given-requires : tie.Need-check-given-requires
-check-given-requires c κs = search needs
-
-enum-told : tie.Need-enum-told
-enum-told c = search needs
-
-enum-told-2 : tie.Need-enum-told-2
-enum-told-2 c = search needs
-
 returns : tie.Need-returns
 returns c = sym (told (c .before .before) (c .enum-told2 .given .1))
-
-check-commands-requires : tie.Need-check-commands-requires
-check-commands-requires c κs = search needs
 
 returns-2 : tie.Need-returns-2
 returns-2 c = c .check-commands .ensures ∙ sym (told (c .before .before .before) (c .before .enum-told .given .1))
@@ -38,4 +26,4 @@ returns-2 c = c .check-commands .ensures ∙ sym (told (c .before .before .befor
 pub check-content-spec : {M : Type 1} → statement M
 check-content-spec =
     tie.close
-    (tie.spec check-given-requires enum-told enum-told-2 returns check-commands-requires returns-2)
+    (tie.spec (λ c κs. search needs) (λ c. search needs) (λ c. search needs) returns (λ c κs. search needs) returns-2)

@@ -23,32 +23,11 @@ by-room c e =
     let a = c .before .before .before .before .args in
     by-image (c .before .before .before) (c .before .enum-told .given .1) ∙ ap (λ (b : Bool). b && eqb (a .line) lineSize) (sym (c .check-message-room .ensures) ∙ ap right e)
 
-check-image-size-requires : tie.Need-check-image-size-requires
-check-image-size-requires c κs = search needs
-
-enum-told : tie.Need-enum-told
-enum-told c = search needs
-
-enum-told-2 : tie.Need-enum-told-2
-enum-told-2 c = search needs
-
 returns : tie.Need-returns
 returns c = sym (by-image (c .before .before) (c .enum-told2 .given .1))
 
-check-message-room-requires : tie.Need-check-message-room-requires
-check-message-room-requires c κs = search needs
-
-enum-told-3 : tie.Need-enum-told-3
-enum-told-3 c = search needs
-
-enum-told-4 : tie.Need-enum-told-4
-enum-told-4 c = search needs
-
 returns-2 : tie.Need-returns-2
 returns-2 c = sym (by-room (c .before .before) (c .enum-told4 .given .1))
-
-check-line-size-requires : tie.Need-check-line-size-requires
-check-line-size-requires c κs = search needs
 
 returns-3 : tie.Need-returns-3
 returns-3 c = c .check-line-size .ensures ∙ sym (by-room (c .before .before .before) (c .before .enum-told3 .given .1))
@@ -57,13 +36,13 @@ pub check-sizes-spec : {M : Type 1} → statement M
 check-sizes-spec =
     tie.close
     (tie.spec
-    check-image-size-requires
-    enum-told
-    enum-told-2
+    (λ c κs. search needs)
+    (λ c. search needs)
+    (λ c. search needs)
     returns
-    check-message-room-requires
-    enum-told-3
-    enum-told-4
+    (λ c κs. search needs)
+    (λ c. search needs)
+    (λ c. search needs)
     returns-2
-    check-line-size-requires
+    (λ c κs. search needs)
     returns-3)

@@ -85,9 +85,6 @@ returns-2 c =
 write-draft-requires : tie.Need-write-draft-requires
 write-draft-requires c κs = let s = began (read (c .before .before .before .before)) in record { log = s .pre .0; sized = s .pre .1 .sized; room = s .pre .1 .room }
 
-same-length : tie.Need-same-length
-same-length c = search needs
-
 returns-3 : tie.Need-returns-3
 returns-3 c =
     let w = c .before .before in
@@ -112,5 +109,5 @@ compose-behind-spec =
     enum-told-3
     returns-2
     write-draft-requires
-    same-length
+    (λ c. search needs)
     returns-3)

@@ -30,12 +30,6 @@ agrees c e =
     sym e ∙ ap not (c .same .ensures ∙ ap (λ (x : List ℕ). same x (a .message .now)) (c .before .message-at .ensures))
     ∙ sym (present-conflicts (a .pool .now) (a .starts .now) (a .message .now) _ (here k) (start k .pre .0))
 
-enum-known-place : tie.Need-enum-known-place
-enum-known-place c = search needs
-
-enum-told : tie.Need-enum-told
-enum-told c = search needs
-
 returns : tie.Need-returns
 returns c =
     let s = c .before .before .before .before .before in
@@ -44,9 +38,6 @@ returns c =
 
 message-at-requires : tie.Need-message-at-requires
 message-at-requires c κs = (start c .pre .0, here c .inside)
-
-same-requires : tie.Need-same-requires
-same-requires c κs = search needs
 
 returns-2 : tie.Need-returns-2
 returns-2 c = ap not (agrees (c .before) (c .if1 .taken))
@@ -58,10 +49,10 @@ pub check-repeat-spec : {M : Type 1} → statement M
 check-repeat-spec =
     tie.close
     (tie.spec
-    enum-known-place
-    enum-told
+    (λ c. search needs)
+    (λ c. search needs)
     returns
     message-at-requires
-    same-requires
+    (λ c κs. search needs)
     returns-2
     returns-3)

@@ -68,9 +68,6 @@ array-share-prefix-starts c = within (c .before .before .before .before .before 
 slice-aggregate-find : tie.Need-slice-aggregate-find
 slice-aggregate-find c = used (c .before .before .before .before .before .before .before .before .before)
 
-find-requires : tie.Need-find-requires
-find-requires c κs = search needs
-
 array-share-prefix-starts-2 : tie.Need-array-share-prefix-starts-2
 array-share-prefix-starts-2 c = within (start (c .before))
 
@@ -80,30 +77,12 @@ slice-aggregate-check-repeat c = used (start (c .before .before))
 check-repeat-requires : tie.Need-check-repeat-requires
 check-repeat-requires c κs = let f = c .before .before in (start f .pre .judged .table .holds, found f)
 
-enum-told : tie.Need-enum-told
-enum-told c = search needs
-
-enum-told-2 : tie.Need-enum-told-2
-enum-told-2 c = search needs
-
-same-length : tie.Need-same-length
-same-length c = search needs
-
 returns : tie.Need-returns
 returns c =
     let r = c .before .before in
     let s = begun r in
     let a = s .args in
     conflict (a .image .now) (a .message .now) (a .steps .now) (a .pool .now) (a .station) (s .pre) (tells right (c .enum-told2 .given .1) (r .check-repeat .ensures))
-
-enum-known-place : tie.Need-enum-known-place
-enum-known-place c = search needs
-
-enum-told-3 : tie.Need-enum-told-3
-enum-told-3 c = search needs
-
-same-length-2 : tie.Need-same-length-2
-same-length-2 c = search needs
 
 returns-2 : tie.Need-returns-2
 returns-2 c =
@@ -114,18 +93,6 @@ returns-2 c =
     repeated (a .image .now) (a .message .now) (a .steps .now) (a .pool .now) (a .station) (s .pre)
     (subst (Finds (a .image .now) (startsOf (a .station .table)) (sequenceOf (a .message .now))) (c .enum-told3 .given .1) (found (sought r)))
     (tells right (t .enum-told .given .1) (r .check-repeat .ensures))
-
-check-room-requires : tie.Need-check-room-requires
-check-room-requires c κs = search needs
-
-enum-told-4 : tie.Need-enum-told-4
-enum-told-4 c = search needs
-
-enum-told-5 : tie.Need-enum-told-5
-enum-told-5 c = search needs
-
-same-length-3 : tie.Need-same-length-3
-same-length-3 c = search needs
 
 returns-3 : tie.Need-returns-3
 returns-3 c =
@@ -145,15 +112,6 @@ accept-requires c κs =
     let pre = begun (checked k) .pre in
     record { size = pre .size; steps-room = pre .steps-room; judged = pre .judged; few = few t; right = pre .right; absent = absent k; pool-size = pre .pool-size; pooled = pre .pooled }
 
-same-length-4 : tie.Need-same-length-4
-same-length-4 c = search needs
-
-same-length-5 : tie.Need-same-length-5
-same-length-5 c = search needs
-
-same-length-6 : tie.Need-same-length-6
-same-length-6 c = search needs
-
 returns-4 : tie.Need-returns-4
 returns-4 c =
     let accepted = c .before .before .before .before .before .before in
@@ -170,25 +128,25 @@ take-in-spec =
     read-sequence-requires
     array-share-prefix-starts
     slice-aggregate-find
-    find-requires
+    (λ c κs. search needs)
     array-share-prefix-starts-2
     slice-aggregate-check-repeat
     check-repeat-requires
-    enum-told
-    enum-told-2
-    same-length
+    (λ c. search needs)
+    (λ c. search needs)
+    (λ c. search needs)
     returns
-    enum-known-place
-    enum-told-3
-    same-length-2
+    (λ c. search needs)
+    (λ c. search needs)
+    (λ c. search needs)
     returns-2
-    check-room-requires
-    enum-told-4
-    enum-told-5
-    same-length-3
+    (λ c κs. search needs)
+    (λ c. search needs)
+    (λ c. search needs)
+    (λ c. search needs)
     returns-3
     accept-requires
-    same-length-4
-    same-length-5
-    same-length-6
+    (λ c. search needs)
+    (λ c. search needs)
+    (λ c. search needs)
     returns-4)

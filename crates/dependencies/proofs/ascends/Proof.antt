@@ -40,38 +40,11 @@ turn c e =
     l .loop .inv .1 ∙ ascending-step named k (omega (arith, length-dependencies (bytes l)))
     ∙ ap (λ (t : Bool). t && ascending (drop (k + 1) named)) (ap₂ ltb (sym (next .before .dependency .ensures)) (sym (next .dependency2 .ensures)) ∙ sym (c .less .ensures) ∙ e)
 
-byte-requires : tie.Need-byte-requires Inv-loop μ-loop
-byte-requires c κs = omega arith
-
-cast-count : tie.Need-cast-count Inv-loop μ-loop
-cast-count c = search needs
-
 loop-holds : tie.Need-loop-holds Inv-loop μ-loop
 loop-holds c = (search needs, refl)
 
-add-loop : tie.Need-add-loop Inv-loop μ-loop
-add-loop c = omega arith
-
-dependency-requires : tie.Need-dependency-requires Inv-loop μ-loop
-dependency-requires c κs = omega arith
-
-add-dependency : tie.Need-add-dependency Inv-loop μ-loop
-add-dependency c = omega arith
-
-dependency-requires-2 : tie.Need-dependency-requires-2 Inv-loop μ-loop
-dependency-requires-2 c κs = omega arith
-
-less-requires : tie.Need-less-requires Inv-loop μ-loop
-less-requires c κs = search needs
-
 returns : tie.Need-returns Inv-loop μ-loop
 returns c = let compared = c .before in sym (turn compared (not-true (compared .less .result) (c .if1 .taken)))
-
-add-k : tie.Need-add-k Inv-loop μ-loop
-add-k c = omega arith
-
-loop-less : tie.Need-loop-less Inv-loop μ-loop
-loop-less c = omega arith
 
 loop-again : tie.Need-loop-again Inv-loop μ-loop
 loop-again c = (omega arith, turn (c .before) (not-false (c .before .less .result) (c .if1 .left)))
@@ -87,16 +60,16 @@ ascends-spec =
     (tie.spec
     Inv-loop
     μ-loop
-    byte-requires
-    cast-count
+    (λ c κs. omega arith)
+    (λ c. search needs)
     loop-holds
-    add-loop
-    dependency-requires
-    add-dependency
-    dependency-requires-2
-    less-requires
+    (λ c. omega arith)
+    (λ c κs. omega arith)
+    (λ c. omega arith)
+    (λ c κs. omega arith)
+    (λ c κs. search needs)
     returns
-    add-k
-    loop-less
+    (λ c. omega arith)
+    (λ c. omega arith)
     loop-again
     returns-2)

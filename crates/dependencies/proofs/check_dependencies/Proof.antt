@@ -60,37 +60,16 @@ by-named : (c : tie.After-depends-on2) {t : Bool} → c .depends-on2 .result ≡
 by-named c e = by-predecessor (asked c) (told c .before2 .given .1) ∙ ap (λ (t : Bool). not t && true) (sym (c .depends-on2 .ensures) ∙ e)
 
 -- ---- the needs
-ascends-requires : tie.Need-ascends-requires
-ascends-requires c κs = search needs
-
 returns : tie.Need-returns
 returns c =
     let a = c .before in
     sym (by-tests (bytes a) (sym (a .ascends .ensures) ∙ not-true (a .ascends .result) (c .if1 .taken)) refl refl)
 
-read-sequence-requires : tie.Need-read-sequence-requires
-read-sequence-requires c κs = search needs
-
-depends-on-requires : tie.Need-depends-on-requires
-depends-on-requires c κs = search needs
-
 returns-2 : tie.Need-returns-2
 returns-2 c = sym (by-own (c .before) (c .if2 .taken) refl)
 
-predecessor-of-requires : tie.Need-predecessor-of-requires
-predecessor-of-requires c κs = search needs
-
-enum-known-before : tie.Need-enum-known-before
-enum-known-before c = search needs
-
-enum-told : tie.Need-enum-told
-enum-told c = search needs
-
 returns-3 : tie.Need-returns-3
 returns-3 c = sym (by-predecessor (c .before .before) (c .enum-told .given .1))
-
-depends-on-requires-2 : tie.Need-depends-on-requires-2
-depends-on-requires-2 c κs = search needs
 
 returns-4 : tie.Need-returns-4
 returns-4 c = sym (by-named (c .before) (c .if3 .taken))
@@ -102,15 +81,15 @@ pub check-dependencies-spec : {M : Type 1} → statement M
 check-dependencies-spec =
     tie.close
     (tie.spec
-    ascends-requires
+    (λ c κs. search needs)
     returns
-    read-sequence-requires
-    depends-on-requires
+    (λ c κs. search needs)
+    (λ c κs. search needs)
     returns-2
-    predecessor-of-requires
-    enum-known-before
-    enum-told
+    (λ c κs. search needs)
+    (λ c. search needs)
+    (λ c. search needs)
     returns-3
-    depends-on-requires-2
+    (λ c κs. search needs)
     returns-4
     returns-5)

@@ -65,20 +65,8 @@ turn c e =
     let named = dependenciesOf m in
     l .loop .inv .1 ∙ every-step numbered named k 0 (omega (arith, length-dependencies m)) ∙ ap (λ (t : Bool). t && every numbered (drop (k + 1) named)) e
 
-read-sequence-requires : tie.Need-read-sequence-requires Inv-loop μ-loop
-read-sequence-requires c κs = omega arith
-
-number-of-requires : tie.Need-number-of-requires Inv-loop μ-loop
-number-of-requires c κs = search needs
-
 returns : tie.Need-returns Inv-loop μ-loop
 returns c = let o = c .before in sym (by-own o (is-zero (sequenceOf (bytes o)) (own-number o) (omega arith)))
-
-byte-requires : tie.Need-byte-requires Inv-loop μ-loop
-byte-requires c κs = omega arith
-
-cast-count : tie.Need-cast-count Inv-loop μ-loop
-cast-count c = search needs
 
 loop-holds : tie.Need-loop-holds Inv-loop μ-loop
 loop-holds c =
@@ -86,20 +74,8 @@ loop-holds c =
     let o = passed .before in
     (search needs, by-own o (is-numbered (sequenceOf (bytes o)) (own-number o) (passed .if1 .left)))
 
-dependency-requires : tie.Need-dependency-requires Inv-loop μ-loop
-dependency-requires c κs = omega arith
-
-number-of-requires-2 : tie.Need-number-of-requires-2 Inv-loop μ-loop
-number-of-requires-2 c κs = search needs
-
 returns-2 : tie.Need-returns-2 Inv-loop μ-loop
 returns-2 c = let d = c .before in sym (turn d (is-zero (sequenceHere d) (number-here d) (c .if2 .taken)))
-
-add-k : tie.Need-add-k Inv-loop μ-loop
-add-k c = omega arith
-
-loop-less : tie.Need-loop-less Inv-loop μ-loop
-loop-less c = omega arith
 
 loop-again : tie.Need-loop-again Inv-loop μ-loop
 loop-again c = (omega arith, turn (c .before) (is-numbered (sequenceHere (c .before)) (number-here (c .before)) (c .if2 .left)))
@@ -116,16 +92,16 @@ check-numbers-spec =
     (tie.spec
     Inv-loop
     μ-loop
-    read-sequence-requires
-    number-of-requires
+    (λ c κs. omega arith)
+    (λ c κs. search needs)
     returns
-    byte-requires
-    cast-count
+    (λ c κs. omega arith)
+    (λ c. search needs)
     loop-holds
-    dependency-requires
-    number-of-requires-2
+    (λ c κs. omega arith)
+    (λ c κs. search needs)
     returns-2
-    add-k
-    loop-less
+    (λ c. omega arith)
+    (λ c. omega arith)
     loop-again
     returns-3)

@@ -6,18 +6,9 @@ use borrow.Author.Needs.{needs}
 use Rattle.dependencies.proofs.dependency.Statement.{statement}
 use Rattle.dependencies.proofs.dependency.Tie as tie
 
-mul-read-sequence : tie.Need-mul-read-sequence
-mul-read-sequence c = search needs
-
-add-read-sequence : tie.Need-add-read-sequence
-add-read-sequence c = search needs
-
-read-sequence-requires : tie.Need-read-sequence-requires
-read-sequence-requires c κs = search needs
-
 returns : tie.Need-returns
 returns c = let a = c .before .before .args in c .read-sequence .ensures ∙ sym (dependency-at (a .m .now) (a .k) (omega arith))
 
 pub dependency-spec : {M : Type 1} → statement M
 dependency-spec =
-    tie.close (tie.spec mul-read-sequence add-read-sequence read-sequence-requires returns)
+    tie.close (tie.spec (λ c. search needs) (λ c. search needs) (λ c κs. search needs) returns)

@@ -45,29 +45,11 @@ turn c e =
     l .loop .inv .1 ∙ has-step (sought l) named k (omega (arith, length-dependencies (bytes l)))
     ∙ ap (λ (t : Bool). t || has (sought l) (drop (k + 1) named)) (ap (eqb (sought l)) (sym (c .before .dependency .ensures)) ∙ sym (c .equal .ensures) ∙ e)
 
-byte-requires : tie.Need-byte-requires Inv-loop μ-loop
-byte-requires c κs = omega arith
-
-cast-count : tie.Need-cast-count Inv-loop μ-loop
-cast-count c = search needs
-
 loop-holds : tie.Need-loop-holds Inv-loop μ-loop
 loop-holds c = (search needs, refl)
 
-dependency-requires : tie.Need-dependency-requires Inv-loop μ-loop
-dependency-requires c κs = omega arith
-
-equal-requires : tie.Need-equal-requires Inv-loop μ-loop
-equal-requires c κs = search needs
-
 returns : tie.Need-returns Inv-loop μ-loop
 returns c = sym (turn (c .before) (c .if1 .taken))
-
-add-k : tie.Need-add-k Inv-loop μ-loop
-add-k c = omega arith
-
-loop-less : tie.Need-loop-less Inv-loop μ-loop
-loop-less c = omega arith
 
 loop-again : tie.Need-loop-again Inv-loop μ-loop
 loop-again c = (omega arith, turn (c .before) (c .if1 .left))
@@ -83,13 +65,13 @@ depends-on-spec =
     (tie.spec
     Inv-loop
     μ-loop
-    byte-requires
-    cast-count
+    (λ c κs. omega arith)
+    (λ c. search needs)
     loop-holds
-    dependency-requires
-    equal-requires
+    (λ c κs. omega arith)
+    (λ c κs. search needs)
     returns
-    add-k
-    loop-less
+    (λ c. omega arith)
+    (λ c. omega arith)
     loop-again
     returns-2)

@@ -22,15 +22,6 @@ began c = c .before .before
 sized : (c : tie.After-enum-told) → true ≡ eqb (length (began (c .before .before) .args .image .now)) imageSize
 sized c = tells right (c .enum-told .given .1) (c .before .before .check-image-size .ensures)
 
-check-image-size-requires : tie.Need-check-image-size-requires
-check-image-size-requires c κs = search needs
-
-enum-told : tie.Need-enum-told
-enum-told c = search needs
-
-enum-told-2 : tie.Need-enum-told-2
-enum-told-2 c = search needs
-
 returns : tie.Need-returns
 returns c =
     let m = c .before .before in
@@ -38,9 +29,6 @@ returns c =
 
 put-empty-requires : tie.Need-put-empty-requires
 put-empty-requires c κs = eqb-true (length (began (c .before .before .before) .args .image .now)) imageSize (sym (sized (c .before)))
-
-same-length : tie.Need-same-length
-same-length c = search needs
 
 returns-2 : tie.Need-returns-2
 returns-2 c =
@@ -52,10 +40,10 @@ pub empty-spec : {M : Type 1} → statement M
 empty-spec =
     tie.close
     (tie.spec
-    check-image-size-requires
-    enum-told
-    enum-told-2
+    (λ c κs. search needs)
+    (λ c. search needs)
+    (λ c. search needs)
     returns
     put-empty-requires
-    same-length
+    (λ c. search needs)
     returns-2)

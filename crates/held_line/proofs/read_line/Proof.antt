@@ -7,19 +7,10 @@ use borrow.Author.Needs.{needs}
 use Rattle.held_line.proofs.read_line.Statement.{statement}
 use Rattle.held_line.proofs.read_line.Tie as tie
 
-get-u64-requires : tie.Need-get-u64-requires
-get-u64-requires c κs = search needs
-
-get-u16-requires : tie.Need-get-u16-requires
-get-u16-requires c κs = search needs
-
-mul-low : tie.Need-mul-low
-mul-low c = search needs
-
 returns : tie.Need-returns
 returns c =
     let s = c .before .before .before in
     ap₂ (λ (x y : ℕ). x * 4294967296 + y * numbersOfLine) (c .before .get-u64 .ensures) (c .get-u16 .ensures .0) ∙ line-number (s .args .line .now) (s .pre)
 
 pub read-line-spec : {M : Type 1} → statement M
-read-line-spec = tie.close (tie.spec get-u64-requires get-u16-requires mul-low returns)
+read-line-spec = tie.close (tie.spec (λ c κs. search needs) (λ c κs. search needs) (λ c. search needs) returns)

@@ -45,9 +45,6 @@ told c e =
 loop-holds : tie.Need-loop-holds Inv-loop μ-loop
 loop-holds c = (omega arith, refl)
 
-shared-slice-read-sequence-at : tie.Need-shared-slice-read-sequence-at Inv-loop μ-loop
-shared-slice-read-sequence-at c = omega arith
-
 cast-sequence-at : tie.Need-cast-sequence-at Inv-loop μ-loop
 cast-sequence-at c = omega (arith, c .shared-slice-known4 .given (turn c .loop .k))
 
@@ -56,17 +53,8 @@ sequence-at-requires c κs =
     let s = start (turn c) in
     (s .pre .holds, place-inside (s .args .pool .now) (s .args .starts .now) (s .args .places .now) (s .pre) (turn c .loop .k) (omega arith))
 
-same-line-requires : tie.Need-same-line-requires Inv-loop μ-loop
-same-line-requires c κs = search needs
-
 returns : tie.Need-returns Inv-loop μ-loop
 returns c = sym (told (c .before) (c .if1 .taken))
-
-add-k : tie.Need-add-k Inv-loop μ-loop
-add-k c = omega arith
-
-loop-less : tie.Need-loop-less Inv-loop μ-loop
-loop-less c = omega arith
 
 loop-again : tie.Need-loop-again Inv-loop μ-loop
 loop-again c = (omega arith, told (c .before) (c .if1 .left))
@@ -84,12 +72,12 @@ some-on-spec =
     Inv-loop
     μ-loop
     loop-holds
-    shared-slice-read-sequence-at
+    (λ c. omega arith)
     cast-sequence-at
     sequence-at-requires
-    same-line-requires
+    (λ c κs. search needs)
     returns
-    add-k
-    loop-less
+    (λ c. omega arith)
+    (λ c. omega arith)
     loop-again
     returns-2)

@@ -33,33 +33,6 @@ fits = used-fits none (empty-log .holds)
 abbrev begun : tie.After-write-used → tie.Start
 begun w = w .before .before .before .before .before .before .before .before .before
 
-sub-write-used : tie.Need-sub-write-used
-sub-write-used c = search needs
-
-part-write-used-start : tie.Need-part-write-used-start
-part-write-used-start c = search needs
-
-part-write-used-end : tie.Need-part-write-used-end
-part-write-used-end c = search needs
-
-sub-write-used-2 : tie.Need-sub-write-used-2
-sub-write-used-2 c = search needs
-
-part-write-used-start-2 : tie.Need-part-write-used-start-2
-part-write-used-start-2 c = search needs
-
-part-write-used-end-2 : tie.Need-part-write-used-end-2
-part-write-used-end-2 c = search needs
-
-sub-write-used-3 : tie.Need-sub-write-used-3
-sub-write-used-3 c = search needs
-
-part-write-used-start-3 : tie.Need-part-write-used-start-3
-part-write-used-start-3 c = search needs
-
-part-write-used-end-3 : tie.Need-part-write-used-end-3
-part-write-used-end-3 c = search needs
-
 write-used-requires : tie.Need-write-used-requires
 write-used-requires c κs = record { room = search needs; logged = empty-log }
 
@@ -67,9 +40,6 @@ clear-from-requires : tie.Need-clear-from-requires
 clear-from-requires c κs =
     let w = c .before .before .before in
     omega (arith, w .write-used .ensures .end, fits, w .write-used .kept .0, begun w .pre)
-
-same-length : tie.Need-same-length
-same-length c = search needs
 
 returns : tie.Need-returns
 returns c =
@@ -81,16 +51,16 @@ pub put-empty-spec : {M : Type 1} → statement M
 put-empty-spec =
     tie.close
     (tie.spec
-    sub-write-used
-    part-write-used-start
-    part-write-used-end
-    sub-write-used-2
-    part-write-used-start-2
-    part-write-used-end-2
-    sub-write-used-3
-    part-write-used-start-3
-    part-write-used-end-3
+    (λ c. search needs)
+    (λ c. search needs)
+    (λ c. search needs)
+    (λ c. search needs)
+    (λ c. search needs)
+    (λ c. search needs)
+    (λ c. search needs)
+    (λ c. search needs)
+    (λ c. search needs)
     write-used-requires
     clear-from-requires
-    same-length
+    (λ c. search needs)
     returns)

@@ -74,15 +74,6 @@ held-places-requires c κs =
     let s = c .before .before .before .before .before in
     table-count (s .args .pool .now) (s .args .starts .now) (s .pre .logged .holds)
 
-messages-start-requires : tie.Need-messages-start-requires
-messages-start-requires c κs = search needs
-
-sub-put-messages : tie.Need-sub-put-messages
-sub-put-messages c = search needs
-
-part-put-messages-start : tie.Need-part-put-messages-start
-part-put-messages-start c = search needs
-
 part-put-messages-end : tie.Need-part-put-messages-end
 part-put-messages-end c =
     let h = found (c .before .before) in
@@ -110,15 +101,6 @@ cast-put-image-header-3 c = omega (arith, room (started (copied c)))
 cast-put-image-header-4 : tie.Need-cast-put-image-header-4
 cast-put-image-header-4 c = omega (arith, used-fits (copied c))
 
-put-image-header-requires : tie.Need-put-image-header-requires
-put-image-header-requires c κs = search needs
-
-put-values-requires : tie.Need-put-values-requires
-put-values-requires c κs = search needs
-
-same-length : tie.Need-same-length
-same-length c = search needs
-
 returns : tie.Need-returns
 returns c =
     let valued = c .before .before in
@@ -143,16 +125,16 @@ write-used-spec =
     (tie.spec
     run-log-requires
     held-places-requires
-    messages-start-requires
-    sub-put-messages
-    part-put-messages-start
+    (λ c κs. search needs)
+    (λ c. search needs)
+    (λ c. search needs)
     part-put-messages-end
     put-messages-requires
     cast-put-image-header
     cast-put-image-header-2
     cast-put-image-header-3
     cast-put-image-header-4
-    put-image-header-requires
-    put-values-requires
-    same-length
+    (λ c κs. search needs)
+    (λ c κs. search needs)
+    (λ c. search needs)
     returns)

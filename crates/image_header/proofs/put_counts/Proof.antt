@@ -10,15 +10,6 @@ use borrow.Author.Needs.{needs}
 use Rattle.image_header.proofs.put_counts.Statement.{statement}
 use Rattle.image_header.proofs.put_counts.Tie as tie
 
-put-u16-requires : tie.Need-put-u16-requires
-put-u16-requires c κs = search needs
-
-put-u16-requires-2 : tie.Need-put-u16-requires-2
-put-u16-requires-2 c κs = search needs
-
-same-length : tie.Need-same-length
-same-length c = search needs
-
 returns : tie.Need-returns
 returns c =
     let held = c .before .before in
@@ -29,4 +20,4 @@ returns c =
     ∙ counts-pasted (s .args .out .now) (s .args .log) (s .args .held) (s .pre)
 
 pub put-counts-spec : {M : Type 1} → statement M
-put-counts-spec = tie.close (tie.spec put-u16-requires put-u16-requires-2 same-length returns)
+put-counts-spec = tie.close (tie.spec (λ c κs. search needs) (λ c κs. search needs) (λ c. search needs) returns)

@@ -10,15 +10,6 @@ use borrow.Author.Needs.{needs}
 use Rattle.image_header.proofs.put_image_header.Statement.{statement}
 use Rattle.image_header.proofs.put_image_header.Tie as tie
 
-put-counts-requires : tie.Need-put-counts-requires
-put-counts-requires c κs = search needs
-
-put-offsets-requires : tie.Need-put-offsets-requires
-put-offsets-requires c κs = search needs
-
-same-length : tie.Need-same-length
-same-length c = search needs
-
 returns : tie.Need-returns
 returns c =
     let offsets = c .before .before in
@@ -31,4 +22,4 @@ returns c =
     ∙ pasted-pasted (a .out .now) 0 (countsBytes (a .log) (a .held)) (offsetsBytes (a .start) (a .used)) (omega arith)
 
 pub put-image-header-spec : {M : Type 1} → statement M
-put-image-header-spec = tie.close (tie.spec put-counts-requires put-offsets-requires same-length returns)
+put-image-header-spec = tie.close (tie.spec (λ c κs. search needs) (λ c κs. search needs) (λ c. search needs) returns)

@@ -10,30 +10,6 @@ use borrow.Author.Needs.{needs}
 use Rattle.image_header.proofs.put_offsets.Statement.{statement}
 use Rattle.image_header.proofs.put_offsets.Tie as tie
 
-cast-put-u16 : tie.Need-cast-put-u16
-cast-put-u16 c = search needs
-
-put-u16-requires : tie.Need-put-u16-requires
-put-u16-requires c κs = search needs
-
-put-u16-requires-2 : tie.Need-put-u16-requires-2
-put-u16-requires-2 c κs = search needs
-
-put-u16-requires-3 : tie.Need-put-u16-requires-3
-put-u16-requires-3 c κs = search needs
-
-put-u16-requires-4 : tie.Need-put-u16-requires-4
-put-u16-requires-4 c κs = search needs
-
-add-put-u32 : tie.Need-add-put-u32
-add-put-u32 c = search needs
-
-put-u32-requires : tie.Need-put-u32-requires
-put-u32-requires c κs = search needs
-
-same-length : tie.Need-same-length
-same-length c = search needs
-
 returns : tie.Need-returns
 returns c =
     let last = c .before .before in
@@ -55,12 +31,12 @@ pub put-offsets-spec : {M : Type 1} → statement M
 put-offsets-spec =
     tie.close
     (tie.spec
-    cast-put-u16
-    put-u16-requires
-    put-u16-requires-2
-    put-u16-requires-3
-    put-u16-requires-4
-    add-put-u32
-    put-u32-requires
-    same-length
+    (λ c. search needs)
+    (λ c κs. search needs)
+    (λ c κs. search needs)
+    (λ c κs. search needs)
+    (λ c κs. search needs)
+    (λ c. search needs)
+    (λ c κs. search needs)
+    (λ c. search needs)
     returns)

@@ -41,12 +41,6 @@ asked c = found c .before .before
 loop-holds : tie.Need-loop-holds Inv-loop μ-loop
 loop-holds c = let s = c .before .before .before in reading-none (s .args .b .now) (s .args .starts .now) (s .args .offsets .now) (s .pre)
 
-mul-at : tie.Need-mul-at Inv-loop μ-loop
-mul-at c = search needs
-
-shared-slice-read-at : tie.Need-shared-slice-read-at Inv-loop μ-loop
-shared-slice-read-at c = search needs
-
 -- the next message lies inside the image
 lies : (i : tie.In-loop Inv-loop μ-loop) → Lies (entry (i .before) .args .b .now) (offset (i .before))
 lies i =
@@ -65,12 +59,6 @@ read-sequence-requires c κs = let h = lies (c .before) in omega (arith, h .leas
 
 find-requires : tie.Need-find-requires Inv-loop μ-loop
 find-requires c κs = entry (c .before .before .before) .pre .holds
-
-enum-known-place : tie.Need-enum-known-place Inv-loop μ-loop
-enum-known-place c = search needs
-
-enum-told : tie.Need-enum-told Inv-loop μ-loop
-enum-told c = search needs
 
 -- what was found, by the sequence of the message
 finds : (c : tie.After-find Inv-loop μ-loop) (p : Place) → c .find .result ≡ p → let l = turn c .before in let s = entry l in
@@ -137,14 +125,14 @@ read-places-spec =
     Inv-loop
     μ-loop
     loop-holds
-    mul-at
-    shared-slice-read-at
+    (λ c. search needs)
+    (λ c. search needs)
     cast-at
     add-read-sequence
     read-sequence-requires
     find-requires
-    enum-known-place
-    enum-told
+    (λ c. search needs)
+    (λ c. search needs)
     returns
     cast-places
     array-write-places

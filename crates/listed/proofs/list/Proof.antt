@@ -27,12 +27,6 @@ offsets-size s = search needs
 abbrev lent : tie.After-get-u16 → tie.Start
 lent c = c .before .before .before
 
-get-u16-requires : tie.Need-get-u16-requires
-get-u16-requires c κs = search needs
-
-cast-logged : tie.Need-cast-logged
-cast-logged c = search needs
-
 array-share-prefix-starts : tie.Need-array-share-prefix-starts
 array-share-prefix-starts c = let s = lent c in omega (arith, starts-size s, s .pre .2 .fits)
 
@@ -84,8 +78,8 @@ pub list-spec : {M : Type 1} → statement M
 list-spec =
     tie.close
     (tie.spec
-    get-u16-requires
-    cast-logged
+    (λ c κs. search needs)
+    (λ c. search needs)
     array-share-prefix-starts
     slice-aggregate-read-places
     array-share-prefix-offsets

@@ -19,35 +19,11 @@ fits-failed c =
     let read = c .before .before .before .read-input in
     subst (λ (n : ℕ). c .input2 .given .0 .0 ≤ n) (sym (read .kept .0)) (le-of-lt (subst (InputFits _) (c .input2 .given .1) (read .ensures)))
 
-slice-aggregate-read-input : tie.Need-slice-aggregate-read-input
-slice-aggregate-read-input c = search needs
-
-read-input-requires : tie.Need-read-input-requires
-read-input-requires c κs = search needs
-
-enum-known-input : tie.Need-enum-known-input
-enum-known-input c = search needs
-
 array-share-prefix-buf : tie.Need-array-share-prefix-buf
 array-share-prefix-buf c = fits (c .before)
 
 slice-aggregate-print-listing : tie.Need-slice-aggregate-print-listing
 slice-aggregate-print-listing c = sym (length-take-le _ _ (fits (c .before .before)))
-
-print-listing-requires : tie.Need-print-listing-requires
-print-listing-requires c κs = search needs
-
-drop-rest-requires : tie.Need-drop-rest-requires
-drop-rest-requires c κs = search needs
-
-enum-known-input-2 : tie.Need-enum-known-input-2
-enum-known-input-2 c = search needs
-
-slice-aggregate-fail : tie.Need-slice-aggregate-fail
-slice-aggregate-fail c = search needs
-
-fail-requires : tie.Need-fail-requires
-fail-requires c κs = search needs
 
 array-share-prefix-buf-2 : tie.Need-array-share-prefix-buf-2
 array-share-prefix-buf-2 c = fits-failed (c .before .before .before)
@@ -55,35 +31,23 @@ array-share-prefix-buf-2 c = fits-failed (c .before .before .before)
 slice-aggregate-print-listing-2 : tie.Need-slice-aggregate-print-listing-2
 slice-aggregate-print-listing-2 c = sym (length-take-le _ _ (fits-failed (c .before .before .before .before)))
 
-print-listing-requires-2 : tie.Need-print-listing-requires-2
-print-listing-requires-2 c κs = search needs
-
-returns : tie.Need-returns
-returns c = search needs
-
-returns-2 : tie.Need-returns-2
-returns-2 c = search needs
-
-returns-3 : tie.Need-returns-3
-returns-3 c = search needs
-
 pub main-spec : {M : Type 1} → statement M
 main-spec =
     tie.close
     (tie.spec
-    slice-aggregate-read-input
-    read-input-requires
-    enum-known-input
+    (λ c. search needs)
+    (λ c κs. search needs)
+    (λ c. search needs)
     array-share-prefix-buf
     slice-aggregate-print-listing
-    print-listing-requires
-    drop-rest-requires
-    enum-known-input-2
-    slice-aggregate-fail
-    fail-requires
+    (λ c κs. search needs)
+    (λ c κs. search needs)
+    (λ c. search needs)
+    (λ c. search needs)
+    (λ c κs. search needs)
     array-share-prefix-buf-2
     slice-aggregate-print-listing-2
-    print-listing-requires-2
-    returns
-    returns-2
-    returns-3)
+    (λ c κs. search needs)
+    (λ c. search needs)
+    (λ c. search needs)
+    (λ c. search needs))

@@ -9,17 +9,8 @@ use Rattle.listing_cut.proofs.read_cut.Tie as tie
 abbrev start : tie.After-get-u16 → tie.Start
 start c = c .before .before .before
 
-add-if1 : tie.Need-add-if1
-add-if1 c = search needs
-
 returns : tie.Need-returns
 returns c = cut-no-length (c .before .before .args .rest .now) (omega arith)
-
-get-u16-requires : tie.Need-get-u16-requires
-get-u16-requires c κs = search needs
-
-cast-size : tie.Need-cast-size
-cast-size c = search needs
 
 returns-2 : tie.Need-returns-2
 returns-2 c =
@@ -49,4 +40,4 @@ returns-5 c =
 pub read-cut-spec : {M : Type 1} → statement M
 read-cut-spec =
     tie.close
-    (tie.spec add-if1 returns get-u16-requires cast-size returns-2 returns-3 returns-4 returns-5)
+    (tie.spec (λ c. search needs) returns (λ c κs. search needs) (λ c. search needs) returns-2 returns-3 returns-4 returns-5)

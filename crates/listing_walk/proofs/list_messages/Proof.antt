@@ -47,24 +47,6 @@ cut-before c = c .before .before .before .before .before .before .before .before
 loop-holds : tie.Need-loop-holds Inv-loop μ-loop
 loop-holds c = walk-begin (c .before .before .before .args .input .now) (c .before .before .before .args .image .now) (c .before .before .before .args .out .now) (c .before .before .before .pre .0) (c .before .before .before .pre .1)
 
-sub-read-cut : tie.Need-sub-read-cut Inv-loop μ-loop
-sub-read-cut c = omega arith
-
-part-read-cut-start : tie.Need-part-read-cut-start Inv-loop μ-loop
-part-read-cut-start c = omega arith
-
-part-read-cut-end : tie.Need-part-read-cut-end Inv-loop μ-loop
-part-read-cut-end c = omega arith
-
-read-cut-requires : tie.Need-read-cut-requires Inv-loop μ-loop
-read-cut-requires c κs = search needs
-
-enum-known-cut : tie.Need-enum-known-cut Inv-loop μ-loop
-enum-known-cut c = search needs
-
-enum-told : tie.Need-enum-told Inv-loop μ-loop
-enum-told c = search needs
-
 put-wrong-cut-requires : tie.Need-put-wrong-cut-requires Inv-loop μ-loop
 put-wrong-cut-requires c κs =
     let w = turn (c .before .before .before .before) .loop .inv in
@@ -89,12 +71,6 @@ returns c =
 
 add-end : tie.Need-add-end Inv-loop μ-loop
 add-end c = omega (arith, ends (c .before), start (turn (c .before .before .before)) .good .0 .0)
-
-sub-list-message : tie.Need-sub-list-message Inv-loop μ-loop
-sub-list-message c = omega arith
-
-part-list-message-start : tie.Need-part-list-message-start Inv-loop μ-loop
-part-list-message-start c = omega arith
 
 part-list-message-end : tie.Need-part-list-message-end Inv-loop μ-loop
 part-list-message-end c = omega (arith, ends (c .before .before))
@@ -146,19 +122,19 @@ list-messages-spec =
     Inv-loop
     μ-loop
     loop-holds
-    sub-read-cut
-    part-read-cut-start
-    part-read-cut-end
-    read-cut-requires
-    enum-known-cut
-    enum-told
+    (λ c. omega arith)
+    (λ c. omega arith)
+    (λ c. omega arith)
+    (λ c κs. search needs)
+    (λ c. search needs)
+    (λ c. search needs)
     put-wrong-cut-requires
     same-length
     same-length-2
     returns
     add-end
-    sub-list-message
-    part-list-message-start
+    (λ c. omega arith)
+    (λ c. omega arith)
     part-list-message-end
     list-message-requires
     add-number

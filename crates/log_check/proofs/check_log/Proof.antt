@@ -54,9 +54,6 @@ loop-holds c =
     let s = c .before .before .before .before .before .before in
     checking-none (setIn (s .args .pool .now) (s .args .starts .now)) (s .pre .0) (s .args .places .now) (s .pre .2) (s .args .rows .now) (s .args .counts .now) (s .pre .1 .needs) (s .args .keys .now) (s .pre .1 .keyed)
 
-shared-slice-read-i : tie.Need-shared-slice-read-i Inv-loop μ-loop
-shared-slice-read-i c = omega arith
-
 cast-i : tie.Need-cast-i Inv-loop μ-loop
 cast-i c = let l = c .before .before in let s = entry l in omega (arith, small s (l .loop .k) (omega arith), s .pre .0 .fits)
 
@@ -151,9 +148,6 @@ cast-froms c = let s = entry (ends-turn c) in omega (arith, early (known (c .bef
 array-write-froms : tie.Need-array-write-froms Inv-loop μ-loop
 array-write-froms c = let l = ends-turn c in omega (arith, entry l .pre .2 .few, l .loop .inv .froms-size, room (turn (looked (begun (c .before .before)))))
 
-add-k : tie.Need-add-k Inv-loop μ-loop
-add-k c = omega arith
-
 cast-ends : tie.Need-cast-ends Inv-loop μ-loop
 cast-ends c = let s = entry (ends-turn c) in omega (arith, s .pre .2 .few)
 
@@ -162,9 +156,6 @@ mul-ends c = omega (arith, inside c)
 
 array-write-ends : tie.Need-array-write-ends Inv-loop μ-loop
 array-write-ends c = omega (arith, inside c, ends-turn c .loop .inv .ends-size)
-
-loop-less : tie.Need-loop-less Inv-loop μ-loop
-loop-less c = omega arith
 
 loop-again : tie.Need-loop-again Inv-loop μ-loop
 loop-again c =
@@ -225,7 +216,7 @@ check-log-spec =
     Inv-loop
     μ-loop
     loop-holds
-    shared-slice-read-i
+    (λ c. omega arith)
     cast-i
     slice-aggregate-ready
     ready-requires
@@ -239,11 +230,11 @@ check-log-spec =
     array-write-placed
     cast-froms
     array-write-froms
-    add-k
+    (λ c. omega arith)
     cast-ends
     mul-ends
     array-write-ends
-    loop-less
+    (λ c. omega arith)
     loop-again
     slice-aggregate-any-ready
     any-ready-requires

@@ -33,9 +33,6 @@ prepared c = c .before .before .before
 abbrev again : tie.After-keys3 → tie.After-keys2
 again c = c .before .before .before .before
 
-begin-requires : tie.Need-begin-requires
-begin-requires c κs = search needs
-
 slice-aggregate-prepare : tie.Need-slice-aggregate-prepare
 slice-aggregate-prepare c = refl
 
@@ -90,7 +87,7 @@ pub order-table-spec : {M : Type 1} → statement M
 order-table-spec =
     tie.close
     (tie.spec
-    begin-requires
+    (λ c κs. search needs)
     slice-aggregate-prepare
     slice-aggregate-prepare-2
     slice-aggregate-prepare-3

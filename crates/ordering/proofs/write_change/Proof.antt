@@ -62,12 +62,6 @@ write-steps-requires c κs =
       room = h .steps-fit;
     }
 
-same-length : tie.Need-same-length
-same-length c = search needs
-
-returns : tie.Need-returns
-returns c = search needs
-
 pub write-change-spec : {M : Type 1} → statement M
 write-change-spec =
     tie.close
@@ -79,5 +73,5 @@ write-change-spec =
     array-share-prefix-places
     slice-aggregate-write-steps-3
     write-steps-requires
-    same-length
-    returns)
+    (λ c. search needs)
+    (λ c. search needs))

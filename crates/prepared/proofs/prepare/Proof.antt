@@ -24,21 +24,6 @@ start f = f .before .before .before .before .before .before .before .before
 fits : (k : tie.After-close) → k .close .result ≤ length (k .close .last .1 .0)
 fits k = let s = start (filled k) in omega (arith, k .close .ensures .closing .size, k .close .ensures .closing .few, s .pre .3 .fits)
 
-fill-rows-requires : tie.Need-fill-rows-requires
-fill-rows-requires c κs = search needs
-
-slice-aggregate-close : tie.Need-slice-aggregate-close
-slice-aggregate-close c = search needs
-
-slice-aggregate-close-2 : tie.Need-slice-aggregate-close-2
-slice-aggregate-close-2 c = search needs
-
-close-requires : tie.Need-close-requires
-close-requires c κs = search needs
-
-slice-aggregate-fill-keys : tie.Need-slice-aggregate-fill-keys
-slice-aggregate-fill-keys c = search needs
-
 array-share-prefix-executable : tie.Need-array-share-prefix-executable
 array-share-prefix-executable c = fits (closed c)
 
@@ -51,15 +36,6 @@ fill-keys-requires c κs =
     let s = start (filled k) in
     let e = k .close .ensures .closing in
     (s .pre .2, s .pre .3, e .effective .size, λ i m. omega (arith, e .inside i m, length-map (s .args .starts .now) (messageFrom (s .args .pool .now))))
-
-same-length : tie.Need-same-length
-same-length c = search needs
-
-same-length-2 : tie.Need-same-length-2
-same-length-2 c = search needs
-
-same-length-3 : tie.Need-same-length-3
-same-length-3 c = search needs
 
 returns : tie.Need-returns
 returns c =
@@ -76,15 +52,15 @@ pub prepare-spec : {M : Type 1} → statement M
 prepare-spec =
     tie.close
     (tie.spec
-    fill-rows-requires
-    slice-aggregate-close
-    slice-aggregate-close-2
-    close-requires
-    slice-aggregate-fill-keys
+    (λ c κs. search needs)
+    (λ c. search needs)
+    (λ c. search needs)
+    (λ c κs. search needs)
+    (λ c. search needs)
     array-share-prefix-executable
     slice-aggregate-fill-keys-2
     fill-keys-requires
-    same-length
-    same-length-2
-    same-length-3
+    (λ c. search needs)
+    (λ c. search needs)
+    (λ c. search needs)
     returns)

@@ -17,21 +17,12 @@ abbrev μ-loop : tie.MeasureT-loop
 loop-holds : tie.Need-loop-holds Inv-loop μ-loop
 loop-holds c = putting-first (c .before .before .pre .1)
 
-mul-put-command : tie.Need-mul-put-command Inv-loop μ-loop
-mul-put-command c = omega arith
-
 put-command-requires : tie.Need-put-command-requires Inv-loop μ-loop
 put-command-requires c κs =
     let l = c .before .before in
     let start = l .before .before .before in
     let more = c .before .loop-test .taken in
     (omega (arith, more, l .loop .inv .room, l .loop .inv .size, start .pre .0), omega (arith, more))
-
-add-k : tie.Need-add-k Inv-loop μ-loop
-add-k c = omega arith
-
-loop-less : tie.Need-loop-less Inv-loop μ-loop
-loop-less c = omega arith
 
 loop-again : tie.Need-loop-again Inv-loop μ-loop
 loop-again c =
@@ -53,10 +44,10 @@ put-commands-spec =
     Inv-loop
     μ-loop
     loop-holds
-    mul-put-command
+    (λ c. omega arith)
     put-command-requires
-    add-k
-    loop-less
+    (λ c. omega arith)
+    (λ c. omega arith)
     loop-again
     same-length
     returns)

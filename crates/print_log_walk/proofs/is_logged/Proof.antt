@@ -7,21 +7,6 @@ use borrow.Author.Needs.{needs}
 use Rattle.print_log_walk.proofs.is_logged.Statement.{statement}
 use Rattle.print_log_walk.proofs.is_logged.Tie as tie
 
-log-message-code-requires : tie.Need-log-message-code-requires
-log-message-code-requires c κs = search needs
-
-enum-told : tie.Need-enum-told
-enum-told c = search needs
-
-enum-told-2 : tie.Need-enum-told-2
-enum-told-2 c = search needs
-
-enum-told-3 : tie.Need-enum-told-3
-enum-told-3 c = search needs
-
-enum-told-4 : tie.Need-enum-told-4
-enum-told-4 c = search needs
-
 returns : tie.Need-returns
 returns c = ap (λ (n : ℕ). eqb n 0) (sym (ap lookupBy (c .enum-told .given .1)) ∙ c .before .before .log-message-code .ensures)
 
@@ -38,11 +23,11 @@ pub is-logged-spec : {M : Type 1} → statement M
 is-logged-spec =
     tie.close
     (tie.spec
-    log-message-code-requires
-    enum-told
-    enum-told-2
-    enum-told-3
-    enum-told-4
+    (λ c κs. search needs)
+    (λ c. search needs)
+    (λ c. search needs)
+    (λ c. search needs)
+    (λ c. search needs)
     returns
     returns-2
     returns-3

@@ -23,9 +23,6 @@ Inv-loop image out₀ place₀ offset₀ at₀ out place offset at = Printing im
 abbrev μ-loop : tie.MeasureT-loop
 μ-loop image out₀ place₀ offset₀ at₀ out place offset at = logCount image - place
 
-start-offset-requires : tie.Need-start-offset-requires Inv-loop μ-loop
-start-offset-requires c κs = search needs
-
 -- the call as it began, and the head of the loop, from where the place is looked up
 abbrev began : tie.At-loop Inv-loop μ-loop → tie.Start Inv-loop μ-loop
 began l = l .before .before .before .before
@@ -49,12 +46,6 @@ inside p = p .before .before .before
 loop-holds : tie.Need-loop-holds Inv-loop μ-loop
 loop-holds c = let s = c .before .before .before in printing-first {b = s .args .image .now} {entry = s .args .out .now} (c .start-offset .ensures)
 
-is-logged-requires : tie.Need-is-logged-requires Inv-loop μ-loop
-is-logged-requires c κs = search needs
-
-log-message-requires : tie.Need-log-message-requires Inv-loop μ-loop
-log-message-requires c κs = search needs
-
 put-line-requires : tie.Need-put-line-requires Inv-loop μ-loop
 put-line-requires c κs =
     let i = c .before .before in
@@ -63,9 +54,6 @@ put-line-requires c κs =
       printing-room (l .loop .inv) (found i) (s .pre .1),
       subst (λ (m : Message). T (layoutRight m)) (sym (c .before .log-message .ensures)) (message-right (s .args .image .now) (l .loop .place) (found i)),
     )
-
-move-on-requires : tie.Need-move-on-requires Inv-loop μ-loop
-move-on-requires c κs = search needs
 
 add-place : tie.Need-add-place Inv-loop μ-loop
 add-place c =
@@ -102,12 +90,12 @@ put-lines-spec =
     (tie.spec
     Inv-loop
     μ-loop
-    start-offset-requires
+    (λ c κs. search needs)
     loop-holds
-    is-logged-requires
-    log-message-requires
+    (λ c κs. search needs)
+    (λ c κs. search needs)
     put-line-requires
-    move-on-requires
+    (λ c κs. search needs)
     add-place
     loop-less
     loop-again

@@ -30,12 +30,6 @@ more i = omega (arith, i .loop-test .taken, began (i .before) .pre .log .count)
 here : (i : tie.In-loop Inv-loop μ-loop) → let s = began (i .before) in Lies (s .args .image .now) (getD (s .args .offsets .now) (i .before .loop .k) 0)
 here i = let s = began (i .before) in lies (s .args .image .now) (s .args .offsets .now) (s .pre) (s .args .offset) (i .before .loop .inv) (more i)
 
-mul-at : tie.Need-mul-at Inv-loop μ-loop
-mul-at c = search needs
-
-shared-slice-read-at : tie.Need-shared-slice-read-at Inv-loop μ-loop
-shared-slice-read-at c = search needs
-
 cast-at : tie.Need-cast-at Inv-loop μ-loop
 cast-at c = let h = here (c .before) in omega (arith, h .inside, began (c .before .before) .pre .sized)
 
@@ -45,18 +39,12 @@ add-get-u16 c = let h = here (c .before .before) in omega (arith, h .inside, h .
 get-u16-requires : tie.Need-get-u16-requires Inv-loop μ-loop
 get-u16-requires c κs = let h = here (c .before .before) in omega (arith, h .inside, h .least)
 
-cast-size : tie.Need-cast-size Inv-loop μ-loop
-cast-size c = search needs
-
 returns : tie.Need-returns Inv-loop μ-loop
 returns c =
     let t = c .before in
     let i = t .before .before in
     let s = began (i .before) in
     looking-here (s .args .image .now) (s .args .offsets .now) (s .pre) (s .args .offset) (i .before .loop .inv) (more i) (t .if1 .taken) (c .get-u16 .ensures .0)
-
-add-k : tie.Need-add-k Inv-loop μ-loop
-add-k c = search needs
 
 loop-less : tie.Need-loop-less Inv-loop μ-loop
 loop-less c = omega (arith, c .before .before .loop-test .taken)
@@ -80,14 +68,14 @@ find-message-spec =
     Inv-loop
     μ-loop
     loop-holds
-    mul-at
-    shared-slice-read-at
+    (λ c. search needs)
+    (λ c. search needs)
     cast-at
     add-get-u16
     get-u16-requires
-    cast-size
+    (λ c. search needs)
     returns
-    add-k
+    (λ c. search needs)
     loop-less
     loop-again
     returns-2)

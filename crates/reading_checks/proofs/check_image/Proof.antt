@@ -4,11 +4,8 @@ use Rattle.judged.specs.JudgingLaws.{judgement}
 use Rattle.reading_checks.proofs.check_image.Statement.{statement}
 use Rattle.reading_checks.proofs.check_image.Tie as tie
 
-read-station-requires : tie.Need-read-station-requires
-read-station-requires c κs = search needs
-
 returns : tie.Need-returns
 returns c = judgement (c .before .before .args .image .now) (c .read-station .result) (c .read-station .ensures)
 
 pub check-image-spec : {M : Type 1} → statement M
-check-image-spec = tie.close (tie.spec read-station-requires returns)
+check-image-spec = tie.close (tie.spec (λ c κs. search needs) returns)

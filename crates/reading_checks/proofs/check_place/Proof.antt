@@ -6,12 +6,6 @@ use Rattle.model.specs.Image.{logCount}
 use Rattle.reading_checks.proofs.check_place.Statement.{statement}
 use Rattle.reading_checks.proofs.check_place.Tie as tie
 
-get-u16-requires : tie.Need-get-u16-requires
-get-u16-requires c κs = search needs
-
-cast-logged : tie.Need-cast-logged
-cast-logged c = search needs
-
 returns : tie.Need-returns
 returns c =
     let g = c .before in
@@ -25,4 +19,4 @@ returns-2 c =
     simp (lt-leb (logCount (a .image .now)) (a .place) (omega (arith, g .get-u16 .ensures .0, c .if1 .left)))
 
 pub check-place-spec : {M : Type 1} → statement M
-check-place-spec = tie.close (tie.spec get-u16-requires cast-logged returns returns-2)
+check-place-spec = tie.close (tie.spec (λ c κs. search needs) (λ c. search needs) returns returns-2)

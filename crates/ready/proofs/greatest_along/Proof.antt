@@ -53,15 +53,6 @@ mul-greater c = let l = c .before .before in omega (arith, entry l .pre .0 .smal
 shared-slice-read-greater : tie.Need-shared-slice-read-greater Inv-loop μ-loop
 shared-slice-read-greater c = let s = entry (turn c) in omega (arith, s .pre .0 .small (turn c .loop .k) (omega arith), s .pre .1)
 
-greater-requires : tie.Need-greater-requires Inv-loop μ-loop
-greater-requires c κs = search needs
-
-add-k : tie.Need-add-k Inv-loop μ-loop
-add-k c = omega arith
-
-loop-less : tie.Need-loop-less Inv-loop μ-loop
-loop-less c = omega arith
-
 regroup : (a b c : ℕ) → max a (max b c) ≡ max (max a b) c
 regroup a b c = omega arith
 
@@ -98,8 +89,8 @@ greatest-along-spec =
     cast-need
     mul-greater
     shared-slice-read-greater
-    greater-requires
-    add-k
-    loop-less
+    (λ c κs. search needs)
+    (λ c. omega arith)
+    (λ c. omega arith)
     loop-again
     returns)

@@ -25,16 +25,10 @@ entry c = c .before .before .before .before
 abbrev turn : tie.After-shared-slice-known4 Inv-loop μ-loop → tie.At-loop Inv-loop μ-loop
 turn c = c .before .before .before
 
-shared-slice-read-if1 : tie.Need-shared-slice-read-if1 Inv-loop μ-loop
-shared-slice-read-if1 c = omega arith
-
 returns : tie.Need-returns Inv-loop μ-loop
 returns c =
     let s = c .before .before in
     sym (ready-marked (s .args .rows .now) (s .args .counts .now) (s .args .placed .now) (s .args .i) (ap not (ne-eqb _ _ (c .if1 .taken))))
-
-mul-from : tie.Need-mul-from Inv-loop μ-loop
-mul-from c = omega arith
 
 shared-slice-read-count : tie.Need-shared-slice-read-count Inv-loop μ-loop
 shared-slice-read-count c = let s = c .before .before .before in omega (arith, s .pre .0 .here)
@@ -80,12 +74,6 @@ row-is c b e =
 returns-2 : tie.Need-returns-2 Inv-loop μ-loop
 returns-2 c = sym (row-is (c .before) false (ap not (eq-eqb _ _ (c .if2 .taken))))
 
-add-k : tie.Need-add-k Inv-loop μ-loop
-add-k c = omega arith
-
-loop-less : tie.Need-loop-less Inv-loop μ-loop
-loop-less c = omega arith
-
 loop-again : tie.Need-loop-again Inv-loop μ-loop
 loop-again c = (omega arith, row-is (c .before) true (ap not (ne-eqb _ _ (c .if2 .left))))
 
@@ -100,9 +88,9 @@ ready-spec =
     (tie.spec
     Inv-loop
     μ-loop
-    shared-slice-read-if1
+    (λ c. omega arith)
     returns
-    mul-from
+    (λ c. omega arith)
     shared-slice-read-count
     cast-count
     loop-holds
@@ -111,7 +99,7 @@ ready-spec =
     cast-need
     shared-slice-read-if2
     returns-2
-    add-k
-    loop-less
+    (λ c. omega arith)
+    (λ c. omega arith)
     loop-again
     returns-3)

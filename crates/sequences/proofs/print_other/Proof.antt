@@ -24,79 +24,31 @@ out c = formed c .convert .last .1 .0
 fits : (c : tie.After-known-told) → size c ≤ length (out c)
 fits c = subst (λ (r : Conversion). convertedBy r (out c) .size ≤ length (out c)) (c .before .answer .given .1) (put-inside _ _ (formed c .convert .result) (out c) (formed c .convert .ensures))
 
-convert-requires : tie.Need-convert-requires
-convert-requires c κs = search needs
-
-enum-known-answer : tie.Need-enum-known-answer
-enum-known-answer c = search needs
-
 array-share-prefix-out : tie.Need-array-share-prefix-out
 array-share-prefix-out c = fits c
 
 slice-aggregate-print : tie.Need-slice-aggregate-print
 slice-aggregate-print c = sym (length-take-le (size (c .before)) (out (c .before)) (fits (c .before)))
 
-print-requires : tie.Need-print-requires
-print-requires c κs = search needs
-
-enum-told : tie.Need-enum-told
-enum-told c = search needs
-
-slice-aggregate-refuse : tie.Need-slice-aggregate-refuse
-slice-aggregate-refuse c = search needs
-
-refuse-requires : tie.Need-refuse-requires
-refuse-requires c κs = search needs
-
-enum-told-2 : tie.Need-enum-told-2
-enum-told-2 c = search needs
-
-slice-aggregate-refuse-2 : tie.Need-slice-aggregate-refuse-2
-slice-aggregate-refuse-2 c = search needs
-
-refuse-requires-2 : tie.Need-refuse-requires-2
-refuse-requires-2 c κs = search needs
-
-enum-told-3 : tie.Need-enum-told-3
-enum-told-3 c = search needs
-
-slice-aggregate-refuse-3 : tie.Need-slice-aggregate-refuse-3
-slice-aggregate-refuse-3 c = search needs
-
-refuse-requires-3 : tie.Need-refuse-requires-3
-refuse-requires-3 c κs = search needs
-
-returns : tie.Need-returns
-returns c = search needs
-
-returns-2 : tie.Need-returns-2
-returns-2 c = search needs
-
-returns-3 : tie.Need-returns-3
-returns-3 c = search needs
-
-returns-4 : tie.Need-returns-4
-returns-4 c = search needs
-
 pub print-other-spec : {M : Type 1} → statement M
 print-other-spec =
     tie.close
     (tie.spec
-    convert-requires
-    enum-known-answer
+    (λ c κs. search needs)
+    (λ c. search needs)
     array-share-prefix-out
     slice-aggregate-print
-    print-requires
-    enum-told
-    slice-aggregate-refuse
-    refuse-requires
-    enum-told-2
-    slice-aggregate-refuse-2
-    refuse-requires-2
-    enum-told-3
-    slice-aggregate-refuse-3
-    refuse-requires-3
-    returns
-    returns-2
-    returns-3
-    returns-4)
+    (λ c κs. search needs)
+    (λ c. search needs)
+    (λ c. search needs)
+    (λ c κs. search needs)
+    (λ c. search needs)
+    (λ c. search needs)
+    (λ c κs. search needs)
+    (λ c. search needs)
+    (λ c. search needs)
+    (λ c κs. search needs)
+    (λ c. search needs)
+    (λ c. search needs)
+    (λ c. search needs)
+    (λ c. search needs))

@@ -48,32 +48,11 @@ room h more = record { in-tags = omega arith; in-before = omega arith; in-after 
 loop-holds : tie.Need-loop-holds Inv-loop μ-loop
 loop-holds c = (running-none _ _ _ (search needs), (refl, (refl, refl)))
 
-slice-aggregate-change-of : tie.Need-slice-aggregate-change-of Inv-loop μ-loop
-slice-aggregate-change-of c = search needs
-
-mul-change-of : tie.Need-mul-change-of Inv-loop μ-loop
-mul-change-of c = omega arith
-
-change-of-requires : tie.Need-change-of-requires Inv-loop μ-loop
-change-of-requires c κs = omega arith
-
 keep-requires : tie.Need-keep-requires Inv-loop μ-loop
 keep-requires c κs =
     let m = c .before .before .before in
     let r = room (turn m) (more m) in
     record { in-tags = omega (arith, r .in-tags); in-before = omega (arith, r .in-before); in-after = omega (arith, r .in-after) }
-
-slice-aggregate-apply : tie.Need-slice-aggregate-apply Inv-loop μ-loop
-slice-aggregate-apply c = search needs
-
-apply-requires : tie.Need-apply-requires Inv-loop μ-loop
-apply-requires c κs = search needs
-
-add-k : tie.Need-add-k Inv-loop μ-loop
-add-k c = omega arith
-
-loop-less : tie.Need-loop-less Inv-loop μ-loop
-loop-less c = omega arith
 
 loop-again : tie.Need-loop-again Inv-loop μ-loop
 loop-again c =
@@ -109,14 +88,14 @@ run-commands-spec =
     Inv-loop
     μ-loop
     loop-holds
-    slice-aggregate-change-of
-    mul-change-of
-    change-of-requires
+    (λ c. search needs)
+    (λ c. omega arith)
+    (λ c κs. omega arith)
     keep-requires
-    slice-aggregate-apply
-    apply-requires
-    add-k
-    loop-less
+    (λ c. search needs)
+    (λ c κs. search needs)
+    (λ c. omega arith)
+    (λ c. omega arith)
     loop-again
     same-length
     same-length-2

@@ -33,23 +33,11 @@ part c =
 byte-requires : tie.Need-byte-requires
 byte-requires c κs = omega (arith, sized (c .before .before) .total)
 
-cast-dependencies : tie.Need-cast-dependencies
-cast-dependencies c = search needs
-
-mul-from : tie.Need-mul-from
-mul-from c = search needs
-
-add-from : tie.Need-add-from
-add-from c = search needs
-
 sub-run-commands : tie.Need-sub-run-commands
 sub-run-commands c = omega (arith, inside c)
 
 part-run-commands-start : tie.Need-part-run-commands-start
 part-run-commands-start c = omega (arith, inside c)
-
-part-run-commands-end : tie.Need-part-run-commands-end
-part-run-commands-end c = search needs
 
 run-commands-requires : tie.Need-run-commands-requires
 run-commands-requires c κs =
@@ -59,15 +47,6 @@ run-commands-requires c κs =
     let most = sized s .commands in
     let room = s .pre .1 in
     record { in-tags = omega (arith, room .in-tags); in-before = omega (arith, room .in-before); in-after = omega (arith, room .in-after) }
-
-same-length : tie.Need-same-length
-same-length c = search needs
-
-same-length-2 : tie.Need-same-length-2
-same-length-2 c = search needs
-
-same-length-3 : tie.Need-same-length-3
-same-length-3 c = search needs
 
 returns : tie.Need-returns
 returns c =
@@ -84,14 +63,14 @@ run-delta-spec =
     tie.close
     (tie.spec
     byte-requires
-    cast-dependencies
-    mul-from
-    add-from
+    (λ c. search needs)
+    (λ c. search needs)
+    (λ c. search needs)
     sub-run-commands
     part-run-commands-start
-    part-run-commands-end
+    (λ c. search needs)
     run-commands-requires
-    same-length
-    same-length-2
-    same-length-3
+    (λ c. search needs)
+    (λ c. search needs)
+    (λ c. search needs)
     returns)

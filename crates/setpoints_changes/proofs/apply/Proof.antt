@@ -13,21 +13,9 @@ use Rattle.setpoints_changes.proofs.apply.Tie as tie
 abbrev start : tie.After-struct-told → tie.Start
 start told = told .before .before
 
-cast-tag : tie.Need-cast-tag
-cast-tag c = search needs
-
 returns : tie.Need-returns
 unfolding apply
 returns c = let a = start (c .before) .args in sym (set-out (a .values .now) (a .change .tag) (a .change .after) (omega arith))
-
-mul-after : tie.Need-mul-after
-mul-after c = search needs
-
-slice-set-from-after : tie.Need-slice-set-from-after
-slice-set-from-after c = search needs
-
-same-length : tie.Need-same-length
-same-length c = search needs
 
 returns-2 : tie.Need-returns-2
 unfolding apply
@@ -36,4 +24,4 @@ returns-2 c =
     ap (λ (z : ℤ). set (a .values .now) (a .change .tag) z) (toZ-ofZ (record { sfits = omega arith }))
 
 pub apply-spec : {M : Type 1} → statement M
-apply-spec = tie.close (tie.spec cast-tag returns mul-after slice-set-from-after same-length returns-2)
+apply-spec = tie.close (tie.spec (λ c. search needs) returns (λ c. search needs) (λ c. search needs) (λ c. search needs) returns-2)

@@ -10,30 +10,6 @@ use Rattle.setpoints_changes.specs.ChangeLaws.{changes-set}
 use Rattle.setpoints_changes.proofs.keep.Statement.{statement}
 use Rattle.setpoints_changes.proofs.keep.Tie as tie
 
-slice-write-tags : tie.Need-slice-write-tags
-slice-write-tags c = search needs
-
-mul-found : tie.Need-mul-found
-mul-found c = search needs
-
-slice-set-from-found : tie.Need-slice-set-from-found
-slice-set-from-found c = search needs
-
-mul-left : tie.Need-mul-left
-mul-left c = search needs
-
-slice-set-from-left : tie.Need-slice-set-from-left
-slice-set-from-left c = search needs
-
-same-length : tie.Need-same-length
-same-length c = search needs
-
-same-length-2 : tie.Need-same-length-2
-same-length-2 c = search needs
-
-same-length-3 : tie.Need-same-length-3
-same-length-3 c = search needs
-
 returns : tie.Need-returns
 returns c =
     let a = c .before .before .args in
@@ -45,12 +21,12 @@ pub keep-spec : {M : Type 1} → statement M
 keep-spec =
     tie.close
     (tie.spec
-    slice-write-tags
-    mul-found
-    slice-set-from-found
-    mul-left
-    slice-set-from-left
-    same-length
-    same-length-2
-    same-length-3
+    (λ c. search needs)
+    (λ c. search needs)
+    (λ c. search needs)
+    (λ c. search needs)
+    (λ c. search needs)
+    (λ c. search needs)
+    (λ c. search needs)
+    (λ c. search needs)
     returns)

@@ -7,17 +7,8 @@ use Rattle.setpoints_changes.specs.ChangeLaws.{getD-past}
 use Rattle.setpoints_changes.proofs.value_of.Statement.{statement}
 use Rattle.setpoints_changes.proofs.value_of.Tie as tie
 
-mul-result : tie.Need-mul-result
-mul-result c = search needs
-
-shared-slice-copy-out-result : tie.Need-shared-slice-copy-out-result
-shared-slice-copy-out-result c = search needs
-
-returns : tie.Need-returns
-returns c = search needs
-
 returns-2 : tie.Need-returns-2
 returns-2 c = let a = c .before .args in sym (getD-past (a .values .now) (a .tag) (pos 0) (omega arith))
 
 pub value-of-spec : {M : Type 1} → statement M
-value-of-spec = tie.close (tie.spec mul-result shared-slice-copy-out-result returns returns-2)
+value-of-spec = tie.close (tie.spec (λ c. search needs) (λ c. search needs) (λ c. search needs) returns-2)

@@ -15,12 +15,6 @@ loop-holds c = tt
 drop-piece-requires : tie.Need-drop-piece-requires Inv-loop μ-loop
 drop-piece-requires c κs = tt
 
-sub-tries : tie.Need-sub-tries Inv-loop μ-loop
-sub-tries c = omega arith
-
-loop-less : tie.Need-loop-less Inv-loop μ-loop
-loop-less c = omega arith
-
 loop-again : tie.Need-loop-again Inv-loop μ-loop
 loop-again c = tt
 
@@ -31,4 +25,4 @@ returns-2 : tie.Need-returns-2 Inv-loop μ-loop
 returns-2 c = tt
 
 pub drop-rest-spec : {M : Type 1} → statement M
-drop-rest-spec = tie.close (tie.spec Inv-loop μ-loop loop-holds drop-piece-requires sub-tries loop-less loop-again returns returns-2)
+drop-rest-spec = tie.close (tie.spec Inv-loop μ-loop loop-holds drop-piece-requires (λ c. omega arith) (λ c. omega arith) loop-again returns returns-2)

@@ -26,26 +26,8 @@ over-fits at size (input.Failed n) h e = omega (arith, h, e)
 abbrev turn : tie.After-read-piece Inv-loop μ-loop → tie.At-loop Inv-loop μ-loop
 turn c = c .before .before .before .before
 
-loop-holds : tie.Need-loop-holds Inv-loop μ-loop
-loop-holds c = search needs
-
 same-length : tie.Need-same-length Inv-loop μ-loop
 same-length c = c .before .before .loop .inv .1
-
-returns : tie.Need-returns Inv-loop μ-loop
-returns c = omega arith
-
-sub-tries : tie.Need-sub-tries Inv-loop μ-loop
-sub-tries c = search needs
-
-read-piece-requires : tie.Need-read-piece-requires Inv-loop μ-loop
-read-piece-requires c κs = search needs
-
-enum-known-reading : tie.Need-enum-known-reading Inv-loop μ-loop
-enum-known-reading c = search needs
-
-loop-less : tie.Need-loop-less Inv-loop μ-loop
-loop-less c = omega arith
 
 loop-again : tie.Need-loop-again Inv-loop μ-loop
 loop-again c =
@@ -53,12 +35,6 @@ loop-again c =
     let size = length (turn r .loop .buf) in
     let fits = subst (ReadingFits (turn r .loop .at) size) (c .before .reading .given .1) (r .read-piece .ensures .0) in
     (omega (arith, fits .1, r .read-piece .kept .0), r .read-piece .kept .0 ∙ turn r .loop .inv .1)
-
-enum-known-reading-2 : tie.Need-enum-known-reading-2 Inv-loop μ-loop
-enum-known-reading-2 c = search needs
-
-same-length-2 : tie.Need-same-length-2 Inv-loop μ-loop
-same-length-2 c = search needs
 
 returns-2 : tie.Need-returns-2 Inv-loop μ-loop
 returns-2 c =
@@ -70,25 +46,22 @@ returns-2 c =
 same-length-3 : tie.Need-same-length-3 Inv-loop μ-loop
 same-length-3 c = c .before .loop .inv .1
 
-returns-3 : tie.Need-returns-3 Inv-loop μ-loop
-returns-3 c = search needs
-
 pub read-input-spec : {M : Type 1} → statement M
 read-input-spec =
     tie.close
     (tie.spec
     Inv-loop
     μ-loop
-    loop-holds
+    (λ c. search needs)
     same-length
-    returns
-    sub-tries
-    read-piece-requires
-    enum-known-reading
-    loop-less
+    (λ c. omega arith)
+    (λ c. search needs)
+    (λ c κs. search needs)
+    (λ c. search needs)
+    (λ c. omega arith)
     loop-again
-    enum-known-reading-2
-    same-length-2
+    (λ c. search needs)
+    (λ c. search needs)
     returns-2
     same-length-3
-    returns-3)
+    (λ c. search needs))

@@ -42,26 +42,8 @@ answer-fits c =
     let got = c .read .result in
     rw (toZ-ofZ {z = got} (record { sfits = c .read .ok })) (bounded (start c .args .at) (start c .args .buf .now) got (start c .pre) (c .read .ensures))
 
-sub-read : tie.Need-sub-read
-sub-read c = search needs
-
-part-read-start : tie.Need-part-read-start
-part-read-start c = search needs
-
-part-read-end : tie.Need-part-read-end
-part-read-end c = search needs
-
-read-requires : tie.Need-read-requires
-read-requires c κs = search needs
-
-errno-requires : tie.Need-errno-requires
-errno-requires c κs = search needs
-
 judge-answer-requires : tie.Need-judge-answer-requires
 judge-answer-requires c κs = omega (arith, answer-fits (c .before .before .before))
-
-same-length : tie.Need-same-length
-same-length c = search needs
 
 returns : tie.Need-returns
 returns c =
@@ -77,11 +59,11 @@ pub read-piece-spec : {M : Type 1} → statement M
 read-piece-spec =
     tie.close
     (tie.spec
-    sub-read
-    part-read-start
-    part-read-end
-    read-requires
-    errno-requires
+    (λ c. search needs)
+    (λ c. search needs)
+    (λ c. search needs)
+    (λ c κs. search needs)
+    (λ c κs. search needs)
     judge-answer-requires
-    same-length
+    (λ c. search needs)
     returns)

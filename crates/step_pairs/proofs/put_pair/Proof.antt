@@ -12,21 +12,6 @@ use borrow.Author.Needs.{needs}
 use Rattle.step_pairs.proofs.put_pair.Statement.{statement}
 use Rattle.step_pairs.proofs.put_pair.Tie as tie
 
-add-behind : tie.Need-add-behind
-add-behind c = search needs
-
-put-u32-requires : tie.Need-put-u32-requires
-put-u32-requires c κs = search needs
-
-to-word-requires : tie.Need-to-word-requires
-to-word-requires c κs = search needs
-
-put-u32-requires-2 : tie.Need-put-u32-requires-2
-put-u32-requires-2 c κs = search needs
-
-same-length : tie.Need-same-length
-same-length c = search needs
-
 returns : tie.Need-returns
 returns c =
     let value = c .before .before in
@@ -44,9 +29,9 @@ pub put-pair-spec : {M : Type 1} → statement M
 put-pair-spec =
     tie.close
     (tie.spec
-    add-behind
-    put-u32-requires
-    to-word-requires
-    put-u32-requires-2
-    same-length
+    (λ c. search needs)
+    (λ c κs. search needs)
+    (λ c κs. search needs)
+    (λ c κs. search needs)
+    (λ c. search needs)
     returns)

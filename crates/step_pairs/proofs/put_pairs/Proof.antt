@@ -54,9 +54,6 @@ inside p = let s = start (turn p) in omega (arith, p .place-of .ensures, place-i
 loop-holds : tie.Need-loop-holds Inv-loop μ-loop
 loop-holds c = (omega arith, (let a = c .before .before .args in pairs-none (a .steps .now) (a .at), refl))
 
-place-of-requires : tie.Need-place-of-requires Inv-loop μ-loop
-place-of-requires c κs = omega arith
-
 mul-listed-value : tie.Need-mul-listed-value Inv-loop μ-loop
 mul-listed-value c = let i = inside c in search needs
 
@@ -70,26 +67,8 @@ shared-slice-copy-out-listed-value-2 :
     tie.Need-shared-slice-copy-out-listed-value-2 Inv-loop μ-loop
 shared-slice-copy-out-listed-value-2 c = omega (arith, inside (c .before))
 
-listed-value-requires : tie.Need-listed-value-requires Inv-loop μ-loop
-listed-value-requires c κs = search needs
-
-mul-put-pair : tie.Need-mul-put-pair Inv-loop μ-loop
-mul-put-pair c = omega arith
-
-add-put-pair : tie.Need-add-put-pair Inv-loop μ-loop
-add-put-pair c = omega arith
-
 shared-slice-read-put-pair : tie.Need-shared-slice-read-put-pair Inv-loop μ-loop
 shared-slice-read-put-pair c = omega (arith, inside (c .before .before .before .before .before))
-
-put-pair-requires : tie.Need-put-pair-requires Inv-loop μ-loop
-put-pair-requires c κs = omega arith
-
-add-k : tie.Need-add-k Inv-loop μ-loop
-add-k c = omega arith
-
-loop-less : tie.Need-loop-less Inv-loop μ-loop
-loop-less c = omega arith
 
 loop-again : tie.Need-loop-again Inv-loop μ-loop
 loop-again c =
@@ -127,18 +106,18 @@ put-pairs-spec =
     Inv-loop
     μ-loop
     loop-holds
-    place-of-requires
+    (λ c κs. omega arith)
     mul-listed-value
     shared-slice-copy-out-listed-value
     mul-listed-value-2
     shared-slice-copy-out-listed-value-2
-    listed-value-requires
-    mul-put-pair
-    add-put-pair
+    (λ c κs. search needs)
+    (λ c. omega arith)
+    (λ c. omega arith)
     shared-slice-read-put-pair
-    put-pair-requires
-    add-k
-    loop-less
+    (λ c κs. omega arith)
+    (λ c. omega arith)
+    (λ c. omega arith)
     loop-again
     same-length
     returns)

@@ -77,12 +77,6 @@ put-record-requires c κs =
     let s = start (turn m) in
     (omega (arith, room p), delta-passes (s .args .pool .now) (s .args .starts .now) (s .args .log .now) (s .pre .inside) (m .delta-at .ensures) (omega (arith, more m, turn m .loop .inv .behind)))
 
-add-i : tie.Need-add-i Inv-loop μ-loop
-add-i c = omega arith
-
-loop-less : tie.Need-loop-less Inv-loop μ-loop
-loop-less c = omega arith
-
 loop-again : tie.Need-loop-again Inv-loop μ-loop
 loop-again c =
     let put = c .before .before in
@@ -121,8 +115,8 @@ put-records-spec =
     mul-put-record
     add-put-record
     put-record-requires
-    add-i
-    loop-less
+    (λ c. omega arith)
+    (λ c. omega arith)
     loop-again
     same-length
     returns)

@@ -36,18 +36,12 @@ put-records-requires c κs = undos-fit (began (c .before .before) .pre)
 sub-undone : tie.Need-sub-undone
 sub-undone c = kept-old (start (c .before .before) .pre)
 
-mul-undone : tie.Need-mul-undone
-mul-undone c = search needs
-
 put-records-requires-2 : tie.Need-put-records-requires-2
 put-records-requires-2 c κs =
     let undone = c .before .before .before in
     let s = start undone in
     let same : length (undone .put-records .last .0) ≡ length (s .args .steps .now) = search needs in
     subst (RestFits (s .args .pool .now) (s .args .starts .now) (s .args .new .now) (s .args .kept) (stepSize * (length (s .args .old .now) - s .args .kept))) (sym same) (executions-fit (s .pre))
-
-same-length : tie.Need-same-length
-same-length c = search needs
 
 returns : tie.Need-returns
 returns c =
@@ -66,7 +60,7 @@ write-steps-spec =
     run-log-requires
     put-records-requires
     sub-undone
-    mul-undone
+    (λ c. search needs)
     put-records-requires-2
-    same-length
+    (λ c. search needs)
     returns)

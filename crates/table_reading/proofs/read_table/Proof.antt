@@ -50,12 +50,6 @@ lies i = let s = start (i .before) in walked-lies (s .args .b .now) (countIn (s 
 loop-holds : tie.Need-loop-holds Inv-loop μ-loop
 loop-holds c = (omega arith, refl, gathered-none (c .before .before .args .b .now))
 
-mul-at : tie.Need-mul-at Inv-loop μ-loop
-mul-at c = search needs
-
-shared-slice-read-at : tie.Need-shared-slice-read-at Inv-loop μ-loop
-shared-slice-read-at c = search needs
-
 cast-read-sequence : tie.Need-cast-read-sequence Inv-loop μ-loop
 cast-read-sequence c = omega (arith, lies (c .before), start (head c) .pre .0)
 
@@ -64,9 +58,6 @@ add-read-sequence c = omega (arith, lies (c .before), start (head c) .pre .0)
 
 read-sequence-requires : tie.Need-read-sequence-requires Inv-loop μ-loop
 read-sequence-requires c κs = omega (arith, lies (c .before))
-
-slice-aggregate-take-in : tie.Need-slice-aggregate-take-in Inv-loop μ-loop
-slice-aggregate-take-in c = search needs
 
 take-in-requires : tie.Need-take-in-requires Inv-loop μ-loop
 take-in-requires c κs =
@@ -83,12 +74,6 @@ take-in-requires c κs =
         sequence = r .read-sequence .ensures ∙ sym (lies i .fields sequenceAt sequenceSize (omega (arith, lies i)));
       },
     )
-
-enum-told : tie.Need-enum-told Inv-loop μ-loop
-enum-told c = search needs
-
-enum-told-2 : tie.Need-enum-told-2 Inv-loop μ-loop
-enum-told-2 c = search needs
 
 -- what taking it in answered
 abbrev turn : tie.After-take-in Inv-loop μ-loop → tie.In-loop Inv-loop μ-loop
@@ -107,9 +92,6 @@ here t =
     let s = start h in
     walked-message (bytes h) (countIn (bytes h)) (s .args .offsets .now) (s .pre .1 .pass) (s .pre .2) (h .loop .count) (more (turn t)) (omega arith)
 
-refuse-requires : tie.Need-refuse-requires Inv-loop μ-loop
-refuse-requires c κs = search needs
-
 returns : tie.Need-returns Inv-loop μ-loop
 returns c =
     let t = c .before .before .before .before in
@@ -117,12 +99,6 @@ returns c =
     let l = h .loop in
     wrong-reads (bytes h) (c .refuse .result) (c .refuse .ensures)
     (gathered-twice (bytes h) (l .count) (take (l .count) (l .starts)) (l .inv .2) (more (turn t)) (offset h) (here t) (taken t (c .before .enum-told2 .given .1)))
-
-add-count : tie.Need-add-count Inv-loop μ-loop
-add-count c = omega arith
-
-loop-less : tie.Need-loop-less Inv-loop μ-loop
-loop-less c = omega arith
 
 loop-again : tie.Need-loop-again Inv-loop μ-loop
 loop-again c =
@@ -158,18 +134,18 @@ read-table-spec =
     Inv-loop
     μ-loop
     loop-holds
-    mul-at
-    shared-slice-read-at
+    (λ c. search needs)
+    (λ c. search needs)
     cast-read-sequence
     add-read-sequence
     read-sequence-requires
-    slice-aggregate-take-in
+    (λ c. search needs)
     take-in-requires
-    enum-told
-    enum-told-2
-    refuse-requires
+    (λ c. search needs)
+    (λ c. search needs)
+    (λ c κs. search needs)
     returns
-    add-count
-    loop-less
+    (λ c. omega arith)
+    (λ c. omega arith)
     loop-again
     returns-2)

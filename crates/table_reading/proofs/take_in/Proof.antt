@@ -29,23 +29,11 @@ starts s = take (s .args .count) (s .args .starts .now)
 abbrev sequence : tie.Start → ℕ
 sequence s = sequenceOf (messageFrom (s .args .b .now) (s .args .at))
 
-slice-reshare-prefix-find-from-end : tie.Need-slice-reshare-prefix-find-from-end
-slice-reshare-prefix-find-from-end c = search needs
-
 used : (s : tie.Start) → length (starts s) ≡ s .args .count
 used s = length-take-le (s .args .count) (s .args .starts .now) (omega arith)
 
 slice-aggregate-find-from-end : tie.Need-slice-aggregate-find-from-end
 slice-aggregate-find-from-end c = sym (used (c .before .before .before))
-
-find-from-end-requires : tie.Need-find-from-end-requires
-find-from-end-requires c κs = search needs
-
-enum-known-place : tie.Need-enum-known-place
-enum-known-place c = search needs
-
-enum-told : tie.Need-enum-told
-enum-told c = search needs
 
 -- what was found, of the message's own sequence
 found : (f : tie.After-find-from-end) → Finds (start f .args .b .now) (starts (start f)) (sequence (start f)) (f .find-from-end .result)
@@ -58,9 +46,6 @@ absent : (k : tie.After-known-told) → IsAbsent (start (sought k) .args .b .now
 absent k =
     let s = start (sought k) in
     subst (λ (r : Place). Finds (s .args .b .now) (starts s) (sequence s) r) (k .before .place .given .1) (found (sought k))
-
-same-length : tie.Need-same-length
-same-length c = search needs
 
 returns : tie.Need-returns
 returns c =
@@ -75,9 +60,6 @@ insert-start-requires c κs =
     let s = start (sought k) in
     let inside : k .before .place .given .0 .0 ≤ s .args .count = omega (arith, absent k .inside, used s) in
     (s .pre .0, s .pre .1, inside)
-
-same-length-2 : tie.Need-same-length-2
-same-length-2 c = search needs
 
 returns-2 : tie.Need-returns-2
 returns-2 c =
@@ -99,13 +81,13 @@ pub take-in-spec : {M : Type 1} → statement M
 take-in-spec =
     tie.close
     (tie.spec
-    slice-reshare-prefix-find-from-end
+    (λ c. search needs)
     slice-aggregate-find-from-end
-    find-from-end-requires
-    enum-known-place
-    enum-told
-    same-length
+    (λ c κs. search needs)
+    (λ c. search needs)
+    (λ c. search needs)
+    (λ c. search needs)
     returns
     insert-start-requires
-    same-length-2
+    (λ c. search needs)
     returns-2)

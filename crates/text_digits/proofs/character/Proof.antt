@@ -5,19 +5,13 @@ use Rattle.model.specs.Text.{characterOf}
 use Rattle.text_digits.proofs.character.Statement.{statement}
 use Rattle.text_digits.proofs.character.Tie as tie
 
-add-result : tie.Need-add-result
-add-result c = search needs
-
 returns : tie.Need-returns
 unfolding characterOf
 returns c = simp (lt-ltb _ _ (c .if1 .taken))
-
-add-result-2 : tie.Need-add-result-2
-add-result-2 c = search needs
 
 returns-2 : tie.Need-returns-2
 unfolding characterOf
 returns-2 c = simp (le-ltb _ _ (c .if1 .left))
 
 pub character-spec : {M : Type 1} → statement M
-character-spec = tie.close (tie.spec add-result returns add-result-2 returns-2)
+character-spec = tie.close (tie.spec (λ c. search needs) returns (λ c. search needs) returns-2)

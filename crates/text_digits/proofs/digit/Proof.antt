@@ -3,11 +3,8 @@ use borrow.Author.Needs.{needs}
 use Rattle.text_digits.proofs.digit.Statement.{statement}
 use Rattle.text_digits.proofs.digit.Tie as tie
 
-element-copy-out-result : tie.Need-element-copy-out-result
-element-copy-out-result c = search needs
-
 returns : tie.Need-returns
 returns c = c .before .pre .rule (c .before .args .character) (search needs)
 
 pub digit-spec : {M : Type 1} → statement M
-digit-spec = tie.close (tie.spec element-copy-out-result returns)
+digit-spec = tie.close (tie.spec (λ c. search needs) returns)

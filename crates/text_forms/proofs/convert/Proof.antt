@@ -26,22 +26,13 @@ measured c = c .before .before
 told : (c : tie.After-is-printable) {t : Bool} → c .is-printable .result ≡ t → every printable (withoutLineFeed (began (measured c) .args .input .now)) ≡ t
 told c e = ap (every printable) (sym (measured c .line-size .ensures .line)) ∙ sym (c .is-printable .ensures) ∙ e
 
-line-size-requires : tie.Need-line-size-requires
-line-size-requires c κs = search needs
-
 slice-aggregate-is-printable : tie.Need-slice-aggregate-is-printable
 slice-aggregate-is-printable c = let m = c .before in sym (length-take-le (m .line-size .result) (began m .args .input .now) (m .line-size .ensures .inside))
-
-is-printable-requires : tie.Need-is-printable-requires
-is-printable-requires c κs = search needs
 
 slice-aggregate-read-sequences : tie.Need-slice-aggregate-read-sequences
 slice-aggregate-read-sequences c =
     let m = c .before .before .before .before in
     sym (length-take-le (m .line-size .result) (began m .args .input .now) (m .line-size .ensures .inside))
-
-read-sequences-requires : tie.Need-read-sequences-requires
-read-sequences-requires c κs = search needs
 
 returns : tie.Need-returns
 returns c =
@@ -52,9 +43,6 @@ returns c =
     c .read-sequences .ensures ∙ ap (λ (l : List ℕ). readSequences l (a .output .now)) (measured p .line-size .ensures .line)
     ∙ sequences-printed (withoutLineFeed (a .input .now)) (a .output .now) room
     ∙ ap (λ (f : Printed). putAtFront f (a .output .now)) (form-is (a .input .now) (told p (t .if1 .taken)))
-
-put-line-requires : tie.Need-put-line-requires
-put-line-requires c κs = search needs
 
 returns-2 : tie.Need-returns-2
 returns-2 c =
@@ -67,11 +55,11 @@ pub convert-spec : {M : Type 1} → statement M
 convert-spec =
     tie.close
     (tie.spec
-    line-size-requires
+    (λ c κs. search needs)
     slice-aggregate-is-printable
-    is-printable-requires
+    (λ c κs. search needs)
     slice-aggregate-read-sequences
-    read-sequences-requires
+    (λ c κs. search needs)
     returns
-    put-line-requires
+    (λ c κs. search needs)
     returns-2)

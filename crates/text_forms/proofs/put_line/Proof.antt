@@ -40,12 +40,6 @@ small c =
     let a = began (writing c) .args in
     subst (λ (x : Converted). x .size ≤ textRoom) (sym (wrote c)) (write-short (a .sequences .now) (a .output .now))
 
-write-sequences-requires : tie.Need-write-sequences-requires
-write-sequences-requires c κs = search needs
-
-enum-known-written : tie.Need-enum-known-written
-enum-known-written c = search needs
-
 returns : tie.Need-returns
 returns c =
     let w = c .before in
@@ -65,4 +59,4 @@ returns-2 c =
     text-printed (a .sequences .now) (a .output .now) (room w) (size c) (w .write-sequences .last .1 .0) (wrote c) (small c)
 
 pub put-line-spec : {M : Type 1} → statement M
-put-line-spec = tie.close (tie.spec write-sequences-requires enum-known-written returns element-write-output add-t9 returns-2)
+put-line-spec = tie.close (tie.spec (λ c κs. search needs) (λ c. search needs) returns element-write-output add-t9 returns-2)

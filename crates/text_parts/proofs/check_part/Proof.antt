@@ -41,23 +41,14 @@ behind-is c =
     let d = digits c in
     comma-there (text d) (began d .args .at) (omega arith) (omega (arith, c .if2 .left))
 
-are-digits-requires : tie.Need-are-digits-requires
-are-digits-requires c κs = search needs
-
 returns : tie.Need-returns
 returns c = sym (by-answers (c .before) {b = eqb (behind (c .before)) comma} (not-true (c .before .are-digits .result) (c .if1 .taken)) refl)
-
-add-behind : tie.Need-add-behind
-add-behind c = search needs
 
 returns-2 : tie.Need-returns-2
 returns-2 c =
     let d = c .before .before in
     let e : began d .args .at + charactersSize ≡ length (text d) = c .if2 .taken in
     sym (by-answers d (digits-right (c .before)) (eq-eqb (behind d) comma (comma-put (text d) (began d .args .at) (omega arith) e)))
-
-shared-slice-read-if3 : tie.Need-shared-slice-read-if3
-shared-slice-read-if3 c = search needs
 
 returns-3 : tie.Need-returns-3
 returns-3 c =
@@ -74,4 +65,4 @@ returns-4 c =
 pub check-part-spec : {M : Type 1} → statement M
 check-part-spec =
     tie.close
-    (tie.spec are-digits-requires returns add-behind returns-2 shared-slice-read-if3 returns-3 returns-4)
+    (tie.spec (λ c κs. search needs) returns (λ c. search needs) returns-2 (λ c. search needs) returns-3 returns-4)

@@ -56,38 +56,17 @@ reading c = c .before .before .before
 numbers-are : (c : tie.After-check-numbers) → right (c .check-numbers .result) ≡ allNumbered (sequenceBytesIn (text (reading c)))
 numbers-are c = c .check-numbers .ensures ∙ ap allNumbered (bytes-are (reading c .read-text .ensures))
 
-check-sequences-room-requires : tie.Need-check-sequences-room-requires
-check-sequences-room-requires c κs = search needs
-
-enum-told : tie.Need-enum-told
-enum-told c = search needs
-
-enum-told-2 : tie.Need-enum-told-2
-enum-told-2 c = search needs
-
 returns : tie.Need-returns
 returns c =
     let k = c .before .before in
     let a = began k .args in
     read-told (a .text .now) (a .sequences .now) (met (not-false _ (sym (tells right (c .enum-told2 .given .1) (k .check-sequences-room .ensures)))))
 
-check-text-requires : tie.Need-check-text-requires
-check-text-requires c κs = search needs
-
-enum-told-3 : tie.Need-enum-told-3
-enum-told-3 c = search needs
-
-enum-told-4 : tie.Need-enum-told-4
-enum-told-4 c = search needs
-
 returns-2 : tie.Need-returns-2
 returns-2 c =
     let k = c .before .before in
     let a = began (measured k) .args in
     read-told (a .text .now) (a .sequences .now) (free (room-right (k .before)) (fails (tells right (c .enum-told4 .given .1) (k .check-text .ensures))))
-
-slice-aggregate-read-text : tie.Need-slice-aggregate-read-text
-slice-aggregate-read-text c = search needs
 
 read-text-requires : tie.Need-read-text-requires
 read-text-requires c κs = record { formed = true-T _ (sym (form-right (c .before))); room = lit≤ tt }
@@ -100,15 +79,6 @@ slice-aggregate-check-numbers c =
     let r = c .before .before in
     sym (length-take-le (r .read-text .result) (r .read-text .last .1 .0) (omega (arith, fits r, array-size r)))
 
-check-numbers-requires : tie.Need-check-numbers-requires
-check-numbers-requires c κs = search needs
-
-enum-told-5 : tie.Need-enum-told-5
-enum-told-5 c = search needs
-
-enum-told-6 : tie.Need-enum-told-6
-enum-told-6 c = search needs
-
 returns-3 : tie.Need-returns-3
 returns-3 c =
     let n = c .before .before in
@@ -116,17 +86,11 @@ returns-3 c =
     let a = began (measured (e .before .before)) .args in
     read-told (a .text .now) (a .sequences .now) (form-passed e 14 (fails (tells right (c .enum-told6 .given .1) (numbers-are n))))
 
-slice-aggregate-copy-at : tie.Need-slice-aggregate-copy-at
-slice-aggregate-copy-at c = search needs
-
 copy-at-requires : tie.Need-copy-at-requires
 copy-at-requires c κs =
     let r = reading (c .before .before .before .before) in
     let e = formed r in
     (omega (arith, fits r, array-size r), omega (arith, fits r, ltb-false (length (began (measured (e .before .before)) .args .sequences .now)) sequencesRoom (room-right (e .before .before .before))))
-
-same-length : tie.Need-same-length
-same-length c = search needs
 
 returns-4 : tie.Need-returns-4
 returns-4 c =
@@ -142,23 +106,23 @@ pub read-sequences-spec : {M : Type 1} → statement M
 read-sequences-spec =
     tie.close
     (tie.spec
-    check-sequences-room-requires
-    enum-told
-    enum-told-2
+    (λ c κs. search needs)
+    (λ c. search needs)
+    (λ c. search needs)
     returns
-    check-text-requires
-    enum-told-3
-    enum-told-4
+    (λ c κs. search needs)
+    (λ c. search needs)
+    (λ c. search needs)
     returns-2
-    slice-aggregate-read-text
+    (λ c. search needs)
     read-text-requires
     array-share-prefix-bytes
     slice-aggregate-check-numbers
-    check-numbers-requires
-    enum-told-5
-    enum-told-6
+    (λ c κs. search needs)
+    (λ c. search needs)
+    (λ c. search needs)
     returns-3
-    slice-aggregate-copy-at
+    (λ c. search needs)
     copy-at-requires
-    same-length
+    (λ c. search needs)
     returns-4)

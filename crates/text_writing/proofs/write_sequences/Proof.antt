@@ -38,44 +38,17 @@ form-right c = tells right (c .enum-told3 .given .1) (c .before .before .check-s
 form-passed : (c : tie.After-enum-told3) → let a = began (measured (c .before .before)) .args in Passed 2 (writeSequencesConditions (a .sequences .now) (length (a .text .now)))
 form-passed c n r = free (room-right (c .before .before .before)) (passes (form-right c) r)
 
-check-text-room-requires : tie.Need-check-text-room-requires
-check-text-room-requires c κs = search needs
-
-enum-told : tie.Need-enum-told
-enum-told c = search needs
-
-enum-told-2 : tie.Need-enum-told-2
-enum-told-2 c = search needs
-
 returns : tie.Need-returns
 returns c =
     let k = c .before .before in
     let a = began k .args in
     write-told (a .sequences .now) (a .text .now) (met (not-false _ (sym (tells right (c .enum-told2 .given .1) (k .check-text-room .ensures)))))
 
-check-sequences-requires : tie.Need-check-sequences-requires
-check-sequences-requires c κs = search needs
-
-enum-told-3 : tie.Need-enum-told-3
-enum-told-3 c = search needs
-
-enum-told-4 : tie.Need-enum-told-4
-enum-told-4 c = search needs
-
 returns-2 : tie.Need-returns-2
 returns-2 c =
     let k = c .before .before in
     let a = began (measured k) .args in
     write-told (a .sequences .now) (a .text .now) (free (room-right (k .before)) (fails (tells right (c .enum-told4 .given .1) (k .check-sequences .ensures))))
-
-check-numbers-requires : tie.Need-check-numbers-requires
-check-numbers-requires c κs = search needs
-
-enum-told-5 : tie.Need-enum-told-5
-enum-told-5 c = search needs
-
-enum-told-6 : tie.Need-enum-told-6
-enum-told-6 c = search needs
 
 returns-3 : tie.Need-returns-3
 returns-3 c =
@@ -93,9 +66,6 @@ put-text-requires c κs =
       room = ltb-false (length (a .text .now)) textRoom (room-right (k .before));
     }
 
-same-length : tie.Need-same-length
-same-length c = search needs
-
 returns-4 : tie.Need-returns-4
 returns-4 c =
     let put = c .before .before in
@@ -109,18 +79,18 @@ pub write-sequences-spec : {M : Type 1} → statement M
 write-sequences-spec =
     tie.close
     (tie.spec
-    check-text-room-requires
-    enum-told
-    enum-told-2
+    (λ c κs. search needs)
+    (λ c. search needs)
+    (λ c. search needs)
     returns
-    check-sequences-requires
-    enum-told-3
-    enum-told-4
+    (λ c κs. search needs)
+    (λ c. search needs)
+    (λ c. search needs)
     returns-2
-    check-numbers-requires
-    enum-told-5
-    enum-told-6
+    (λ c κs. search needs)
+    (λ c. search needs)
+    (λ c. search needs)
     returns-3
     put-text-requires
-    same-length
+    (λ c. search needs)
     returns-4)

@@ -45,12 +45,6 @@ array-write-found c = free (c .before .before .before) (c .before .before .loop-
 add-n : tie.Need-add-n Inv-loop μ-loop
 add-n c = let h = free (c .before .before .before) (c .before .before .loop-test .taken) in omega arith
 
-add-i : tie.Need-add-i Inv-loop μ-loop
-add-i c = omega arith
-
-loop-less : tie.Need-loop-less Inv-loop μ-loop
-loop-less c = omega arith
-
 loop-again : tie.Need-loop-again Inv-loop μ-loop
 loop-again c =
     let h = c .before .before .before in
@@ -87,7 +81,7 @@ find-dependencies-spec =
     cast-found
     array-write-found
     add-n
-    add-i
-    loop-less
+    (λ c. omega arith)
+    (λ c. omega arith)
     loop-again
     returns)

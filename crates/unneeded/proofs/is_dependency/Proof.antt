@@ -61,12 +61,6 @@ returns-2 c =
     let s = began (e .before) in
     is-needed (set s) (new s) (own s) (logged e) (in-use s (ap not (ne-eqb _ 0 (c .if2 .taken))))
 
-sequence-at-requires : tie.Need-sequence-at-requires
-sequence-at-requires c κs = search needs
-
-is-predecessor-requires : tie.Need-is-predecessor-requires
-is-predecessor-requires c κs = search needs
-
 returns-3 : tie.Need-returns-3
 returns-3 c =
     let read = c .before in
@@ -84,6 +78,6 @@ is-dependency-spec =
     returns
     array-read-if2
     returns-2
-    sequence-at-requires
-    is-predecessor-requires
+    (λ c κs. search needs)
+    (λ c κs. search needs)
     returns-3)

@@ -8,22 +8,10 @@ use borrow.Author.Needs.{needs}
 use Rattle.unneeded.proofs.is_predecessor.Statement.{statement}
 use Rattle.unneeded.proofs.is_predecessor.Tie as tie
 
-predecessor-of-requires : tie.Need-predecessor-of-requires
-predecessor-of-requires c κs = search needs
-
-enum-known-before : tie.Need-enum-known-before
-enum-known-before c = search needs
-
-enum-told : tie.Need-enum-told
-enum-told c = search needs
-
 returns : tie.Need-returns
 returns c =
     let p = c .before .before in
     ap (has (sequenceNumber (p .before .args .x))) (sym (ap predecessorList (c .enum-told .given .1)) ∙ p .predecessor-of .ensures)
-
-equal-requires : tie.Need-equal-requires
-equal-requires c κs = search needs
 
 returns-2 : tie.Need-returns-2
 returns-2 c =
@@ -36,4 +24,4 @@ returns-2 c =
 pub is-predecessor-spec : {M : Type 1} → statement M
 is-predecessor-spec =
     tie.close
-    (tie.spec predecessor-of-requires enum-known-before enum-told returns equal-requires returns-2)
+    (tie.spec (λ c κs. search needs) (λ c. search needs) (λ c. search needs) returns (λ c κs. search needs) returns-2)

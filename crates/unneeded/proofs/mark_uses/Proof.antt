@@ -38,23 +38,8 @@ slice-aggregate-fill-rows c = refl
 slice-aggregate-fill-rows-2 : tie.Need-slice-aggregate-fill-rows-2
 slice-aggregate-fill-rows-2 c = refl
 
-fill-rows-requires : tie.Need-fill-rows-requires
-fill-rows-requires c κs = search needs
-
-slice-aggregate-mark : tie.Need-slice-aggregate-mark
-slice-aggregate-mark c = search needs
-
 mark-requires : tie.Need-mark-requires
 mark-requires c κs i k = let s = began (c .before .before .before) in omega (arith, below s i k, s .pre .holds .fits)
-
-slice-aggregate-mark-needs : tie.Need-slice-aggregate-mark-needs
-slice-aggregate-mark-needs c = search needs
-
-slice-aggregate-mark-needs-2 : tie.Need-slice-aggregate-mark-needs-2
-slice-aggregate-mark-needs-2 c = search needs
-
-slice-aggregate-mark-needs-3 : tie.Need-slice-aggregate-mark-needs-3
-slice-aggregate-mark-needs-3 c = search needs
 
 mark-needs-requires : tie.Need-mark-needs-requires
 mark-needs-requires c κs =
@@ -85,11 +70,11 @@ mark-uses-spec =
     (tie.spec
     slice-aggregate-fill-rows
     slice-aggregate-fill-rows-2
-    fill-rows-requires
-    slice-aggregate-mark
+    (λ c κs. search needs)
+    (λ c. search needs)
     mark-requires
-    slice-aggregate-mark-needs
-    slice-aggregate-mark-needs-2
-    slice-aggregate-mark-needs-3
+    (λ c. search needs)
+    (λ c. search needs)
+    (λ c. search needs)
     mark-needs-requires
     returns)

@@ -7,12 +7,6 @@ use borrow.Author.Needs.{needs}
 use Rattle.walk.proofs.check_used.Statement.{statement}
 use Rattle.walk.proofs.check_used.Tie as tie
 
-get-u16-requires : tie.Need-get-u16-requires
-get-u16-requires c κs = search needs
-
-cast-if1 : tie.Need-cast-if1
-cast-if1 c = search needs
-
 returns : tie.Need-returns
 returns c =
     let a = c .before .before .before .args in
@@ -25,4 +19,4 @@ returns-2 c =
     sym (eq-eqb (a .at) (usedCount (a .b .now)) (omega (arith, c .if1 .left, c .before .get-u16 .ensures .0)))
 
 pub check-used-spec : {M : Type 1} → statement M
-check-used-spec = tie.close (tie.spec get-u16-requires cast-if1 returns returns-2)
+check-used-spec = tie.close (tie.spec (λ c κs. search needs) (λ c. search needs) returns returns-2)

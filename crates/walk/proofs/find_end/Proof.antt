@@ -18,35 +18,11 @@ use Rattle.walk.proofs.find_end.Tie as tie
 abbrev begun : tie.After-add-length → tie.Start
 begun e = e .before .before .before
 
-sub-if1 : tie.Need-sub-if1
-sub-if1 c = search needs
-
 returns : tie.Need-returns
 returns c = let a = c .before .before .args in short-fails (a .b .now) (a .at) (omega arith)
 
-add-length-requires : tie.Need-add-length-requires
-add-length-requires c κs = search needs
-
 returns-2 : tie.Need-returns-2
 returns-2 c = let a = begun (c .before) .args in past-end-fails (a .b .now) (a .at) (omega arith)
-
-sub-check-message : tie.Need-sub-check-message
-sub-check-message c = search needs
-
-part-check-message-start : tie.Need-part-check-message-start
-part-check-message-start c = search needs
-
-part-check-message-end : tie.Need-part-check-message-end
-part-check-message-end c = search needs
-
-check-message-requires : tie.Need-check-message-requires
-check-message-requires c κs = search needs
-
-enum-told : tie.Need-enum-told
-enum-told c = search needs
-
-enum-told-2 : tie.Need-enum-told-2
-enum-told-2 c = search needs
 
 -- where the end is known, from where the message is checked; and the call as it began
 abbrev ended : tie.After-check-message → tie.After-add-length
@@ -75,15 +51,15 @@ pub find-end-spec : {M : Type 1} → statement M
 find-end-spec =
     tie.close
     (tie.spec
-    sub-if1
+    (λ c. search needs)
     returns
-    add-length-requires
+    (λ c κs. search needs)
     returns-2
-    sub-check-message
-    part-check-message-start
-    part-check-message-end
-    check-message-requires
-    enum-told
-    enum-told-2
+    (λ c. search needs)
+    (λ c. search needs)
+    (λ c. search needs)
+    (λ c κs. search needs)
+    (λ c. search needs)
+    (λ c. search needs)
     returns-3
     returns-4)

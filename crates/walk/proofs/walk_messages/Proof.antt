@@ -52,21 +52,6 @@ last u = u .before .before
 few : (c : tie.After-messages-start Inv-loop μ-loop) → c .before .before .before .before .count-messages .result ≤ capacity
 few c = leb-true _ capacity (sym (sym (ap right (c .before .enum-told .given .1)) ∙ c .before .before .before .check-count .ensures))
 
-count-messages-requires : tie.Need-count-messages-requires Inv-loop μ-loop
-count-messages-requires c κs = omega arith
-
-check-count-requires : tie.Need-check-count-requires Inv-loop μ-loop
-check-count-requires c κs = search needs
-
-enum-told : tie.Need-enum-told Inv-loop μ-loop
-enum-told c = search needs
-
-enum-told-2 : tie.Need-enum-told-2 Inv-loop μ-loop
-enum-told-2 c = search needs
-
-refuse-requires : tie.Need-refuse-requires Inv-loop μ-loop
-refuse-requires c κs = search needs
-
 returns : tie.Need-returns Inv-loop μ-loop
 returns c =
     let n = c .before .before .before in
@@ -75,9 +60,6 @@ returns c =
     let many : capacity < total = leb-false total capacity (sym (n .check-count .ensures) ∙ ap right (c .before .enum-told2 .given .1)) in
     wrong-walks b (c .refuse .result) (c .refuse .ensures) (too-many b (omega (arith, n .before .count-messages .ensures)))
 
-messages-start-requires : tie.Need-messages-start-requires Inv-loop μ-loop
-messages-start-requires c κs = search needs
-
 loop-holds : tie.Need-loop-holds Inv-loop μ-loop
 loop-holds c =
     let b = begun c .args .b .now in
@@ -85,15 +67,6 @@ loop-holds c =
 
 find-end-requires : tie.Need-find-end-requires Inv-loop μ-loop
 find-end-requires c κs = (start (c .before) .pre, c .before .loop .inv .4 .inside)
-
-enum-known-found : tie.Need-enum-known-found Inv-loop μ-loop
-enum-known-found c = search needs
-
-enum-told-3 : tie.Need-enum-told-3 Inv-loop μ-loop
-enum-told-3 c = search needs
-
-refuse-requires-2 : tie.Need-refuse-requires-2 Inv-loop μ-loop
-refuse-requires-2 c κs = search needs
 
 returns-2 : tie.Need-returns-2 Inv-loop μ-loop
 returns-2 c =
@@ -113,18 +86,6 @@ lies k = let h = head (sought k) in passes-lies (bytes h) (h .loop .at) (ended k
 cast-offsets : tie.Need-cast-offsets Inv-loop μ-loop
 cast-offsets c = omega (arith, lies c, start (head (sought c)) .pre)
 
-mul-offsets : tie.Need-mul-offsets Inv-loop μ-loop
-mul-offsets c = search needs
-
-array-write-offsets : tie.Need-array-write-offsets Inv-loop μ-loop
-array-write-offsets c = omega arith
-
-add-count : tie.Need-add-count Inv-loop μ-loop
-add-count c = omega arith
-
-loop-less : tie.Need-loop-less Inv-loop μ-loop
-loop-less c = omega arith
-
 loop-again : tie.Need-loop-again Inv-loop μ-loop
 loop-again c =
     let h = head (sought c) in
@@ -135,15 +96,6 @@ loop-again c =
 
 check-used-requires : tie.Need-check-used-requires Inv-loop μ-loop
 check-used-requires c κs = omega (arith, start (c .before) .pre)
-
-enum-told-4 : tie.Need-enum-told-4 Inv-loop μ-loop
-enum-told-4 c = search needs
-
-enum-told-5 : tie.Need-enum-told-5 Inv-loop μ-loop
-enum-told-5 c = search needs
-
-refuse-requires-3 : tie.Need-refuse-requires-3 Inv-loop μ-loop
-refuse-requires-3 c κs = search needs
 
 returns-3 : tie.Need-returns-3 Inv-loop μ-loop
 returns-3 c =
@@ -169,28 +121,28 @@ walk-messages-spec =
     (tie.spec
     Inv-loop
     μ-loop
-    count-messages-requires
-    check-count-requires
-    enum-told
-    enum-told-2
-    refuse-requires
+    (λ c κs. omega arith)
+    (λ c κs. search needs)
+    (λ c. search needs)
+    (λ c. search needs)
+    (λ c κs. search needs)
     returns
-    messages-start-requires
+    (λ c κs. search needs)
     loop-holds
     find-end-requires
-    enum-known-found
-    enum-told-3
-    refuse-requires-2
+    (λ c. search needs)
+    (λ c. search needs)
+    (λ c κs. search needs)
     returns-2
     cast-offsets
-    mul-offsets
-    array-write-offsets
-    add-count
-    loop-less
+    (λ c. search needs)
+    (λ c. omega arith)
+    (λ c. omega arith)
+    (λ c. omega arith)
     loop-again
     check-used-requires
-    enum-told-4
-    enum-told-5
-    refuse-requires-3
+    (λ c. search needs)
+    (λ c. search needs)
+    (λ c κs. search needs)
     returns-3
     returns-4)

@@ -12,17 +12,8 @@ use Rattle.arithmetic.proofs.IntegerLaws.{flip-pos}
 use Rattle.arithmetic.proofs.integers.of_word.Statement.{statement}
 use Rattle.arithmetic.proofs.integers.of_word.Tie as tie
 
-cast-result : tie.Need-cast-result
-cast-result c = search needs
-
 returns : tie.Need-returns
 returns c = simp (lt-ltb _ _ (c .if1 .taken))
-
-sub-below : tie.Need-sub-below
-sub-below c = search needs
-
-cast-below : tie.Need-cast-below
-cast-below c = search needs
 
 flipped : (c : tie.Else1) → negsuc 0 -ℤ toZ w32 (4294967295 - c .before .args .n) ≡ negsuc (4294967295 - c .before .args .n)
 flipped c = ap (λ (z : ℤ). negsuc 0 -ℤ z) (toZ-pos w32 {n = 4294967295 - c .before .args .n} (omega arith)) ∙ flip-pos (4294967295 - c .before .args .n)
@@ -38,4 +29,4 @@ returns-2 c =
     ap (λ (z : ℤ). toZ w32 (ofZ w32 z)) (flipped c) ∙ toZ-ofZ f ∙ ap negsuc e ∙ sym (simp (le-ltb n 2147483648 (c .if1 .left), lt-ltb n 4294967296 (omega arith)))
 
 pub of-word-spec : {M : Type 1} → statement M
-of-word-spec = tie.close (tie.spec cast-result returns sub-below cast-below sub-result returns-2)
+of-word-spec = tie.close (tie.spec (λ c. search needs) returns (λ c. search needs) (λ c. search needs) sub-result returns-2)

@@ -12,12 +12,6 @@ returns : tie.Need-returns
 unfolding operate
 returns c = simp (toZ-ofZ (c .before .fits .v), eq-eqb _ _ (c .if1 .taken))
 
-sum-requires : tie.Need-sum-requires
-sum-requires c κs = search needs
-
-stop-requires : tie.Need-stop-requires
-stop-requires c κs = search needs
-
 returns-2 : tie.Need-returns-2
 unfolding operate
 returns-2 c =
@@ -28,9 +22,6 @@ returns-2 c =
     let stopped = rw (toZ-ofZ {w = w64} {z = added .sum .result} (record { sfits = added .sum .ok }), total) at (c .stop .ensures) in
     simp (ne-eqb _ _ (one .if1 .left), eq-eqb _ _ (two .if2 .taken)) (toZ-ofZ {z = c .stop .result} (record { sfits = c .stop .ok }) ∙ stopped)
 
-raise-to-requires : tie.Need-raise-to-requires
-raise-to-requires c κs = search needs
-
 returns-3 : tie.Need-returns-3
 unfolding operate
 returns-3 c =
@@ -40,4 +31,4 @@ returns-3 c =
     simp (ne-eqb _ _ (one .if1 .left), ne-eqb _ _ (two .if2 .left)) (toZ-ofZ {z = c .raise-to .result} (record { sfits = c .raise-to .ok }) ∙ raised)
 
 pub operate-spec : {M : Type 1} → statement M
-operate-spec = tie.close (tie.spec returns sum-requires stop-requires returns-2 raise-to-requires returns-3)
+operate-spec = tie.close (tie.spec returns (λ c κs. search needs) (λ c κs. search needs) returns-2 (λ c κs. search needs) returns-3)

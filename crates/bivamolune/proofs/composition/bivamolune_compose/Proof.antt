@@ -8,17 +8,11 @@ use Rattle.bivamolune.proofs.composition.bivamolune_compose.Tie as tie
 abbrev began : tie.After-compose → tie.Start
 began c = c .before .before .before .before .before .before
 
-compose-requires : tie.Need-compose-requires
-compose-requires c κs = search needs
-
 pack-composition-requires : tie.Need-pack-composition-requires
 pack-composition-requires c κs =
     let d = c .before .before in
     let a = began d .args in
     short (a .image .now) (a .line .now) (a .commands .now) (a .priority-flag) (a .priority) (a .message .now) (d .compose .result) _ (d .compose .ensures)
-
-same-length : tie.Need-same-length
-same-length c = search needs
 
 returns : tie.Need-returns
 returns c =
@@ -28,4 +22,4 @@ returns c =
 
 pub bivamolune-compose-spec : {M : Type 1} → statement M
 bivamolune-compose-spec =
-    tie.close (tie.spec compose-requires pack-composition-requires same-length returns)
+    tie.close (tie.spec (λ c κs. search needs) pack-composition-requires (λ c. search needs) returns)

@@ -21,27 +21,12 @@ answers c l e r f =
     let a = began c .args in
     answers-log-message (a .image .now) (a .place) l (ap partBy (sym e) ∙ c .locate .ensures) r f
 
-locate-requires : tie.Need-locate-requires
-locate-requires c κs = search needs
-
-enum-known-located : tie.Need-enum-known-located
-enum-known-located c = search needs
-
 pack-part-requires : tie.Need-pack-part-requires
 pack-part-requires c κs =
     let k = c .before in
     let l = k .before .before in
     let a = began l .args in
     part-small (a .image .now) (a .place) (l .locate .result) (l .locate .ensures) (k .located .given .0 .0) (k .located .given .0 .1 .0) (k .located .given .1)
-
-enum-told : tie.Need-enum-told
-enum-told c = search needs
-
-enum-told-2 : tie.Need-enum-told-2
-enum-told-2 c = search needs
-
-enum-told-3 : tie.Need-enum-told-3
-enum-told-3 c = search needs
 
 returns : tie.Need-returns
 returns c =
@@ -61,12 +46,12 @@ pub bivamolune-log-message-spec : {M : Type 1} → statement M
 bivamolune-log-message-spec =
     tie.close
     (tie.spec
-    locate-requires
-    enum-known-located
+    (λ c κs. search needs)
+    (λ c. search needs)
     pack-part-requires
-    enum-told
-    enum-told-2
-    enum-told-3
+    (λ c. search needs)
+    (λ c. search needs)
+    (λ c. search needs)
     returns
     returns-2
     returns-3

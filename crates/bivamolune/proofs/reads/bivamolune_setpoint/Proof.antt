@@ -24,24 +24,6 @@ answers c d e r f =
     let a = began c .args in
     answers-setpoint (a .image .now) (a .tag) d (ap setpointBy (sym e) ∙ c .setpoint .ensures) r f
 
-setpoint-requires : tie.Need-setpoint-requires
-setpoint-requires c κs = search needs
-
-enum-known-reading : tie.Need-enum-known-reading
-enum-known-reading c = search needs
-
-pack-value-requires : tie.Need-pack-value-requires
-pack-value-requires c κs = search needs
-
-enum-told : tie.Need-enum-told
-enum-told c = search needs
-
-enum-told-2 : tie.Need-enum-told-2
-enum-told-2 c = search needs
-
-enum-told-3 : tie.Need-enum-told-3
-enum-told-3 c = search needs
-
 returns : tie.Need-returns
 returns c =
     let k = c .before .before in
@@ -64,12 +46,12 @@ pub bivamolune-setpoint-spec : {M : Type 1} → statement M
 bivamolune-setpoint-spec =
     tie.close
     (tie.spec
-    setpoint-requires
-    enum-known-reading
-    pack-value-requires
-    enum-told
-    enum-told-2
-    enum-told-3
+    (λ c κs. search needs)
+    (λ c. search needs)
+    (λ c κs. search needs)
+    (λ c. search needs)
+    (λ c. search needs)
+    (λ c. search needs)
     returns
     returns-2
     returns-3

@@ -11,17 +11,11 @@ use Rattle.bivamolune.proofs.texts.bivamolune_read_sequences.Tie as tie
 abbrev began : tie.After-read-sequences → tie.Start
 began c = c .before .before .before .before
 
-read-sequences-requires : tie.Need-read-sequences-requires
-read-sequences-requires c κs = search needs
-
 pack-conversion-requires : tie.Need-pack-conversion-requires
 pack-conversion-requires c κs =
     let d = c .before .before in
     let a = began d .args in
     short (readSequences (a .text .now) (a .sequences .now)) (d .read-sequences .result) _ (d .read-sequences .ensures) (omega (arith, read-short (a .text .now) (a .sequences .now)))
-
-same-length : tie.Need-same-length
-same-length c = search needs
 
 returns : tie.Need-returns
 returns c =
@@ -31,4 +25,4 @@ returns c =
 
 pub bivamolune-read-sequences-spec : {M : Type 1} → statement M
 bivamolune-read-sequences-spec =
-    tie.close (tie.spec read-sequences-requires pack-conversion-requires same-length returns)
+    tie.close (tie.spec (λ c κs. search needs) pack-conversion-requires (λ c. search needs) returns)

@@ -10,17 +10,11 @@ use Rattle.bivamolune.proofs.texts.bivamolune_write_sequences.Tie as ti
 abbrev began : tie.After-write-sequences → tie.Start
 began c = c .before .before .before .before
 
-write-sequences-requires : tie.Need-write-sequences-requires
-write-sequences-requires c κs = search needs
-
 pack-conversion-requires : tie.Need-pack-conversion-requires
 pack-conversion-requires c κs =
     let d = c .before .before in
     let a = began d .args in
     short (writeSequences (a .sequences .now) (a .text .now)) (d .write-sequences .result) _ (d .write-sequences .ensures) (write-short (a .sequences .now) (a .text .now))
-
-same-length : tie.Need-same-length
-same-length c = search needs
 
 returns : tie.Need-returns
 returns c =
@@ -30,4 +24,4 @@ returns c =
 
 pub bivamolune-write-sequences-spec : {M : Type 1} → statement M
 bivamolune-write-sequences-spec =
-    tie.close (tie.spec write-sequences-requires pack-conversion-requires same-length returns)
+    tie.close (tie.spec (λ c κs. search needs) pack-conversion-requires (λ c. search needs) returns)

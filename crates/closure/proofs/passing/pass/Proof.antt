@@ -34,12 +34,6 @@ try-place-requires c κs =
     let s = entry (l .before) in
     (s .pre .0, s .pre .1, l .loop .inv .1 .closing, omega arith)
 
-add-i : tie.Need-add-i Inv-loop μ-loop
-add-i c = omega arith
-
-loop-less : tie.Need-loop-less Inv-loop μ-loop
-loop-less c = omega arith
-
 loop-again : tie.Need-loop-again Inv-loop μ-loop
 loop-again c =
     let a = c .before .before .before .before .before .before in
@@ -48,15 +42,6 @@ loop-again c =
       omega arith,
       passing-more (setIn (s .args .pool .now) (s .args .starts .now)) (s .args .rows .now) (s .args .counts .now) (s .args .count) (l .loop .placed) _ _ _ (l .loop .n) (a .try-place .result) (l .loop .i) (l .loop .inv .1) (a .try-place .ensures),
     )
-
-same-length : tie.Need-same-length Inv-loop μ-loop
-same-length c = search needs
-
-same-length-2 : tie.Need-same-length-2 Inv-loop μ-loop
-same-length-2 c = search needs
-
-same-length-3 : tie.Need-same-length-3 Inv-loop μ-loop
-same-length-3 c = search needs
 
 returns : tie.Need-returns Inv-loop μ-loop
 returns c =
@@ -73,10 +58,10 @@ pass-spec =
     μ-loop
     loop-holds
     try-place-requires
-    add-i
-    loop-less
+    (λ c. omega arith)
+    (λ c. omega arith)
     loop-again
-    same-length
-    same-length-2
-    same-length-3
+    (λ c. search needs)
+    (λ c. search needs)
+    (λ c. search needs)
     returns)

@@ -8,9 +8,6 @@ use Rattle.table.specs.PlaceLaws.{entry-long}
 use Rattle.closure.proofs.placing.own_block.Statement.{statement}
 use Rattle.closure.proofs.placing.own_block.Tie as tie
 
-message-at-requires : tie.Need-message-at-requires
-message-at-requires c κs = search needs
-
 get-u32-requires : tie.Need-get-u32-requires
 get-u32-requires c κs =
     let s = c .before .before .before in
@@ -20,4 +17,4 @@ returns : tie.Need-returns
 returns c = c .get-u32 .ensures ∙ ap blockOf (c .before .message-at .ensures)
 
 pub own-block-spec : {M : Type 1} → statement M
-own-block-spec = tie.close (tie.spec message-at-requires get-u32-requires returns)
+own-block-spec = tie.close (tie.spec (λ c κs. search needs) get-u32-requires returns)

@@ -30,17 +30,11 @@ row s = rows-fit (setIn (s .args .pool .now) (s .args .starts .now)) (s .pre .0)
 ready-requires : tie.Need-ready-requires
 ready-requires c κs = let s = start c in (row s, s .pre .2 .placing .marks .size, omega (arith, inside s, s .pre .0 .fits))
 
-same-length : tie.Need-same-length
-same-length c = search needs
-
 returns : tie.Need-returns
 returns c =
     let s = start (c .before .before) in
     tried-idle (setIn (s .args .pool .now) (s .args .starts .now)) (s .pre .0) (s .args .placed .now) (s .args .blocks .now) (s .args .order .now) (s .args .count) (s .pre .2) (s .args .rows .now) (s .args .counts .now) (s .args .i)
     (sym (c .before .ready .ensures) ∙ not-true (c .before .ready .result) (c .if1 .taken))
-
-own-block-requires : tie.Need-own-block-requires
-own-block-requires c κs = search needs
 
 greatest-along-requires : tie.Need-greatest-along-requires
 greatest-along-requires c κs = let s = start (c .before .before .before .before) in (row s, s .pre .2 .effective .size)
@@ -58,9 +52,6 @@ placed c =
 slice-write-placed : tie.Need-slice-write-placed
 slice-write-placed c = let s = start (looked c .before) in omega (arith, inside s, s .pre .0 .fits, s .pre .2 .placing .marks .size)
 
-mul-blocks : tie.Need-mul-blocks
-mul-blocks c = search needs
-
 slice-write-blocks : tie.Need-slice-write-blocks
 slice-write-blocks c = let s = start (looked c .before) in omega (arith, inside s, s .pre .0 .fits, s .pre .2 .effective .size)
 
@@ -70,18 +61,6 @@ cast-order c = let s = start (looked c .before) in omega (arith, inside s, s .pr
 slice-write-order : tie.Need-slice-write-order
 slice-write-order c = let s = start (looked c .before) in omega (arith, placed c .closing .few, s .pre .0 .fits, s .pre .2 .size)
 
-add-result : tie.Need-add-result
-add-result c = search needs
-
-same-length-2 : tie.Need-same-length-2
-same-length-2 c = search needs
-
-same-length-3 : tie.Need-same-length-3
-same-length-3 c = search needs
-
-same-length-4 : tie.Need-same-length-4
-same-length-4 c = search needs
-
 returns-2 : tie.Need-returns-2
 returns-2 c = placed c
 
@@ -90,17 +69,17 @@ try-place-spec =
     tie.close
     (tie.spec
     ready-requires
-    same-length
+    (λ c. search needs)
     returns
-    own-block-requires
+    (λ c κs. search needs)
     greatest-along-requires
     slice-write-placed
-    mul-blocks
+    (λ c. search needs)
     slice-write-blocks
     cast-order
     slice-write-order
-    add-result
-    same-length-2
-    same-length-3
-    same-length-4
+    (λ c. search needs)
+    (λ c. search needs)
+    (λ c. search needs)
+    (λ c. search needs)
     returns-2)

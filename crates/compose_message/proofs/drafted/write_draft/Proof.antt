@@ -55,9 +55,6 @@ write-drafted-requires c κs =
     let s = began f in
     record { holds = s .pre .log .holds; sized = s .pre .sized; room = s .pre .room; found-are = f .find-dependencies .ensures; few = few t }
 
-same-length : tie.Need-same-length
-same-length c = search needs
-
 returns-2 : tie.Need-returns-2
 returns-2 c =
     let w = c .before .before in
@@ -76,5 +73,5 @@ write-draft-spec =
     enum-told-2
     returns
     write-drafted-requires
-    same-length
+    (λ c. search needs)
     returns-2)

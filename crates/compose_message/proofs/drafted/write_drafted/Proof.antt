@@ -37,9 +37,6 @@ write-message-requires c κs =
       few = record { dependencies-fit = s .pre .few; commands-fit = e .few };
     }
 
-same-length : tie.Need-same-length
-same-length c = search needs
-
 returns : tie.Need-returns
 returns c =
     let w = c .before .before in
@@ -54,5 +51,5 @@ write-drafted-spec =
     array-share-prefix-places
     slice-aggregate-write-message
     write-message-requires
-    same-length
+    (λ c. search needs)
     returns)

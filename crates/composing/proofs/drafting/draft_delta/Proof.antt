@@ -43,14 +43,8 @@ own-is c = let s = began c in numbered (s .args .line) (c .new-number .result) (
 group-is : (c : tie.After-new-group) → let s = began (counted (blocked c)) in c .new-group .result ≡ newGroup (set s) (newSequence (set s) (line s))
 group-is c = let n = counted (blocked c) in c .new-group .ensures ∙ ap (newGroup (set (began n))) (own-is n)
 
-new-number-requires : tie.Need-new-number-requires
-new-number-requires c κs = search needs
-
 returns : tie.Need-returns
 returns c = let n = c .before in let s = began n in past-number (set s) (line s) (flag s) (n .new-number .ensures .0) refl refl (c .if1 .taken)
-
-new-block-requires : tie.Need-new-block-requires
-new-block-requires c κs = search needs
 
 returns-2 : tie.Need-returns-2
 returns-2 c =
@@ -59,12 +53,6 @@ returns-2 c =
     let s = began n in
     past-block (set s) (line s) (flag s) (n .new-number .ensures .0) (b .new-block .ensures) refl (c .if2 .taken)
 
-add-t13 : tie.Need-add-t13
-add-t13 c = search needs
-
-new-group-requires : tie.Need-new-group-requires
-new-group-requires c κs = search needs
-
 returns-3 : tie.Need-returns-3
 returns-3 c =
     let g = c .before in
@@ -72,9 +60,6 @@ returns-3 c =
     let n = counted b in
     let s = began n in
     past-group (set s) (line s) (flag s) (n .new-number .ensures .0) (b .new-block .ensures) (group-is g) (c .if3 .taken)
-
-priority-of-requires : tie.Need-priority-of-requires
-priority-of-requires c κs = search needs
 
 returns-4 : tie.Need-returns-4
 returns-4 c =
@@ -93,12 +78,12 @@ pub draft-delta-spec : {M : Type 1} → statement M
 draft-delta-spec =
     tie.close
     (tie.spec
-    new-number-requires
+    (λ c κs. search needs)
     returns
-    new-block-requires
+    (λ c κs. search needs)
     returns-2
-    add-t13
-    new-group-requires
+    (λ c. search needs)
+    (λ c κs. search needs)
     returns-3
-    priority-of-requires
+    (λ c κs. search needs)
     returns-4)

@@ -20,18 +20,6 @@ abbrev μ-loop : tie.MeasureT-loop
 loop-holds : tie.Need-loop-holds Inv-loop μ-loop
 loop-holds c = (omega arith, (search needs, spelled-none (c .args .text .now) (c .args .x) (c .pre)))
 
-sub-first : tie.Need-sub-first Inv-loop μ-loop
-sub-first c = omega arith
-
-add-text : tie.Need-add-text Inv-loop μ-loop
-add-text c = omega arith
-
-cast-text : tie.Need-cast-text Inv-loop μ-loop
-cast-text c = omega arith
-
-slice-write-text : tie.Need-slice-write-text Inv-loop μ-loop
-slice-write-text c = omega arith
-
 same-length : tie.Need-same-length Inv-loop μ-loop
 same-length c = simp length-set (omega arith)
 
@@ -40,16 +28,10 @@ returns c =
     let l = c .before .before .loop in
     (omega arith, spelled-first (l .text) _ (l .first) (l .rest) (omega arith) (omega arith) (omega arith) (l .inv .1 .1))
 
-loop-less : tie.Need-loop-less Inv-loop μ-loop
-loop-less c = omega arith
-
 loop-again : tie.Need-loop-again Inv-loop μ-loop
 loop-again c =
     let l = c .before .before .loop in
     (omega arith, (simp length-set (omega arith), spelled-next (l .text) _ (l .first) (l .rest) (omega arith) (omega arith) (omega arith) (l .inv .1 .1)))
-
-same-length-2 : tie.Need-same-length-2 Inv-loop μ-loop
-same-length-2 c = omega arith
 
 returns-2 : tie.Need-returns-2 Inv-loop μ-loop
 returns-2 c =
@@ -63,13 +45,13 @@ spell-spec =
     Inv-loop
     μ-loop
     loop-holds
-    sub-first
-    add-text
-    cast-text
-    slice-write-text
+    (λ c. omega arith)
+    (λ c. omega arith)
+    (λ c. omega arith)
+    (λ c. omega arith)
     same-length
     returns
-    loop-less
+    (λ c. omega arith)
     loop-again
-    same-length-2
+    (λ c. omega arith)
     returns-2)

@@ -108,68 +108,26 @@ dependencies-passed : (c : tie.After-enum-told11) → Passed 5 (ladder (start (r
 dependencies-passed c n r = numbers-passed (numbered c) n (passes (dependencies-right c) r)
 
 -- ---- the needs
-check-image-size-requires : tie.Need-check-image-size-requires
-check-image-size-requires c κs = search needs
-
-enum-told : tie.Need-enum-told
-enum-told c = search needs
-
-enum-told-2 : tie.Need-enum-told-2
-enum-told-2 c = search needs
-
 returns : tie.Need-returns
 returns c =
     let m = c .before .before in
     answer (m .before .before .before .before) (either _ _ (fails (tells right (c .enum-told2 .given .1) (m .check-image-size .ensures))))
-
-check-step-room-requires : tie.Need-check-step-room-requires
-check-step-room-requires c κs = search needs
-
-enum-told-3 : tie.Need-enum-told-3
-enum-told-3 c = search needs
-
-enum-told-4 : tie.Need-enum-told-4
-enum-told-4 c = search needs
 
 returns-2 : tie.Need-returns-2
 returns-2 c =
     let r = c .before .before in
     answer (began (r .before)) (either _ _ (passes (size-right (r .before)) (met (not-false _ (sym (tells right (c .enum-told4 .given .1) (r .check-step-room .ensures)))))))
 
-slice-aggregate-read-and-copy : tie.Need-slice-aggregate-read-and-copy
-slice-aggregate-read-and-copy c = search needs
-
 read-and-copy-requires : tie.Need-read-and-copy-requires
 read-and-copy-requires c κs =
     let t = c .before .before in
     (image-sized (sizes-told t), record { count = imageSize + messageRoom; zeros = refl; room = omega arith })
-
-enum-told-5 : tie.Need-enum-told-5
-enum-told-5 c = search needs
-
-enum-told-6 : tie.Need-enum-told-6
-enum-told-6 c = search needs
-
-same-length : tie.Need-same-length
-same-length c = search needs
 
 returns-3 : tie.Need-returns-3
 returns-3 c =
     let r = c .before .before .before in
     let t = r .before .before .before in
     answer (roomy t) (sizes-passed t 2 (fails (tells right (c .enum-told6 .given .1) (judgement-is r))))
-
-check-layout-requires : tie.Need-check-layout-requires
-check-layout-requires c κs = search needs
-
-enum-told-7 : tie.Need-enum-told-7
-enum-told-7 c = search needs
-
-enum-told-8 : tie.Need-enum-told-8
-enum-told-8 c = search needs
-
-same-length-2 : tie.Need-same-length-2
-same-length-2 c = search needs
 
 returns-4 : tie.Need-returns-4
 returns-4 c =
@@ -179,15 +137,6 @@ returns-4 c =
 check-numbers-requires : tie.Need-check-numbers-requires
 check-numbers-requires c κs = let s = sized (layout-right c) in omega arith
 
-enum-told-9 : tie.Need-enum-told-9
-enum-told-9 c = search needs
-
-enum-told-10 : tie.Need-enum-told-10
-enum-told-10 c = search needs
-
-same-length-3 : tie.Need-same-length-3
-same-length-3 c = search needs
-
 returns-5 : tie.Need-returns-5
 returns-5 c =
     let m = c .before .before in
@@ -195,15 +144,6 @@ returns-5 c =
 
 check-dependencies-requires : tie.Need-check-dependencies-requires
 check-dependencies-requires c κs = let s = sized (layout-right (laid c)) in omega arith
-
-enum-told-11 : tie.Need-enum-told-11
-enum-told-11 c = search needs
-
-enum-told-12 : tie.Need-enum-told-12
-enum-told-12 c = search needs
-
-same-length-4 : tie.Need-same-length-4
-same-length-4 c = search needs
 
 returns-6 : tie.Need-returns-6
 returns-6 c =
@@ -213,22 +153,10 @@ returns-6 c =
 check-content-requires : tie.Need-check-content-requires
 check-content-requires c κs = sized (layout-right (laid (numbered c))) .total
 
-enum-told-13 : tie.Need-enum-told-13
-enum-told-13 c = search needs
-
-enum-told-14 : tie.Need-enum-told-14
-enum-told-14 c = search needs
-
-same-length-5 : tie.Need-same-length-5
-same-length-5 c = search needs
-
 returns-7 : tie.Need-returns-7
 returns-7 c =
     let m = c .before .before in
     answer (start (read (laid (numbered (m .before))))) (dependencies-passed (m .before) 6 (fails (tells right (c .enum-told14 .given .1) (m .check-content .ensures))))
-
-slice-aggregate-take-in : tie.Need-slice-aggregate-take-in
-slice-aggregate-take-in c = search needs
 
 take-in-requires : tie.Need-take-in-requires
 take-in-requires c κs =
@@ -249,55 +177,46 @@ take-in-requires c κs =
       pooled = subst (Copies (a .image .now) (r .read-and-copy .last .1 .0)) (i .enum-told5 .given .1) (r .read-and-copy .ensures .1);
     }
 
-same-length-6 : tie.Need-same-length-6
-same-length-6 c = search needs
-
-same-length-7 : tie.Need-same-length-7
-same-length-7 c = search needs
-
-returns-8 : tie.Need-returns-8
-returns-8 c = search needs
-
 pub deliver-spec : {M : Type 1} → statement M
 deliver-spec =
     tie.close
     (tie.spec
-    check-image-size-requires
-    enum-told
-    enum-told-2
+    (λ c κs. search needs)
+    (λ c. search needs)
+    (λ c. search needs)
     returns
-    check-step-room-requires
-    enum-told-3
-    enum-told-4
+    (λ c κs. search needs)
+    (λ c. search needs)
+    (λ c. search needs)
     returns-2
-    slice-aggregate-read-and-copy
+    (λ c. search needs)
     read-and-copy-requires
-    enum-told-5
-    enum-told-6
-    same-length
+    (λ c. search needs)
+    (λ c. search needs)
+    (λ c. search needs)
     returns-3
-    check-layout-requires
-    enum-told-7
-    enum-told-8
-    same-length-2
+    (λ c κs. search needs)
+    (λ c. search needs)
+    (λ c. search needs)
+    (λ c. search needs)
     returns-4
     check-numbers-requires
-    enum-told-9
-    enum-told-10
-    same-length-3
+    (λ c. search needs)
+    (λ c. search needs)
+    (λ c. search needs)
     returns-5
     check-dependencies-requires
-    enum-told-11
-    enum-told-12
-    same-length-4
+    (λ c. search needs)
+    (λ c. search needs)
+    (λ c. search needs)
     returns-6
     check-content-requires
-    enum-told-13
-    enum-told-14
-    same-length-5
+    (λ c. search needs)
+    (λ c. search needs)
+    (λ c. search needs)
     returns-7
-    slice-aggregate-take-in
+    (λ c. search needs)
     take-in-requires
-    same-length-6
-    same-length-7
-    returns-8)
+    (λ c. search needs)
+    (λ c. search needs)
+    (λ c. search needs))

@@ -24,26 +24,11 @@ slice-aggregate-fill-rows c = refl
 slice-aggregate-fill-rows-2 : tie.Need-slice-aggregate-fill-rows-2
 slice-aggregate-fill-rows-2 c = refl
 
-fill-rows-requires : tie.Need-fill-rows-requires
-fill-rows-requires c κs = search needs
-
 slice-aggregate-close : tie.Need-slice-aggregate-close
 slice-aggregate-close c = refl
 
 slice-aggregate-close-2 : tie.Need-slice-aggregate-close-2
 slice-aggregate-close-2 c = refl
-
-slice-aggregate-close-3 : tie.Need-slice-aggregate-close-3
-slice-aggregate-close-3 c = search needs
-
-slice-aggregate-close-4 : tie.Need-slice-aggregate-close-4
-slice-aggregate-close-4 c = search needs
-
-close-requires : tie.Need-close-requires
-close-requires c κs = search needs
-
-slice-aggregate-highest-of : tie.Need-slice-aggregate-highest-of
-slice-aggregate-highest-of c = search needs
 
 highest-of-requires : tie.Need-highest-of-requires
 highest-of-requires c κs i k =
@@ -68,12 +53,12 @@ highest-block-spec =
     (tie.spec
     slice-aggregate-fill-rows
     slice-aggregate-fill-rows-2
-    fill-rows-requires
+    (λ c κs. search needs)
     slice-aggregate-close
     slice-aggregate-close-2
-    slice-aggregate-close-3
-    slice-aggregate-close-4
-    close-requires
-    slice-aggregate-highest-of
+    (λ c. search needs)
+    (λ c. search needs)
+    (λ c κs. search needs)
+    (λ c. search needs)
     highest-of-requires
     returns)

@@ -31,9 +31,6 @@ below c = let s = start (turn c) in below-at (length (s .args .blocks .now)) (s 
 loop-holds : tie.Need-loop-holds Inv-loop μ-loop
 loop-holds c = (omega arith, omega arith)
 
-shared-slice-read-i : tie.Need-shared-slice-read-i Inv-loop μ-loop
-shared-slice-read-i c = omega arith
-
 cast-i : tie.Need-cast-i Inv-loop μ-loop
 cast-i c = omega (arith, c .shared-slice-known3 .given (turn c .loop .k))
 
@@ -42,15 +39,6 @@ mul-greater c = omega (arith, c .shared-slice-known3 .given (turn c .loop .k))
 
 shared-slice-read-greater : tie.Need-shared-slice-read-greater Inv-loop μ-loop
 shared-slice-read-greater c = omega (arith, below (c .before))
-
-greater-requires : tie.Need-greater-requires Inv-loop μ-loop
-greater-requires c κs = search needs
-
-add-k : tie.Need-add-k Inv-loop μ-loop
-add-k c = omega arith
-
-loop-less : tie.Need-loop-less Inv-loop μ-loop
-loop-less c = omega arith
 
 loop-again : tie.Need-loop-again Inv-loop μ-loop
 loop-again c =
@@ -72,12 +60,12 @@ highest-of-spec =
     Inv-loop
     μ-loop
     loop-holds
-    shared-slice-read-i
+    (λ c. omega arith)
     cast-i
     mul-greater
     shared-slice-read-greater
-    greater-requires
-    add-k
-    loop-less
+    (λ c κs. search needs)
+    (λ c. omega arith)
+    (λ c. omega arith)
     loop-again
     returns)

@@ -39,9 +39,6 @@ turn c = c .before .before
 loop-holds : tie.Need-loop-holds Inv-loop μ-loop
 loop-holds c = (omega arith, omega arith, omega arith)
 
-shared-slice-read-message-at : tie.Need-shared-slice-read-message-at Inv-loop μ-loop
-shared-slice-read-message-at c = omega arith
-
 cast-message-at : tie.Need-cast-message-at Inv-loop μ-loop
 cast-message-at c = omega (arith, c .shared-slice-known4 .given (turn c .loop .k))
 
@@ -60,15 +57,6 @@ get-u32-requires c κs =
       ap length (c .message-at .ensures),
       entry-long (a .pool .now) (a .starts .now) (s .pre .holds) (getD (a .places .now) (h .loop .k) 0) (place-inside (a .pool .now) (a .starts .now) (a .places .now) (s .pre) (h .loop .k) (omega arith)),
     )
-
-greater-requires : tie.Need-greater-requires Inv-loop μ-loop
-greater-requires c κs = search needs
-
-add-k : tie.Need-add-k Inv-loop μ-loop
-add-k c = omega arith
-
-loop-less : tie.Need-loop-less Inv-loop μ-loop
-loop-less c = omega arith
 
 loop-again : tie.Need-loop-again Inv-loop μ-loop
 loop-again c =
@@ -100,12 +88,12 @@ highest-group-spec =
     Inv-loop
     μ-loop
     loop-holds
-    shared-slice-read-message-at
+    (λ c. omega arith)
     cast-message-at
     message-at-requires
     get-u32-requires
-    greater-requires
-    add-k
-    loop-less
+    (λ c κs. search needs)
+    (λ c. omega arith)
+    (λ c. omega arith)
     loop-again
     returns)

@@ -29,23 +29,11 @@ free l h = omega (arith, l .before .before .pre, l .loop .inv .1 .0, others-leng
 loop-holds : tie.Need-loop-holds Inv-loop μ-loop
 loop-holds c = (omega arith, (refl, (refl, refl)))
 
-cast-place : tie.Need-cast-place Inv-loop μ-loop
-cast-place c = omega arith
-
-is-among-requires : tie.Need-is-among-requires Inv-loop μ-loop
-is-among-requires c κs = search needs
-
 array-write-held : tie.Need-array-write-held Inv-loop μ-loop
 array-write-held c = free (c .before .before .before) (c .before .before .loop-test .taken)
 
 add-n : tie.Need-add-n Inv-loop μ-loop
 add-n c = let h = free (c .before .before .before) (c .before .before .loop-test .taken) in search needs
-
-add-i : tie.Need-add-i Inv-loop μ-loop
-add-i c = omega arith
-
-loop-less : tie.Need-loop-less Inv-loop μ-loop
-loop-less c = omega arith
 
 loop-again : tie.Need-loop-again Inv-loop μ-loop
 loop-again c =
@@ -96,11 +84,11 @@ held-places-spec =
     Inv-loop
     μ-loop
     loop-holds
-    cast-place
-    is-among-requires
+    (λ c. omega arith)
+    (λ c κs. search needs)
     array-write-held
     add-n
-    add-i
-    loop-less
+    (λ c. omega arith)
+    (λ c. omega arith)
     loop-again
     returns)

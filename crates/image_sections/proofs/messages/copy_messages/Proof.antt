@@ -83,9 +83,6 @@ next-offset c =
 loop-holds : tie.Need-loop-holds Inv-loop μ-loop
 loop-holds c = (omega arith, (sym (offset-first _ _), (refl, refl)))
 
-shared-slice-read-place : tie.Need-shared-slice-read-place Inv-loop μ-loop
-shared-slice-read-place c = omega arith
-
 cast-place : tie.Need-cast-place Inv-loop μ-loop
 cast-place c = omega (arith, c .shared-slice-known4 .given (c .before .before .loop .k))
 
@@ -100,12 +97,6 @@ copy-at-requires c κs = (omega arith, room (c .before))
 
 add-to : tie.Need-add-to Inv-loop μ-loop
 add-to c = let r = room (c .before .before .before .before) in search needs
-
-add-k : tie.Need-add-k Inv-loop μ-loop
-add-k c = omega arith
-
-loop-less : tie.Need-loop-less Inv-loop μ-loop
-loop-less c = omega arith
 
 loop-again : tie.Need-loop-again Inv-loop μ-loop
 loop-again c =
@@ -149,13 +140,13 @@ copy-messages-spec =
     Inv-loop
     μ-loop
     loop-holds
-    shared-slice-read-place
+    (λ c. omega arith)
     cast-place
     message-at-requires
     copy-at-requires
     add-to
-    add-k
-    loop-less
+    (λ c. omega arith)
+    (λ c. omega arith)
     loop-again
     same-length
     returns)

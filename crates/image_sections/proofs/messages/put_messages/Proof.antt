@@ -51,9 +51,6 @@ copy-messages-requires-2 c κs =
       omega (arith, room s, first .copy-messages .ensures .end),
     )
 
-same-length : tie.Need-same-length
-same-length c = search needs
-
 returns : tie.Need-returns
 returns c =
     let second = c .before .before in
@@ -65,4 +62,4 @@ returns c =
     (copied-behind (omega (arith, room s)) (first .copy-messages .ensures) (second .copy-messages2 .ensures))
 
 pub put-messages-spec : {M : Type 1} → statement M
-put-messages-spec = tie.close (tie.spec copy-messages-requires copy-messages-requires-2 same-length returns)
+put-messages-spec = tie.close (tie.spec copy-messages-requires copy-messages-requires-2 (λ c. search needs) returns)

@@ -11,9 +11,6 @@ use Rattle.image_sections.specs.LogPlaceLaws.{place-inside}
 use Rattle.image_sections.proofs.placed.delta_at.Statement.{statement}
 use Rattle.image_sections.proofs.placed.delta_at.Tie as tie
 
-shared-slice-read-place : tie.Need-shared-slice-read-place
-shared-slice-read-place c = search needs
-
 cast-place : tie.Need-cast-place
 cast-place c = omega (arith, c .shared-slice-known4 .given (c .before .before .before .before .args .k))
 
@@ -28,4 +25,4 @@ returns c =
     c .message-at .ensures ∙ sym (getD-map (λ (i : ℕ). getD (deltasOf (s .args .pool .now) (s .args .starts .now)) i []) (s .args .places .now) (s .args .k) 0 [] (s .pre .1))
 
 pub delta-at-spec : {M : Type 1} → statement M
-delta-at-spec = tie.close (tie.spec shared-slice-read-place cast-place message-at-requires returns)
+delta-at-spec = tie.close (tie.spec (λ c. search needs) cast-place message-at-requires returns)

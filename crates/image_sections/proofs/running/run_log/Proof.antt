@@ -37,9 +37,6 @@ deltas s = deltasAt (deltasOf (s .args .pool .now) (s .args .starts .now)) (s .a
 size : (s : tie.Start Inv-loop μ-loop) → length (deltas s) ≡ length (s .args .places .now)
 size s = deltas-count (deltasOf (s .args .pool .now) (s .args .starts .now)) (s .args .places .now)
 
-start-values-requires : tie.Need-start-values-requires Inv-loop μ-loop
-start-values-requires c κs = search needs
-
 loop-holds : tie.Need-loop-holds Inv-loop μ-loop
 loop-holds c = (omega arith, refl)
 
@@ -50,12 +47,6 @@ run-message-requires : tie.Need-run-message-requires Inv-loop μ-loop
 run-message-requires c κs =
     let s = start (head c) in
     delta-passes (s .args .pool .now) (s .args .starts .now) (s .args .places .now) (s .pre) (c .delta-at .ensures) (omega (arith, more c))
-
-add-k : tie.Need-add-k Inv-loop μ-loop
-add-k c = omega arith
-
-loop-less : tie.Need-loop-less Inv-loop μ-loop
-loop-less c = omega arith
 
 loop-again : tie.Need-loop-again Inv-loop μ-loop
 loop-again c =
@@ -81,11 +72,11 @@ run-log-spec =
     (tie.spec
     Inv-loop
     μ-loop
-    start-values-requires
+    (λ c κs. search needs)
     loop-holds
     delta-at-requires
     run-message-requires
-    add-k
-    loop-less
+    (λ c. omega arith)
+    (λ c. omega arith)
     loop-again
     returns)

@@ -40,18 +40,9 @@ is-read c =
     let r = c .list .result in
     subst (λ (t : Table). ReadsLog (start c .args .b .now) (startsOf t) (r .logged) (r .places)) (sym (c .list .ensures .table)) (c .list .ensures .log)
 
-list-requires : tie.Need-list-requires
-list-requires c κs = search needs
-
 check-listed-requires : tie.Need-check-listed-requires
 check-listed-requires c κs =
     (start c .pre .0, is-table c, record { unjudged = c .list .ensures .unjudged; table = refl; count = c .list .ensures .count; fits = c .list .ensures .fits; log = is-read c; offsets = c .list .ensures .offsets })
-
-enum-told : tie.Need-enum-told
-enum-told c = search needs
-
-enum-told-2 : tie.Need-enum-told-2
-enum-told-2 c = search needs
 
 returns : tie.Need-returns
 returns c =
@@ -160,10 +151,10 @@ pub judge-spec : {M : Type 1} → statement M
 judge-spec =
     tie.close
     (tie.spec
-    list-requires
+    (λ c κs. search needs)
     check-listed-requires
-    enum-told
-    enum-told-2
+    (λ c. search needs)
+    (λ c. search needs)
     returns
     rewrite-requires
     slice-reshare-prefix-equals-copy

@@ -24,18 +24,6 @@ walked e = e .before .before
 abbrev right : tie.After-read-table → tie.After-enum-told
 right r = r .before .before .before
 
-walk-messages-requires : tie.Need-walk-messages-requires
-walk-messages-requires c κs = search needs
-
-enum-told : tie.Need-enum-told
-enum-told c = search needs
-
-enum-told-2 : tie.Need-enum-told-2
-enum-told-2 c = search needs
-
-refuse-requires : tie.Need-refuse-requires
-refuse-requires c κs = search needs
-
 returns : tie.Need-returns
 returns c =
     let w = c .before .before .before in
@@ -63,15 +51,6 @@ slice-aggregate-read-table c =
 read-table-requires : tie.Need-read-table-requires
 read-table-requires c κs = let e = c .before .before in (start (walked e) .pre .0, is-walked e .0, is-walked e .2)
 
-enum-told-3 : tie.Need-enum-told-3
-enum-told-3 c = search needs
-
-enum-told-4 : tie.Need-enum-told-4
-enum-told-4 c = search needs
-
-refuse-requires-2 : tie.Need-refuse-requires-2
-refuse-requires-2 c κs = search needs
-
 returns-2 : tie.Need-returns-2
 returns-2 c =
     let a = c .before .before .before .before in
@@ -88,28 +67,22 @@ judge-requires c κs =
     let offsets = offsets-front (s .args .b .now) (w .walk-messages .result .offsets) (w .walk-messages .result .count) (logCount (s .args .b .now)) (is-walked (right a) .2) (omega arith) in
     (s .pre .0, offsets, read-right (s .args .b .now) (r .check) (r .table) (a .read-table .ensures) (c .before .enum-told3 .given .1), s .pre .1)
 
-same-length : tie.Need-same-length
-same-length c = search needs
-
-returns-3 : tie.Need-returns-3
-returns-3 c = search needs
-
 pub read-and-copy-spec : {M : Type 1} → statement M
 read-and-copy-spec =
     tie.close
     (tie.spec
-    walk-messages-requires
-    enum-told
-    enum-told-2
-    refuse-requires
+    (λ c κs. search needs)
+    (λ c. search needs)
+    (λ c. search needs)
+    (λ c κs. search needs)
     returns
     array-share-prefix-offsets
     slice-aggregate-read-table
     read-table-requires
-    enum-told-3
-    enum-told-4
-    refuse-requires-2
+    (λ c. search needs)
+    (λ c. search needs)
+    (λ c κs. search needs)
     returns-2
     judge-requires
-    same-length
-    returns-3)
+    (λ c. search needs)
+    (λ c. search needs))

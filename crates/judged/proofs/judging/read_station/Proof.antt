@@ -6,9 +6,6 @@ use Rattle.model.specs.Layout.{imageSize}
 use Rattle.judged.proofs.judging.read_station.Statement.{statement}
 use Rattle.judged.proofs.judging.read_station.Tie as tie
 
-slice-aggregate-read-and-copy : tie.Need-slice-aggregate-read-and-copy
-slice-aggregate-read-and-copy c = search needs
-
 read-and-copy-requires : tie.Need-read-and-copy-requires
 read-and-copy-requires c κs = (c .before .before .pre, record { count = imageSize; zeros = refl; room = omega arith })
 
@@ -17,4 +14,4 @@ returns c = c .before .read-and-copy .ensures .0
 
 pub read-station-spec : {M : Type 1} → statement M
 read-station-spec =
-    tie.close (tie.spec slice-aggregate-read-and-copy read-and-copy-requires returns)
+    tie.close (tie.spec (λ c. search needs) read-and-copy-requires returns)

@@ -50,9 +50,6 @@ slice-aggregate-same-2 c =
     let s = c .before .before .before .before in
     sym (length-take-le (s .args .used) (s .args .b .now) (s .pre .1))
 
-same-requires : tie.Need-same-requires Inv-loop μ-loop
-same-requires c κs = search needs
-
 -- where the used bytes were compared
 abbrev start : tie.After-same Inv-loop μ-loop → tie.Start Inv-loop μ-loop
 start c = c .before .before .before .before .before
@@ -71,15 +68,6 @@ loop-holds : tie.Need-loop-holds Inv-loop μ-loop
 loop-holds c =
     let s = start (c .before) in
     (s .pre .1, ap (λ (x : List ℕ). same x (drop (s .args .used) (s .args .b .now))) (s .pre .2))
-
-shared-slice-read-zero : tie.Need-shared-slice-read-zero Inv-loop μ-loop
-shared-slice-read-zero c = search needs
-
-add-i : tie.Need-add-i Inv-loop μ-loop
-add-i c = search needs
-
-loop-less : tie.Need-loop-less Inv-loop μ-loop
-loop-less c = search needs
 
 loop-again : tie.Need-loop-again Inv-loop μ-loop
 loop-again c =
@@ -104,11 +92,11 @@ equals-copy-spec =
     μ-loop
     slice-aggregate-same
     slice-aggregate-same-2
-    same-requires
+    (λ c κs. search needs)
     returns
     loop-holds
-    shared-slice-read-zero
-    add-i
-    loop-less
+    (λ c. search needs)
+    (λ c. search needs)
+    (λ c. search needs)
     loop-again
     returns-2)

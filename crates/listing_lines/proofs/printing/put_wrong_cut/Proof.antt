@@ -5,15 +5,6 @@ use borrow.Author.Needs.{needs}
 use Rattle.listing_lines.proofs.printing.put_wrong_cut.Statement.{statement}
 use Rattle.listing_lines.proofs.printing.put_wrong_cut.Tie as tie
 
-put-line-requires : tie.Need-put-line-requires
-put-line-requires c κs = search needs
-
-put-last-requires : tie.Need-put-last-requires
-put-last-requires c κs = search needs
-
-same-length : tie.Need-same-length
-same-length c = search needs
-
 returns : tie.Need-returns
 returns c =
     let last = c .before .before in
@@ -21,4 +12,4 @@ returns c =
     puts-puts (omega arith) (line .put-line .ensures) (last .put-last .ensures)
 
 pub put-wrong-cut-spec : {M : Type 1} → statement M
-put-wrong-cut-spec = tie.close (tie.spec put-line-requires put-last-requires same-length returns)
+put-wrong-cut-spec = tie.close (tie.spec (λ c κs. search needs) (λ c κs. search needs) (λ c. search needs) returns)

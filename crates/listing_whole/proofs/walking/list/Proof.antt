@@ -9,28 +9,10 @@ use borrow.Author.Needs.{needs}
 use Rattle.listing_whole.proofs.walking.list.Statement.{statement}
 use Rattle.listing_whole.proofs.walking.list.Tie as tie
 
-slice-aggregate-empty : tie.Need-slice-aggregate-empty
-slice-aggregate-empty c = search needs
-
-empty-requires : tie.Need-empty-requires
-empty-requires c κs = search needs
-
-enum-told : tie.Need-enum-told
-enum-told c = search needs
-
-enum-told-2 : tie.Need-enum-told-2
-enum-told-2 c = search needs
-
 returns : tie.Need-returns
 returns c =
     let e = c .before .before .before in
     absurd (not-refused _ (e .empty .last .0) (e .empty .result) refl (e .empty .ensures) (c .enum-told2 .given .1))
-
-read-part-requires : tie.Need-read-part-requires
-read-part-requires c κs = search needs
-
-slice-aggregate-list-messages : tie.Need-slice-aggregate-list-messages
-slice-aggregate-list-messages c = search needs
 
 list-messages-requires : tie.Need-list-messages-requires
 list-messages-requires c κs =
@@ -52,12 +34,12 @@ pub list-spec : {M : Type 1} → statement M
 list-spec =
     tie.close
     (tie.spec
-    slice-aggregate-empty
-    empty-requires
-    enum-told
-    enum-told-2
+    (λ c. search needs)
+    (λ c κs. search needs)
+    (λ c. search needs)
+    (λ c. search needs)
     returns
-    read-part-requires
-    slice-aggregate-list-messages
+    (λ c κs. search needs)
+    (λ c. search needs)
     list-messages-requires
     returns-2)

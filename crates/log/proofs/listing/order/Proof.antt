@@ -127,12 +127,6 @@ slice-aggregate-first-ready-2 c = omega (arith, turn (c .before .before) .before
 first-ready-requires : tie.Need-first-ready-requires Inv-loop μ-loop
 first-ready-requires c κs = let l = turn (c .before .before) .before in (lookable (sorting l), l .loop .inv .0 .grows .placing .marks .size)
 
-enum-known-found : tie.Need-enum-known-found Inv-loop μ-loop
-enum-known-found c = search needs
-
-enum-told : tie.Need-enum-told Inv-loop μ-loop
-enum-told c = search needs
-
 returns : tie.Need-returns Inv-loop μ-loop
 returns c =
     let a = c .before .before in
@@ -164,12 +158,6 @@ place-requires c κs =
 
 array-write-placed : tie.Need-array-write-placed Inv-loop μ-loop
 array-write-placed c = let k = c .before in omega (arith, inside k, turn (skipped (asked k)) .before .loop .inv .0 .grows .placing .marks .size)
-
-add-k : tie.Need-add-k Inv-loop μ-loop
-add-k c = omega arith
-
-loop-less : tie.Need-loop-less Inv-loop μ-loop
-loop-less c = omega arith
 
 loop-again : tie.Need-loop-again Inv-loop μ-loop
 loop-again c =
@@ -205,13 +193,13 @@ order-spec =
     slice-aggregate-first-ready
     slice-aggregate-first-ready-2
     first-ready-requires
-    enum-known-found
-    enum-told
+    (λ c. search needs)
+    (λ c. search needs)
     returns
     cast-place
     place-requires
     array-write-placed
-    add-k
-    loop-less
+    (λ c. omega arith)
+    (λ c. omega arith)
     loop-again
     returns-2)

@@ -23,9 +23,6 @@ entry c = c .before
 loop-holds : tie.Need-loop-holds Inv-loop μ-loop
 loop-holds c = (omega arith, λ a h q. let z : ⊥ = omega arith in absurd z)
 
-shared-slice-read-i : tie.Need-shared-slice-read-i Inv-loop μ-loop
-shared-slice-read-i c = omega arith
-
 cast-i : tie.Need-cast-i Inv-loop μ-loop
 cast-i c = let l = c .before .before in omega (arith, entry l .pre .1 (l .loop .k) (omega arith))
 
@@ -37,12 +34,6 @@ shared-slice-read-if1 c =
 
 returns : tie.Need-returns Inv-loop μ-loop
 returns c = c .before .before .before .before .loop .inv .1
-
-add-k : tie.Need-add-k Inv-loop μ-loop
-add-k c = omega arith
-
-loop-less : tie.Need-loop-less Inv-loop μ-loop
-loop-less c = omega arith
 
 loop-again : tie.Need-loop-again Inv-loop μ-loop
 loop-again c =
@@ -60,11 +51,11 @@ skip-placed-spec =
     Inv-loop
     μ-loop
     loop-holds
-    shared-slice-read-i
+    (λ c. omega arith)
     cast-i
     shared-slice-read-if1
     returns
-    add-k
-    loop-less
+    (λ c. omega arith)
+    (λ c. omega arith)
     loop-again
     returns-2)

@@ -49,9 +49,6 @@ cast-last c = let s = begun c in omega (arith, s .pre .small (s .args .k) (s .pr
 loop-holds : tie.Need-loop-holds Inv-loop μ-loop
 loop-holds c = (omega arith, λ q h r. let z : ⊥ = omega arith in absurd z)
 
-sub-q : tie.Need-sub-q Inv-loop μ-loop
-sub-q c = omega arith
-
 shared-slice-read-earlier : tie.Need-shared-slice-read-earlier Inv-loop μ-loop
 shared-slice-read-earlier c = let s = entry (c .before .before) in omega (arith, s .pre .inside)
 
@@ -114,7 +111,7 @@ above-spec =
     shared-slice-read-last
     cast-last
     loop-holds
-    sub-q
+    (λ c. omega arith)
     shared-slice-read-earlier
     cast-earlier
     key-less-requires

@@ -32,12 +32,6 @@ returns c =
     let a = c .before in
     (a .before .before .loop .i, omega arith, sym (a .ready .ensures) ∙ c .if1 .taken)
 
-add-i : tie.Need-add-i Inv-loop μ-loop
-add-i c = omega arith
-
-loop-less : tie.Need-loop-less Inv-loop μ-loop
-loop-less c = omega arith
-
 loop-again : tie.Need-loop-again Inv-loop μ-loop
 loop-again c =
     let a = c .before in
@@ -47,4 +41,4 @@ returns-2 : tie.Need-returns-2 Inv-loop μ-loop
 returns-2 c = λ j h. c .before .loop .inv .1 j (omega arith)
 
 pub any-ready-spec : {M : Type 1} → statement M
-any-ready-spec = tie.close (tie.spec Inv-loop μ-loop loop-holds ready-requires returns add-i loop-less loop-again returns-2)
+any-ready-spec = tie.close (tie.spec Inv-loop μ-loop loop-holds ready-requires returns (λ c. omega arith) (λ c. omega arith) loop-again returns-2)

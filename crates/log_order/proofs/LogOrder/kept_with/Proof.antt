@@ -23,17 +23,11 @@ returns-2 c =
     let s = c .before .before in
     kept-past (s .args .t1) (olds s) (news s) (s .pre) (s .args .i) (c .if2 .taken)
 
-element-copy-out-if3 : tie.Need-element-copy-out-if3
-element-copy-out-if3 c = search needs
-
 returns-3 : tie.Need-returns-3
 returns-3 c =
     let past = c .before .before in
     let s = past .before .before in
     kept-other (s .args .t1) (olds s) (news s) (s .pre) (s .args .i) (past .before .if1 .left) (past .if2 .left) (c .if3 .taken)
-
-add-result : tie.Need-add-result
-add-result c = search needs
 
 returns-4 : tie.Need-returns-4
 returns-4 c =
@@ -44,4 +38,4 @@ returns-4 c =
 pub kept-with-spec : {M : Type 1} → statement M
 kept-with-spec =
     tie.close
-    (tie.spec returns returns-2 element-copy-out-if3 returns-3 add-result returns-4)
+    (tie.spec returns returns-2 (λ c. search needs) returns-3 (λ c. search needs) returns-4)

@@ -7,15 +7,6 @@ use borrow.Author.Needs.{needs}
 use Rattle.log_order.proofs.LogOrder.place.Statement.{statement}
 use Rattle.log_order.proofs.LogOrder.place.Tie as tie
 
-kept-with-requires : tie.Need-kept-with-requires
-kept-with-requires c κs = search needs
-
-element-write-next : tie.Need-element-write-next
-element-write-next c = search needs
-
-add-next : tie.Need-add-next
-add-next c = search needs
-
 returns : tie.Need-returns
 returns c =
     let o = c .before .args .self in
@@ -24,4 +15,4 @@ returns c =
     placed o olds news (c .before .pre .0) (c .before .args .i) (c .kept-with .result) (c .before .pre .1) (c .kept-with .ensures)
 
 pub place-spec : {M : Type 1} → statement M
-place-spec = tie.close (tie.spec kept-with-requires element-write-next add-next returns)
+place-spec = tie.close (tie.spec (λ c κs. search needs) (λ c. search needs) (λ c. search needs) returns)

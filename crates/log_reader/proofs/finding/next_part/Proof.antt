@@ -47,24 +47,6 @@ image c = tells right (c .enum-told3 .given .1) (judgement-is (c .before .before
 next-is : (c : tie.After-enum-told3) → let a = told c .args in startingAt (a .image .now) (a .offset) ≡ nextMessage (lowestCode (readConditions (a .image .now))) (a .image .now) (a .offset)
 next-is c = let a = told c .args in next-told (a .image .now) (a .offset) (passes (sized (c .before .before .before)) (passes (image c) none))
 
-check-image-size-requires : tie.Need-check-image-size-requires
-check-image-size-requires c κs = search needs
-
-enum-told : tie.Need-enum-told
-enum-told c = search needs
-
-enum-told-2 : tie.Need-enum-told-2
-enum-told-2 c = search needs
-
-sub-result : tie.Need-sub-result
-sub-result c = search needs
-
-part-result-start : tie.Need-part-result-start
-part-result-start c = search needs
-
-part-result-end : tie.Need-part-result-end
-part-result-end c = search needs
-
 returns : tie.Need-returns
 returns c =
     let m = c .before .before .before in
@@ -73,21 +55,6 @@ returns c =
 
 read-station-requires : tie.Need-read-station-requires
 read-station-requires c κs = eqb-true (length (began (c .before .before) .args .image .now)) imageSize (sym (sized c))
-
-enum-told-3 : tie.Need-enum-told-3
-enum-told-3 c = search needs
-
-enum-told-4 : tie.Need-enum-told-4
-enum-told-4 c = search needs
-
-sub-result-2 : tie.Need-sub-result-2
-sub-result-2 c = search needs
-
-part-result-start-2 : tie.Need-part-result-start-2
-part-result-start-2 c = search needs
-
-part-result-end-2 : tie.Need-part-result-end-2
-part-result-end-2 c = search needs
 
 returns-2 : tie.Need-returns-2
 returns-2 c =
@@ -124,21 +91,6 @@ find-message-requires c κs =
 abbrev right-image : tie.After-find-message → tie.After-enum-told3
 right-image f = f .before .before .before
 
-enum-known-found : tie.Need-enum-known-found
-enum-known-found c = search needs
-
-enum-told-5 : tie.Need-enum-told-5
-enum-told-5 c = search needs
-
-sub-result-3 : tie.Need-sub-result-3
-sub-result-3 c = search needs
-
-part-result-start-3 : tie.Need-part-result-start-3
-part-result-start-3 c = search needs
-
-part-result-end-3 : tie.Need-part-result-end-3
-part-result-end-3 c = search needs
-
 returns-3 : tie.Need-returns-3
 returns-3 c =
     let f = c .before .before .before in
@@ -155,12 +107,6 @@ known c =
 
 add-end : tie.Need-add-end
 add-end c = omega (arith, known (c .before) .inside)
-
-sub-result-4 : tie.Need-sub-result-4
-sub-result-4 c = search needs
-
-part-result-start-4 : tie.Need-part-result-start-4
-part-result-start-4 c = search needs
 
 part-result-end-4 : tie.Need-part-result-end-4
 part-result-end-4 c =
@@ -179,31 +125,31 @@ pub next-part-spec : {M : Type 1} → statement M
 next-part-spec =
     tie.close
     (tie.spec
-    check-image-size-requires
-    enum-told
-    enum-told-2
-    sub-result
-    part-result-start
-    part-result-end
+    (λ c κs. search needs)
+    (λ c. search needs)
+    (λ c. search needs)
+    (λ c. search needs)
+    (λ c. search needs)
+    (λ c. search needs)
     returns
     read-station-requires
-    enum-told-3
-    enum-told-4
-    sub-result-2
-    part-result-start-2
-    part-result-end-2
+    (λ c. search needs)
+    (λ c. search needs)
+    (λ c. search needs)
+    (λ c. search needs)
+    (λ c. search needs)
     returns-2
     array-share-prefix-offsets
     slice-aggregate-find-message
     find-message-requires
-    enum-known-found
-    enum-told-5
-    sub-result-3
-    part-result-start-3
-    part-result-end-3
+    (λ c. search needs)
+    (λ c. search needs)
+    (λ c. search needs)
+    (λ c. search needs)
+    (λ c. search needs)
     returns-3
     add-end
-    sub-result-4
-    part-result-start-4
+    (λ c. search needs)
+    (λ c. search needs)
     part-result-end-4
     returns-4)

@@ -4,12 +4,9 @@ use Rattle.model.specs.Calls.{start}
 use Rattle.log_reader.proofs.reader.first_offset.Statement.{statement}
 use Rattle.log_reader.proofs.reader.first_offset.Tie as tie
 
-messages-start-requires : tie.Need-messages-start-requires
-messages-start-requires c κs = search needs
-
 returns : tie.Need-returns
 unfolding start
 returns c = c .messages-start .ensures
 
 pub first-offset-spec : {M : Type 1} → statement M
-first-offset-spec = tie.close (tie.spec messages-start-requires returns)
+first-offset-spec = tie.close (tie.spec (λ c κs. search needs) returns)

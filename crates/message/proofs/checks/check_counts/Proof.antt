@@ -5,32 +5,14 @@ use borrow.Author.Needs.{needs}
 use Rattle.message.proofs.checks.check_counts.Statement.{statement}
 use Rattle.message.proofs.checks.check_counts.Tie as tie
 
-byte-requires : tie.Need-byte-requires
-byte-requires c κs = search needs
-
 returns : tie.Need-returns
 returns c = counts-wrong (λ f. omega arith)
-
-byte-requires-2 : tie.Need-byte-requires-2
-byte-requires-2 c κs = search needs
 
 returns-2 : tie.Need-returns-2
 returns-2 c = counts-wrong (λ f. omega arith)
 
-byte-requires-3 : tie.Need-byte-requires-3
-byte-requires-3 c κs = search needs
-
-cast-dependencies : tie.Need-cast-dependencies
-cast-dependencies c = search needs
-
 returns-3 : tie.Need-returns-3
 returns-3 c = counts-wrong (λ f. omega arith)
-
-byte-requires-4 : tie.Need-byte-requires-4
-byte-requires-4 c κs = search needs
-
-cast-commands : tie.Need-cast-commands
-cast-commands c = search needs
 
 returns-4 : tie.Need-returns-4
 returns-4 c = counts-wrong (λ f. omega arith)
@@ -45,15 +27,15 @@ pub check-counts-spec : {M : Type 1} → statement M
 check-counts-spec =
     tie.close
     (tie.spec
-    byte-requires
+    (λ c κs. search needs)
     returns
-    byte-requires-2
+    (λ c κs. search needs)
     returns-2
-    byte-requires-3
-    cast-dependencies
+    (λ c κs. search needs)
+    (λ c. search needs)
     returns-3
-    byte-requires-4
-    cast-commands
+    (λ c κs. search needs)
+    (λ c. search needs)
     returns-4
     returns-5
     returns-6)

@@ -24,20 +24,8 @@ by-counts c e =
 returns : tie.Need-returns
 returns c = sym (short-wrong _ (c .if1 .taken))
 
-check-counts-requires : tie.Need-check-counts-requires
-check-counts-requires c κs = search needs
-
-enum-told : tie.Need-enum-told
-enum-told c = search needs
-
-enum-told-2 : tie.Need-enum-told-2
-enum-told-2 c = search needs
-
 returns-2 : tie.Need-returns-2
 returns-2 c = sym (by-counts (c .before .before) (ap right (c .enum-told2 .given .1)))
-
-check-offsets-requires : tie.Need-check-offsets-requires
-check-offsets-requires c κs = search needs
 
 returns-3 : tie.Need-returns-3
 returns-3 c =
@@ -49,9 +37,9 @@ check-layout-spec =
     tie.close
     (tie.spec
     returns
-    check-counts-requires
-    enum-told
-    enum-told-2
+    (λ c κs. search needs)
+    (λ c. search needs)
+    (λ c. search needs)
     returns-2
-    check-offsets-requires
+    (λ c κs. search needs)
     returns-3)

@@ -13,27 +13,6 @@ use Rattle.message.proofs.header.read_header.Tie as tie
 own-is : (c : tie.After-read-sequence) → c .read-sequence .result ≡ sequenceFrom (sequenceOf (c .before .before .before .args .m .now))
 own-is c = from-number (c .read-sequence .result) _ (omega arith) (c .read-sequence .ensures)
 
-read-priority-requires : tie.Need-read-priority-requires
-read-priority-requires c κs = search needs
-
-read-sequence-requires : tie.Need-read-sequence-requires
-read-sequence-requires c κs = search needs
-
-get-u32-requires : tie.Need-get-u32-requires
-get-u32-requires c κs = search needs
-
-byte-requires : tie.Need-byte-requires
-byte-requires c κs = search needs
-
-cast-dependencies : tie.Need-cast-dependencies
-cast-dependencies c = search needs
-
-byte-requires-2 : tie.Need-byte-requires-2
-byte-requires-2 c κs = search needs
-
-cast-commands : tie.Need-cast-commands
-cast-commands c = search needs
-
 returns : tie.Need-returns
 returns c =
     let dependencies = c .before in
@@ -45,11 +24,11 @@ pub read-header-spec : {M : Type 1} → statement M
 read-header-spec =
     tie.close
     (tie.spec
-    read-priority-requires
-    read-sequence-requires
-    get-u32-requires
-    byte-requires
-    cast-dependencies
-    byte-requires-2
-    cast-commands
+    (λ c κs. search needs)
+    (λ c κs. search needs)
+    (λ c κs. search needs)
+    (λ c κs. search needs)
+    (λ c. search needs)
+    (λ c κs. search needs)
+    (λ c. search needs)
     returns)

@@ -18,19 +18,10 @@ bytes c = c .before .before .args .m .now
 by-flag : (m : Message) {t : Bool} → hasPriority m ≡ t → priorityIn m ≡ cond t (Given (blockOf m) (priorityOf m)) Absent
 by-flag m e = ap (λ (t : Bool). cond t (Given (blockOf m) (priorityOf m)) Absent) e
 
-byte-requires : tie.Need-byte-requires
-byte-requires c κs = search needs
-
 returns : tie.Need-returns
 returns c =
     let m = bytes (c .before) in
     sym (by-flag m (ne-eqb (field m priorityFlagAt 1) 1 (λ e. omega arith)))
-
-get-u32-requires : tie.Need-get-u32-requires
-get-u32-requires c κs = search needs
-
-get-u32-requires-2 : tie.Need-get-u32-requires-2
-get-u32-requires-2 c κs = search needs
 
 returns-2 : tie.Need-returns-2
 returns-2 c =
@@ -40,4 +31,4 @@ returns-2 c =
 
 pub read-priority-spec : {M : Type 1} → statement M
 read-priority-spec =
-    tie.close (tie.spec byte-requires returns get-u32-requires get-u32-requires-2 returns-2)
+    tie.close (tie.spec (λ c κs. search needs) returns (λ c κs. search needs) (λ c κs. search needs) returns-2)

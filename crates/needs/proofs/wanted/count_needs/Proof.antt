@@ -24,9 +24,6 @@ byte-requires c κs = omega (arith, dependencies-lie (c .before .args .m .now) (
 read-sequence-requires : tie.Need-read-sequence-requires
 read-sequence-requires c κs = omega (arith, dependencies-lie (start c .args .m .now) (start c .pre))
 
-enum-told : tie.Need-enum-told
-enum-told c = search needs
-
 returns : tie.Need-returns
 returns c =
     let p = c .before .before in
@@ -47,7 +44,7 @@ count-needs-spec =
     (λ c. search needs)
     read-sequence-requires
     (λ c κs. search needs)
-    enum-told
+    (λ c. search needs)
     (λ c. search needs)
     returns
     (λ c. search needs)

@@ -38,9 +38,6 @@ past c = c .before .before
 read-sequence-requires : tie.Need-read-sequence-requires
 read-sequence-requires c κs = omega (arith, dependencies-lie (c .before .args .m .now) (c .before .pre .0))
 
-enum-told : tie.Need-enum-told
-enum-told c = search needs
-
 dependency-requires : tie.Need-dependency-requires
 dependency-requires c κs =
     let s = start (asked c) in
@@ -76,7 +73,7 @@ need-of-spec =
     read-sequence-requires
     (λ c κs. search needs)
     (λ c. search needs)
-    enum-told
+    (λ c. search needs)
     dependency-requires
     returns
     returns-2

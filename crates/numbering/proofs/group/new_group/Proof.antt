@@ -49,12 +49,6 @@ returns c = let s = c .before .before .before .before in group-first (deltas s) 
 highest-group-requires : tie.Need-highest-group-requires
 highest-group-requires c κs = inside (began c)
 
-sub-last : tie.Need-sub-last
-sub-last c = search needs
-
-shared-slice-read-last : tie.Need-shared-slice-read-last
-shared-slice-read-last c = search needs
-
 cast-last : tie.Need-cast-last
 cast-last c = omega (arith, c .shared-slice-known4 .given (length (began (c .before .before) .args .places .now) - 1))
 
@@ -62,12 +56,6 @@ sequence-at-requires : tie.Need-sequence-at-requires
 sequence-at-requires c κs =
     let s = began (c .before .before) in
     (s .pre .holds, place-inside (s .args .pool .now) (s .args .starts .now) (s .args .places .now) (inside s) (length (s .args .places .now) - 1) (omega arith))
-
-less-requires : tie.Need-less-requires
-less-requires c κs = search needs
-
-add-result : tie.Need-add-result
-add-result c = search needs
 
 returns-2 : tie.Need-returns-2
 returns-2 c = add-one _ ∙ decided (c .before) (c .if2 .taken)
@@ -81,11 +69,11 @@ new-group-spec =
     (tie.spec
     returns
     highest-group-requires
-    sub-last
-    shared-slice-read-last
+    (λ c. search needs)
+    (λ c. search needs)
     cast-last
     sequence-at-requires
-    less-requires
-    add-result
+    (λ c κs. search needs)
+    (λ c. search needs)
     returns-2
     returns-3)

@@ -44,9 +44,6 @@ line s = lineOf (sequenceNumber (s .args .line))
 loop-holds : tie.Need-loop-holds Inv-loop μ-loop
 loop-holds c = (omega arith, omega arith, omega arith)
 
-shared-slice-read-sequence-at : tie.Need-shared-slice-read-sequence-at Inv-loop μ-loop
-shared-slice-read-sequence-at c = omega arith
-
 cast-sequence-at : tie.Need-cast-sequence-at Inv-loop μ-loop
 cast-sequence-at c = omega (arith, c .shared-slice-known4 .given (turn c .loop .k))
 
@@ -55,18 +52,6 @@ sequence-at-requires c κs =
     let s = start (turn c) in
     let a = s .args in
     (s .pre .holds, place-inside (a .pool .now) (a .starts .now) (a .places .now) (log-inside (a .pool .now) (a .starts .now) (a .places .now) (s .pre)) (turn c .loop .k) (omega arith))
-
-number-on-requires : tie.Need-number-on-requires Inv-loop μ-loop
-number-on-requires c κs = search needs
-
-greater-requires : tie.Need-greater-requires Inv-loop μ-loop
-greater-requires c κs = search needs
-
-add-k : tie.Need-add-k Inv-loop μ-loop
-add-k c = omega arith
-
-loop-less : tie.Need-loop-less Inv-loop μ-loop
-loop-less c = omega arith
 
 loop-again : tie.Need-loop-again Inv-loop μ-loop
 loop-again c =
@@ -105,13 +90,13 @@ new-number-spec =
     Inv-loop
     μ-loop
     loop-holds
-    shared-slice-read-sequence-at
+    (λ c. omega arith)
     cast-sequence-at
     sequence-at-requires
-    number-on-requires
-    greater-requires
-    add-k
-    loop-less
+    (λ c κs. search needs)
+    (λ c κs. search needs)
+    (λ c. omega arith)
+    (λ c. omega arith)
     loop-again
     add-result
     returns)

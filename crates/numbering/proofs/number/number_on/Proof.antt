@@ -7,12 +7,6 @@ use borrow.Author.Needs.{needs}
 use Rattle.numbering.proofs.number.number_on.Statement.{statement}
 use Rattle.numbering.proofs.number.number_on.Tie as tie
 
-same-line-requires : tie.Need-same-line-requires
-same-line-requires c κs = search needs
-
-number-of-requires : tie.Need-number-of-requires
-number-of-requires c κs = search needs
-
 returns : tie.Need-returns
 returns c =
     let told = c .before .before in
@@ -24,4 +18,4 @@ returns-2 c =
     ap (λ (b : Bool). cond b (numberOf (sequenceNumber (told .before .args .s))) 0) (sym (c .if1 .left) ∙ told .same-line .ensures)
 
 pub number-on-spec : {M : Type 1} → statement M
-number-on-spec = tie.close (tie.spec same-line-requires number-of-requires returns returns-2)
+number-on-spec = tie.close (tie.spec (λ c κs. search needs) (λ c κs. search needs) returns returns-2)

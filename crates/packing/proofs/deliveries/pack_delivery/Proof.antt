@@ -6,37 +6,10 @@ use borrow.Author.Needs.{needs}
 use Rattle.packing.proofs.deliveries.pack_delivery.Statement.{statement}
 use Rattle.packing.proofs.deliveries.pack_delivery.Tie as tie
 
-enum-known-d : tie.Need-enum-known-d
-enum-known-d c = search needs
-
 pack-answer-requires : tie.Need-pack-answer-requires
 pack-answer-requires c κs =
     let small = subst Small (c .before .d .given .1) (c .before .before .before .pre) in
     record { code-fits = omega arith; undos-fit = omega (arith, small .0); executions-fit = omega (arith, small .1) }
-
-enum-told : tie.Need-enum-told
-enum-told c = search needs
-
-enum-told-2 : tie.Need-enum-told-2
-enum-told-2 c = search needs
-
-enum-told-3 : tie.Need-enum-told-3
-enum-told-3 c = search needs
-
-enum-told-4 : tie.Need-enum-told-4
-enum-told-4 c = search needs
-
-enum-told-5 : tie.Need-enum-told-5
-enum-told-5 c = search needs
-
-enum-told-6 : tie.Need-enum-told-6
-enum-told-6 c = search needs
-
-enum-told-7 : tie.Need-enum-told-7
-enum-told-7 c = search needs
-
-enum-told-8 : tie.Need-enum-told-8
-enum-told-8 c = search needs
 
 returns : tie.Need-returns
 returns c = c .pack-answer .ensures ∙ ap packedBy (sym (c .before .before .d .given .1))
@@ -69,16 +42,16 @@ pub pack-delivery-spec : {M : Type 1} → statement M
 pack-delivery-spec =
     tie.close
     (tie.spec
-    enum-known-d
+    (λ c. search needs)
     pack-answer-requires
-    enum-told
-    enum-told-2
-    enum-told-3
-    enum-told-4
-    enum-told-5
-    enum-told-6
-    enum-told-7
-    enum-told-8
+    (λ c. search needs)
+    (λ c. search needs)
+    (λ c. search needs)
+    (λ c. search needs)
+    (λ c. search needs)
+    (λ c. search needs)
+    (λ c. search needs)
+    (λ c. search needs)
     returns
     returns-2
     returns-3

@@ -7,19 +7,10 @@ use Rattle.model.specs.Bytes.{word}
 use Rattle.packing.proofs.reads.pack_value.Statement.{statement}
 use Rattle.packing.proofs.reads.pack_value.Tie as tie
 
-to-word-requires : tie.Need-to-word-requires
-to-word-requires c κs = search needs
-
-cast-result : tie.Need-cast-result
-cast-result c = search needs
-
-mul-result : tie.Need-mul-result
-mul-result c = search needs
-
 returns : tie.Need-returns
 returns c =
     let e : c .to-word .result ≡ word (c .before .args .value) = simp (toZ-ofZ (c .before .fits .value)) at (c .to-word .ensures) in
     omega (arith, e)
 
 pub pack-value-spec : {M : Type 1} → statement M
-pack-value-spec = tie.close (tie.spec to-word-requires cast-result mul-result returns)
+pack-value-spec = tie.close (tie.spec (λ c κs. search needs) (λ c. search needs) (λ c. search needs) returns)

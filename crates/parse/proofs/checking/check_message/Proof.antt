@@ -29,26 +29,11 @@ dependencies-right : (c : tie.After-enum-told5) → true ≡ dependenciesRight (
 dependencies-right c = sym (ap right (c .enum-told5 .given .1)) ∙ c .before .before .check-dependencies .ensures
 
 -- ---- the needs
-check-layout-requires : tie.Need-check-layout-requires
-check-layout-requires c κs = search needs
-
-enum-told : tie.Need-enum-told
-enum-told c = search needs
-
-enum-told-2 : tie.Need-enum-told-2
-enum-told-2 c = search needs
-
 returns : tie.Need-returns
 returns c = let checked = c .before .before in passes-by _ (sym (ap right (c .enum-told2 .given .1)) ∙ checked .check-layout .ensures) refl refl refl
 
 check-numbers-requires : tie.Need-check-numbers-requires
 check-numbers-requires c κs = let s = sized (layout-right c) in omega arith
-
-enum-told-3 : tie.Need-enum-told-3
-enum-told-3 c = search needs
-
-enum-told-4 : tie.Need-enum-told-4
-enum-told-4 c = search needs
 
 returns-2 : tie.Need-returns-2
 returns-2 c =
@@ -57,12 +42,6 @@ returns-2 c =
 
 check-dependencies-requires : tie.Need-check-dependencies-requires
 check-dependencies-requires c κs = let s = sized (layout-right (laid c)) in omega arith
-
-enum-told-5 : tie.Need-enum-told-5
-enum-told-5 c = search needs
-
-enum-told-6 : tie.Need-enum-told-6
-enum-told-6 c = search needs
 
 returns-3 : tie.Need-returns-3
 returns-3 c =
@@ -83,17 +62,17 @@ pub check-message-spec : {M : Type 1} → statement M
 check-message-spec =
     tie.close
     (tie.spec
-    check-layout-requires
-    enum-told
-    enum-told-2
+    (λ c κs. search needs)
+    (λ c. search needs)
+    (λ c. search needs)
     returns
     check-numbers-requires
-    enum-told-3
-    enum-told-4
+    (λ c. search needs)
+    (λ c. search needs)
     returns-2
     check-dependencies-requires
-    enum-told-5
-    enum-told-6
+    (λ c. search needs)
+    (λ c. search needs)
     returns-3
     check-content-requires
     returns-4)

@@ -29,49 +29,13 @@ bytes c = begun c .args .m .now
 by-priority : (c : tie.After-check-priority) {t e : Bool} → right (c .check-priority .result) ≡ t → every commandRight (commandsOf (bytes c)) ≡ e → contentRight (bytes c) ≡ t && e
 by-priority c p e = content-is (bytes c) (le-leb (groupOf (bytes c)) fieldLimit (omega arith)) (sym (c .check-priority .ensures) ∙ p) e
 
-get-u32-requires : tie.Need-get-u32-requires
-get-u32-requires c κs = search needs
-
 returns : tie.Need-returns
 returns c =
     let m = start (c .before) .args .m .now in
     sym (content-is m (lt-leb (groupOf m) fieldLimit (omega arith)) refl refl)
 
-check-priority-requires : tie.Need-check-priority-requires
-check-priority-requires c κs = search needs
-
-enum-told : tie.Need-enum-told
-enum-told c = search needs
-
-enum-told-2 : tie.Need-enum-told-2
-enum-told-2 c = search needs
-
 returns-2 : tie.Need-returns-2
 returns-2 c = sym (by-priority (c .before .before) (ap right (c .enum-told2 .given .1)) refl)
-
-byte-requires : tie.Need-byte-requires
-byte-requires c κs = search needs
-
-cast-dependencies : tie.Need-cast-dependencies
-cast-dependencies c = search needs
-
-mul-from : tie.Need-mul-from
-mul-from c = search needs
-
-add-from : tie.Need-add-from
-add-from c = search needs
-
-sub-check-commands : tie.Need-sub-check-commands
-sub-check-commands c = search needs
-
-part-check-commands-start : tie.Need-part-check-commands-start
-part-check-commands-start c = search needs
-
-part-check-commands-end : tie.Need-part-check-commands-end
-part-check-commands-end c = search needs
-
-check-commands-requires : tie.Need-check-commands-requires
-check-commands-requires c κs = search needs
 
 returns-3 : tie.Need-returns-3
 returns-3 c =
@@ -89,18 +53,18 @@ pub check-content-spec : {M : Type 1} → statement M
 check-content-spec =
     tie.close
     (tie.spec
-    get-u32-requires
+    (λ c κs. search needs)
     returns
-    check-priority-requires
-    enum-told
-    enum-told-2
+    (λ c κs. search needs)
+    (λ c. search needs)
+    (λ c. search needs)
     returns-2
-    byte-requires
-    cast-dependencies
-    mul-from
-    add-from
-    sub-check-commands
-    part-check-commands-start
-    part-check-commands-end
-    check-commands-requires
+    (λ c κs. search needs)
+    (λ c. search needs)
+    (λ c. search needs)
+    (λ c. search needs)
+    (λ c. search needs)
+    (λ c. search needs)
+    (λ c. search needs)
+    (λ c κs. search needs)
     returns-3)

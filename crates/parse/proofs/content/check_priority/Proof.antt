@@ -5,20 +5,11 @@ use borrow.Author.Needs.{needs}
 use Rattle.parse.proofs.content.check_priority.Statement.{statement}
 use Rattle.parse.proofs.content.check_priority.Tie as tie
 
-get-u32-requires : tie.Need-get-u32-requires
-get-u32-requires c κs = search needs
-
-get-u32-requires-2 : tie.Need-get-u32-requires-2
-get-u32-requires-2 c κs = search needs
-
 returns : tie.Need-returns
 returns c = priority-wrong (λ f. omega arith)
 
 returns-2 : tie.Need-returns-2
 returns-2 c = priority-wrong (λ f. omega arith)
-
-byte-requires : tie.Need-byte-requires
-byte-requires c κs = search needs
 
 returns-3 : tie.Need-returns-3
 returns-3 c = priority-wrong (λ f. omega (arith, f .given (omega arith)))
@@ -39,11 +30,11 @@ pub check-priority-spec : {M : Type 1} → statement M
 check-priority-spec =
     tie.close
     (tie.spec
-    get-u32-requires
-    get-u32-requires-2
+    (λ c κs. search needs)
+    (λ c κs. search needs)
     returns
     returns-2
-    byte-requires
+    (λ c κs. search needs)
     returns-3
     returns-4
     returns-5

@@ -53,9 +53,6 @@ loop-holds c =
     let s = c .before .before .before .before .before in
     (omega arith, keys-none (deltasOf (s .args .pool .now) (s .args .starts .now)) (s .args .blocks .now) (s .args .indices .now) (s .args .keys .now) (s .pre .0))
 
-shared-slice-read-i : tie.Need-shared-slice-read-i Inv-loop μ-loop
-shared-slice-read-i c = omega arith
-
 cast-i : tie.Need-cast-i Inv-loop μ-loop
 cast-i c = omega (arith, inside c, few (entry (turn c)))
 
@@ -84,12 +81,6 @@ put-key-requires : tie.Need-put-key-requires Inv-loop μ-loop
 put-key-requires c κs =
     let i = indexed (messaged (made c)) in
     omega (arith, turn i .loop .inv .1 .size, inside i, few (entry (turn i)))
-
-add-k : tie.Need-add-k Inv-loop μ-loop
-add-k c = omega arith
-
-loop-less : tie.Need-loop-less Inv-loop μ-loop
-loop-less c = omega arith
 
 loop-again : tie.Need-loop-again Inv-loop μ-loop
 loop-again c =
@@ -124,7 +115,7 @@ fill-keys-spec =
     Inv-loop
     μ-loop
     loop-holds
-    shared-slice-read-i
+    (λ c. omega arith)
     cast-i
     message-at-requires
     read-header-requires
@@ -132,8 +123,8 @@ fill-keys-spec =
     shared-slice-read-make-key
     make-key-requires
     put-key-requires
-    add-k
-    loop-less
+    (λ c. omega arith)
+    (λ c. omega arith)
     loop-again
     same-length
     returns)

@@ -26,15 +26,6 @@ begins b = omega (arith, b .byte .ensures .0, lengths (began b) .total)
 byte-requires : tie.Need-byte-requires
 byte-requires c κs = omega (arith, long (c .before .before))
 
-cast-start : tie.Need-cast-start
-cast-start c = search needs
-
-mul-start : tie.Need-mul-start
-mul-start c = search needs
-
-add-start : tie.Need-add-start
-add-start c = search needs
-
 put-head-requires : tie.Need-put-head-requires
 put-head-requires c κs = (omega arith, omega (arith, long (c .before .before .before .before)))
 
@@ -43,9 +34,6 @@ sub-put-commands c = begins (c .before .before .before .before .before)
 
 part-put-commands-start : tie.Need-part-put-commands-start
 part-put-commands-start c = begins (c .before .before .before .before .before)
-
-part-put-commands-end : tie.Need-part-put-commands-end
-part-put-commands-end c = search needs
 
 put-commands-requires : tie.Need-put-commands-requires
 put-commands-requires c κs =
@@ -56,15 +44,6 @@ put-commands-requires c κs =
       omega (arith, headed .put-head .ensures .end, headed .put-head .ensures .few, headed .put-head .kept .0),
       omega (arith, length-take (length m - start) (drop start m), length-drop start m, b .byte .ensures .0, lengths (began b) .total, lengths (began b) .commands),
     )
-
-slice-aggregate-put-text : tie.Need-slice-aggregate-put-text
-slice-aggregate-put-text c = search needs
-
-put-text-requires : tie.Need-put-text-requires
-put-text-requires c κs = search needs
-
-same-length : tie.Need-same-length
-same-length c = search needs
 
 returns : tie.Need-returns
 returns c =
@@ -83,15 +62,15 @@ put-line-spec =
     tie.close
     (tie.spec
     byte-requires
-    cast-start
-    mul-start
-    add-start
+    (λ c. search needs)
+    (λ c. search needs)
+    (λ c. search needs)
     put-head-requires
     sub-put-commands
     part-put-commands-start
-    part-put-commands-end
+    (λ c. search needs)
     put-commands-requires
-    slice-aggregate-put-text
-    put-text-requires
-    same-length
+    (λ c. search needs)
+    (λ c κs. search needs)
+    (λ c. search needs)
     returns)

@@ -4,21 +4,6 @@ use borrow.Author.Needs.{needs}
 use Rattle.print_log_line.proofs.line.put_sequence.Statement.{statement}
 use Rattle.print_log_line.proofs.line.put_sequence.Tie as tie
 
-slice-aggregate-put-text : tie.Need-slice-aggregate-put-text
-slice-aggregate-put-text c = search needs
-
-put-text-requires : tie.Need-put-text-requires
-put-text-requires c κs = search needs
-
-put-characters-requires : tie.Need-put-characters-requires
-put-characters-requires c κs = search needs
-
-add-result : tie.Need-add-result
-add-result c = search needs
-
-same-length : tie.Need-same-length
-same-length c = search needs
-
 returns : tie.Need-returns
 returns c =
     let put = c .before .before in
@@ -30,9 +15,9 @@ pub put-sequence-spec : {M : Type 1} → statement M
 put-sequence-spec =
     tie.close
     (tie.spec
-    slice-aggregate-put-text
-    put-text-requires
-    put-characters-requires
-    add-result
-    same-length
+    (λ c. search needs)
+    (λ c κs. search needs)
+    (λ c κs. search needs)
+    (λ c. search needs)
+    (λ c. search needs)
     returns)

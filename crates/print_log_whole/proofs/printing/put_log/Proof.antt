@@ -20,29 +20,8 @@ coded k = k .log-message-code .ensures
 found : (t : tie.After-enum-told) → let b = began (t .before .before) .args .input .now in lowestCode (readConditions b) ≡ 0
 found t = code-found _ 0 (sym (coded (t .before .before)) ∙ ap lookupBy (t .enum-told .given .1)) .0
 
-log-message-code-requires : tie.Need-log-message-code-requires
-log-message-code-requires c κs = search needs
-
-enum-told : tie.Need-enum-told
-enum-told c = search needs
-
 put-lines-requires : tie.Need-put-lines-requires
 put-lines-requires c κs = (found (c .before), omega (arith, c .before .before .before .before .before .good))
-
-enum-told-2 : tie.Need-enum-told-2
-enum-told-2 c = search needs
-
-put-code-requires : tie.Need-put-code-requires
-put-code-requires c κs = search needs
-
-enum-told-3 : tie.Need-enum-told-3
-enum-told-3 c = search needs
-
-put-code-requires-2 : tie.Need-put-code-requires-2
-put-code-requires-2 c κs = search needs
-
-enum-told-4 : tie.Need-enum-told-4
-enum-told-4 c = search needs
 
 returns : tie.Need-returns
 returns c = prints-lines _ (found (c .before .before)) (c .put-lines .ensures)
@@ -66,14 +45,14 @@ pub put-log-spec : {M : Type 1} → statement M
 put-log-spec =
     tie.close
     (tie.spec
-    log-message-code-requires
-    enum-told
+    (λ c κs. search needs)
+    (λ c. search needs)
     put-lines-requires
-    enum-told-2
-    put-code-requires
-    enum-told-3
-    put-code-requires-2
-    enum-told-4
+    (λ c. search needs)
+    (λ c κs. search needs)
+    (λ c. search needs)
+    (λ c κs. search needs)
+    (λ c. search needs)
     returns
     returns-2
     returns-3

@@ -40,15 +40,6 @@ image c = tells right (c .enum-told3 .given .1) (judgement-is (c .before .before
 placed : (c : tie.After-enum-told5) → true ≡ not (let a = began (measured (judged (c .before .before))) .args in leb (logCount (a .image .now)) (a .place))
 placed c = tells right (c .enum-told5 .given .1) (c .before .before .check-place .ensures)
 
-check-image-size-requires : tie.Need-check-image-size-requires
-check-image-size-requires c κs = search needs
-
-enum-told : tie.Need-enum-told
-enum-told c = search needs
-
-enum-told-2 : tie.Need-enum-told-2
-enum-told-2 c = search needs
-
 returns : tie.Need-returns
 returns c =
     let m = c .before .before in
@@ -56,12 +47,6 @@ returns c =
 
 read-station-requires : tie.Need-read-station-requires
 read-station-requires c κs = eqb-true (length (began (c .before .before) .args .image .now)) imageSize (sym (sized c))
-
-enum-told-3 : tie.Need-enum-told-3
-enum-told-3 c = search needs
-
-enum-told-4 : tie.Need-enum-told-4
-enum-told-4 c = search needs
 
 returns-2 : tie.Need-returns-2
 returns-2 c =
@@ -73,12 +58,6 @@ check-place-requires : tie.Need-check-place-requires
 check-place-requires c κs =
     let j = c .before .before in
     eqb-true (length (began (measured j) .args .image .now)) imageSize (sym (sized (j .before)))
-
-enum-told-5 : tie.Need-enum-told-5
-enum-told-5 c = search needs
-
-enum-told-6 : tie.Need-enum-told-6
-enum-told-6 c = search needs
 
 returns-3 : tie.Need-returns-3
 returns-3 c =
@@ -115,9 +94,6 @@ mul-offset c = omega (arith, small (c .before))
 array-read-offset : tie.Need-array-read-offset
 array-read-offset c = let t = c .before in omega (arith, small t, offsets-size (judged (t .before .before)))
 
-cast-offset : tie.Need-cast-offset
-cast-offset c = search needs
-
 offset-is : (c : tie.After-enum-told5) → let a = told c .args in getD (judged (c .before .before) .read-station .result .offsets) (a .place) 0 ≡ messageOffset (a .image .now) (a .place)
 offset-is c = let a = told c .args in place-offset (a .image .now) (judged (c .before .before) .read-station .result) (station c) (a .place) (within c)
 
@@ -133,9 +109,6 @@ add-get-u16 c = omega (arith, inside (c .before), offset-is (c .before))
 get-u16-requires : tie.Need-get-u16-requires
 get-u16-requires c κs = omega (arith, inside (c .before), offset-is (c .before))
 
-cast-size : tie.Need-cast-size
-cast-size c = search needs
-
 returns-4 : tie.Need-returns-4
 returns-4 c =
     let t = c .before .before in
@@ -147,22 +120,22 @@ pub locate-spec : {M : Type 1} → statement M
 locate-spec =
     tie.close
     (tie.spec
-    check-image-size-requires
-    enum-told
-    enum-told-2
+    (λ c κs. search needs)
+    (λ c. search needs)
+    (λ c. search needs)
     returns
     read-station-requires
-    enum-told-3
-    enum-told-4
+    (λ c. search needs)
+    (λ c. search needs)
     returns-2
     check-place-requires
-    enum-told-5
-    enum-told-6
+    (λ c. search needs)
+    (λ c. search needs)
     returns-3
     mul-offset
     array-read-offset
-    cast-offset
+    (λ c. search needs)
     add-get-u16
     get-u16-requires
-    cast-size
+    (λ c. search needs)
     returns-4)

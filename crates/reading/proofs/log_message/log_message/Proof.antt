@@ -12,21 +12,6 @@ use Rattle.reading.proofs.LocatedTags.{no-message}
 use Rattle.reading.proofs.log_message.log_message.Statement.{statement}
 use Rattle.reading.proofs.log_message.log_message.Tie as tie
 
-locate-requires : tie.Need-locate-requires
-locate-requires c κs = search needs
-
-enum-known-located : tie.Need-enum-known-located
-enum-known-located c = search needs
-
-sub-result : tie.Need-sub-result
-sub-result c = search needs
-
-part-result-start : tie.Need-part-result-start
-part-result-start c = search needs
-
-part-result-end : tie.Need-part-result-end
-part-result-end c = search needs
-
 returns : tie.Need-returns
 returns c =
     let l = c .before .before in
@@ -46,12 +31,6 @@ found c =
 add-end : tie.Need-add-end
 add-end c = let p = found (c .before) in omega (arith, p .small)
 
-sub-result-2 : tie.Need-sub-result-2
-sub-result-2 c = search needs
-
-part-result-start-2 : tie.Need-part-result-start-2
-part-result-start-2 c = search needs
-
 part-result-end-2 : tie.Need-part-result-end-2
 part-result-end-2 c = let p = found (c .before) in omega (arith, p .inside)
 
@@ -65,14 +44,14 @@ pub log-message-spec : {M : Type 1} → statement M
 log-message-spec =
     tie.close
     (tie.spec
-    locate-requires
-    enum-known-located
-    sub-result
-    part-result-start
-    part-result-end
+    (λ c κs. search needs)
+    (λ c. search needs)
+    (λ c. search needs)
+    (λ c. search needs)
+    (λ c. search needs)
     returns
     add-end
-    sub-result-2
-    part-result-start-2
+    (λ c. search needs)
+    (λ c. search needs)
     part-result-end-2
     returns-2)

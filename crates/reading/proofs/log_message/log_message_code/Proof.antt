@@ -9,21 +9,6 @@ use Rattle.reading.specs.PartCases.{part-code}
 use Rattle.reading.proofs.log_message.log_message_code.Statement.{statement}
 use Rattle.reading.proofs.log_message.log_message_code.Tie as tie
 
-locate-requires : tie.Need-locate-requires
-locate-requires c κs = search needs
-
-enum-told : tie.Need-enum-told
-enum-told c = search needs
-
-enum-told-2 : tie.Need-enum-told-2
-enum-told-2 c = search needs
-
-enum-told-3 : tie.Need-enum-told-3
-enum-told-3 c = search needs
-
-enum-told-4 : tie.Need-enum-told-4
-enum-told-4 c = search needs
-
 -- the code is that of what was located
 code : (c : tie.After-locate) (r : Located) → c .locate .result ≡ r → let a = c .before .before .args in partBy r .code ≡ logMessageCode (a .image .now) (a .place)
 code c r e =
@@ -46,11 +31,11 @@ pub log-message-code-spec : {M : Type 1} → statement M
 log-message-code-spec =
     tie.close
     (tie.spec
-    locate-requires
-    enum-told
-    enum-told-2
-    enum-told-3
-    enum-told-4
+    (λ c κs. search needs)
+    (λ c. search needs)
+    (λ c. search needs)
+    (λ c. search needs)
+    (λ c. search needs)
     returns
     returns-2
     returns-3

@@ -37,15 +37,6 @@ image c = tells right (c .enum-told3 .given .1) (c .before .before .check-image 
 named : (c : tie.After-enum-told5) → true ≡ not (leb tagCount (began (measured (judged (c .before .before))) .args .tag))
 named c = tells right (c .enum-told5 .given .1) (c .before .before .check-tag .ensures)
 
-check-image-size-requires : tie.Need-check-image-size-requires
-check-image-size-requires c κs = search needs
-
-enum-told : tie.Need-enum-told
-enum-told c = search needs
-
-enum-told-2 : tie.Need-enum-told-2
-enum-told-2 c = search needs
-
 returns : tie.Need-returns
 returns c =
     let m = c .before .before in
@@ -54,26 +45,11 @@ returns c =
 check-image-requires : tie.Need-check-image-requires
 check-image-requires c κs = eqb-true (length (began (c .before .before) .args .image .now)) imageSize (sym (sized c))
 
-enum-told-3 : tie.Need-enum-told-3
-enum-told-3 c = search needs
-
-enum-told-4 : tie.Need-enum-told-4
-enum-told-4 c = search needs
-
 returns-2 : tie.Need-returns-2
 returns-2 c =
     let j = c .before .before in
     let a = began (measured j) .args in
     value-told (a .image .now) (a .tag) (passes (sized (j .before)) (fails (tells right (c .enum-told4 .given .1) (j .check-image .ensures))))
-
-check-tag-requires : tie.Need-check-tag-requires
-check-tag-requires c κs = search needs
-
-enum-told-5 : tie.Need-enum-told-5
-enum-told-5 c = search needs
-
-enum-told-6 : tie.Need-enum-told-6
-enum-told-6 c = search needs
 
 returns-3 : tie.Need-returns-3
 returns-3 c =
@@ -101,9 +77,6 @@ add-get-u32 c = omega (arith, below c)
 get-u32-requires : tie.Need-get-u32-requires
 get-u32-requires c κs = omega (arith, below c, size c)
 
-of-word-requires : tie.Need-of-word-requires
-of-word-requires c κs = search needs
-
 returns-4 : tie.Need-returns-4
 returns-4 c =
     let g = c .before in
@@ -116,20 +89,20 @@ pub setpoint-spec : {M : Type 1} → statement M
 setpoint-spec =
     tie.close
     (tie.spec
-    check-image-size-requires
-    enum-told
-    enum-told-2
+    (λ c κs. search needs)
+    (λ c. search needs)
+    (λ c. search needs)
     returns
     check-image-requires
-    enum-told-3
-    enum-told-4
+    (λ c. search needs)
+    (λ c. search needs)
     returns-2
-    check-tag-requires
-    enum-told-5
-    enum-told-6
+    (λ c κs. search needs)
+    (λ c. search needs)
+    (λ c. search needs)
     returns-3
     mul-get-u32
     add-get-u32
     get-u32-requires
-    of-word-requires
+    (λ c κs. search needs)
     returns-4)

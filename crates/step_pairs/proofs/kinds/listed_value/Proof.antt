@@ -7,12 +7,6 @@ use Rattle.step_pairs.specs.Kinds.{valueBy}
 use Rattle.step_pairs.proofs.kinds.listed_value.Statement.{statement}
 use Rattle.step_pairs.proofs.kinds.listed_value.Tie as tie
 
-enum-told : tie.Need-enum-told
-enum-told c = search needs
-
-enum-told-2 : tie.Need-enum-told-2
-enum-told-2 c = search needs
-
 returns : tie.Need-returns
 returns c =
     let s = c .before .before in
@@ -24,4 +18,4 @@ returns-2 c =
     toZ-ofZ (s .fits .after) ∙ sym (ap (λ (x : Kind). valueBy x (s .args .before) (s .args .after)) (c .enum-told2 .given .1))
 
 pub listed-value-spec : {M : Type 1} → statement M
-listed-value-spec = tie.close (tie.spec enum-told enum-told-2 returns returns-2)
+listed-value-spec = tie.close (tie.spec (λ c. search needs) (λ c. search needs) returns returns-2)

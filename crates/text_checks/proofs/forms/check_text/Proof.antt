@@ -51,9 +51,6 @@ loop-holds c = let t = c .before .before .before .before .args .text .now in (se
 check-part-requires : tie.Need-check-part-requires Inv-loop μ-loop
 check-part-requires c κs = (c .before .before .before .digits .ensures, omega arith)
 
-enum-told : tie.Need-enum-told Inv-loop μ-loop
-enum-told c = search needs
-
 returns-3 : tie.Need-returns-3 Inv-loop μ-loop
 returns-3 c = sym (turn (c .before .before) (ap right (c .enum-told2 .given .1)))
 
@@ -81,7 +78,7 @@ check-text-spec =
     loop-holds
     (λ c. omega arith)
     check-part-requires
-    enum-told
+    (λ c. search needs)
     (λ c. search needs)
     returns-3
     (λ c. omega arith)

@@ -7,15 +7,6 @@ use Rattle.text_forms.proofs.lines.line_size.Tie as tie
 returns : tie.Need-returns
 returns c = no-line (c .before .args .input .now) (c .if1 .taken)
 
-sub-if2 : tie.Need-sub-if2
-sub-if2 c = search needs
-
-shared-slice-read-if2 : tie.Need-shared-slice-read-if2
-shared-slice-read-if2 c = search needs
-
-sub-result : tie.Need-sub-result
-sub-result c = search needs
-
 returns-2 : tie.Need-returns-2
 returns-2 c = line-fed (c .before .before .before .args .input .now) (c .if2 .taken)
 
@@ -23,4 +14,4 @@ returns-3 : tie.Need-returns-3
 returns-3 c = line-whole (c .before .before .before .args .input .now) (c .if2 .left)
 
 pub line-size-spec : {M : Type 1} → statement M
-line-size-spec = tie.close (tie.spec returns sub-if2 shared-slice-read-if2 sub-result returns-2 returns-3)
+line-size-spec = tie.close (tie.spec returns (λ c. search needs) (λ c. search needs) (λ c. search needs) returns-2 returns-3)

@@ -41,9 +41,6 @@ one-more d t x k h r =
 add-count : tie.Need-add-count Inv-loop μ-loop
 add-count c = let start = c .before .before in omega (arith, text-out (start .args .text .now) (start .pre .formed) .whole, text-out (start .args .text .now) (start .pre .formed) .most)
 
-digits-requires : tie.Need-digits-requires Inv-loop μ-loop
-digits-requires c κs = search needs
-
 loop-holds : tie.Need-loop-holds Inv-loop μ-loop
 loop-holds c = let a = c .before .before .before .args in (search needs, (paste-zero (a .bytes .now) 0 (sequenceBytesIn (a .text .now)), refl))
 
@@ -66,9 +63,6 @@ read-part-requires c κs =
 
 add-k : tie.Need-add-k Inv-loop μ-loop
 add-k c = let l = c .before .before .before .before .before .before in omega (arith, formed l .most)
-
-loop-less : tie.Need-loop-less Inv-loop μ-loop
-loop-less c = omega arith
 
 loop-again : tie.Need-loop-again Inv-loop μ-loop
 loop-again c =
@@ -113,13 +107,13 @@ read-text-spec =
     Inv-loop
     μ-loop
     add-count
-    digits-requires
+    (λ c κs. search needs)
     loop-holds
     mul-read-part
     mul-read-part-2
     read-part-requires
     add-k
-    loop-less
+    (λ c. omega arith)
     loop-again
     mul-result
     same-length

@@ -35,44 +35,11 @@ loop-holds c =
     let a = c .before .before .args in
     (search needs, (paste-zero (a .text .now) (a .at) (characters (a .sequences .now) (a .from)), refl))
 
-add-value : tie.Need-add-value Inv-loop μ-loop
-add-value c = omega arith
-
-shared-slice-read-value : tie.Need-shared-slice-read-value Inv-loop μ-loop
-shared-slice-read-value c = omega arith
-
 character-requires : tie.Need-character-requires Inv-loop μ-loop
 character-requires c κs = let l = c .before .before in omega (arith, c .shared-slice-known2 .given (began l .args .from + l .loop .k))
 
-mul-text : tie.Need-mul-text Inv-loop μ-loop
-mul-text c = omega arith
-
-add-text : tie.Need-add-text Inv-loop μ-loop
-add-text c = omega arith
-
-slice-write-text : tie.Need-slice-write-text Inv-loop μ-loop
-slice-write-text c = omega arith
-
-character-requires-2 : tie.Need-character-requires-2 Inv-loop μ-loop
-character-requires-2 c κs = omega arith
-
-mul-text-2 : tie.Need-mul-text-2 Inv-loop μ-loop
-mul-text-2 c = omega arith
-
-add-text-2 : tie.Need-add-text-2 Inv-loop μ-loop
-add-text-2 c = omega arith
-
-add-text-3 : tie.Need-add-text-3 Inv-loop μ-loop
-add-text-3 c = omega arith
-
 slice-write-text-2 : tie.Need-slice-write-text-2 Inv-loop μ-loop
 slice-write-text-2 c = simp length-set (omega arith)
-
-add-k : tie.Need-add-k Inv-loop μ-loop
-add-k c = omega arith
-
-loop-less : tie.Need-loop-less Inv-loop μ-loop
-loop-less c = omega arith
 
 loop-again : tie.Need-loop-again Inv-loop μ-loop
 loop-again c =
@@ -105,19 +72,19 @@ put-characters-spec =
     Inv-loop
     μ-loop
     loop-holds
-    add-value
-    shared-slice-read-value
+    (λ c. omega arith)
+    (λ c. omega arith)
     character-requires
-    mul-text
-    add-text
-    slice-write-text
-    character-requires-2
-    mul-text-2
-    add-text-2
-    add-text-3
+    (λ c. omega arith)
+    (λ c. omega arith)
+    (λ c. omega arith)
+    (λ c κs. omega arith)
+    (λ c. omega arith)
+    (λ c. omega arith)
+    (λ c. omega arith)
     slice-write-text-2
-    add-k
-    loop-less
+    (λ c. omega arith)
+    (λ c. omega arith)
     loop-again
     same-length
     returns)

@@ -78,9 +78,6 @@ last-put p =
     ∙ characters-more (a .text .now) (a .sequences .now) (formed s) (room s) n (omega (arith, formed s .least))
     ∙ all-put (a .text .now) (a .sequences .now) (formed s) (room s)
 
-count-sequences-requires : tie.Need-count-sequences-requires Inv-loop μ-loop
-count-sequences-requires c κs = search needs
-
 sub-last : tie.Need-sub-last Inv-loop μ-loop
 sub-last c = omega (arith, c .count-sequences .ensures, formed (c .before .before .before) .least)
 
@@ -116,9 +113,6 @@ slice-write-text c =
 
 add-k : tie.Need-add-k Inv-loop μ-loop
 add-k c = let l = loop (c .before .before) in omega (arith, counted l, formed (began l) .most)
-
-loop-less : tie.Need-loop-less Inv-loop μ-loop
-loop-less c = omega arith
 
 loop-again : tie.Need-loop-again Inv-loop μ-loop
 loop-again c =
@@ -177,7 +171,7 @@ put-text-spec =
     (tie.spec
     Inv-loop
     μ-loop
-    count-sequences-requires
+    (λ c κs. search needs)
     sub-last
     loop-holds
     mul-put-characters
@@ -187,7 +181,7 @@ put-text-spec =
     add-text
     slice-write-text
     add-k
-    loop-less
+    (λ c. omega arith)
     loop-again
     mul-put-characters-3
     mul-put-characters-4

@@ -45,9 +45,6 @@ fits c = let s = start (turn c) in s .pre .1 (place (turn c)) (getD-∈ (s .args
 loop-holds : tie.Need-loop-holds Inv-loop μ-loop
 loop-holds c = (omega arith, refl, refl)
 
-shared-slice-read-i : tie.Need-shared-slice-read-i Inv-loop μ-loop
-shared-slice-read-i c = omega arith
-
 cast-i : tie.Need-cast-i Inv-loop μ-loop
 cast-i c = omega (arith, c .shared-slice-known4 .given (turn c .loop .k))
 
@@ -63,9 +60,6 @@ cast-end c = omega (arith, c .shared-slice-known5 .given (place (turn (c .before
 add-end : tie.Need-add-end Inv-loop μ-loop
 add-end c = omega (arith, c .before .shared-slice-known4 .given (turn (c .before) .loop .k), c .shared-slice-known5 .given (place (turn (c .before))))
 
-sub-mark : tie.Need-sub-mark Inv-loop μ-loop
-sub-mark c = omega arith
-
 part-mark-start : tie.Need-part-mark-start Inv-loop μ-loop
 part-mark-start c = omega (arith, fits (c .before .before) .inside)
 
@@ -79,12 +73,6 @@ mark-requires c κs =
     let a = start h .args in
     let size : marksSize ≡ length (h .loop .marks) = sym (h .loop .inv .2 ∙ start h .pre .0) in
     subst (λ (n : ℕ). AllBelow n (row-of h)) size (subst (AllBelow marksSize) (sym (row-lent (a .rows .now) (a .counts .now) (place h))) (row-below (a .rows .now) (a .counts .now) (place h) (fits r)))
-
-add-k : tie.Need-add-k Inv-loop μ-loop
-add-k c = omega arith
-
-loop-less : tie.Need-loop-less Inv-loop μ-loop
-loop-less c = omega arith
 
 loop-again : tie.Need-loop-again Inv-loop μ-loop
 loop-again c =
@@ -115,18 +103,18 @@ mark-needs-spec =
     Inv-loop
     μ-loop
     loop-holds
-    shared-slice-read-i
+    (λ c. omega arith)
     cast-i
     mul-from
     shared-slice-read-end
     cast-end
     add-end
-    sub-mark
+    (λ c. omega arith)
     part-mark-start
     part-mark-end
     mark-requires
-    add-k
-    loop-less
+    (λ c. omega arith)
+    (λ c. omega arith)
     loop-again
     same-length
     returns)

@@ -7,9 +7,6 @@ use borrow.Author.Needs.{needs}
 use Rattle.writing.proofs.header.put_message_header.Statement.{statement}
 use Rattle.writing.proofs.header.put_message_header.Tie as tie
 
-enum-told : tie.Need-enum-told
-enum-told c = search needs
-
 returns : tie.Need-returns
 returns c =
     let put = c .before .before in
@@ -28,7 +25,7 @@ pub put-message-header-spec : {M : Type 1} → statement M
 put-message-header-spec =
     tie.close
     (tie.spec
-    enum-told
+    (λ c. search needs)
     (λ c κs. search needs)
     (λ c. search needs)
     (λ c κs. search needs)
