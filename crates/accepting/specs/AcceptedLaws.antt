@@ -16,12 +16,13 @@ use Rattle.laws.specs.ImageLaws.{image-own, own-valid}
 use Rattle.laws.specs.OriginLaws.{origin-front}
 use Rattle.laws.specs.UsedLaws.{used-grows}
 use Rattle.wire_laws.specs.MessageLaws.{passes-sized, sized-range}
-use Rattle.table.specs.declared.Table.{Table}
 use Rattle.table.specs.Table.{startsOf, messageFrom, deltasOf, setIn, Holds, insertAt}
 use Rattle.table.specs.Places.{AllBelow}
 use Rattle.table.specs.FindLaws.{absent-member}
 use Rattle.table.specs.Shifting.{shifted}
 use Rattle.steps.specs.PlacedLogs.{IsLogOf, log-shifted}
+use Rattle.log_order.specs.declared.LogOrder.{LogOrder}
+use Rattle.log_order.specs.LogOrder.{oldOf, Begun}
 use Rattle.listed.specs.declared.Station.{Station}
 use Rattle.listed.specs.Listed.{placesIn}
 use Rattle.accepting.specs.DeliveryPool.{pool-front, old-deltas, new-holds, new-set}
@@ -60,8 +61,8 @@ module _ (b : List ℕ) (m : Message) (room : ℕ) (before : List ℕ) (station 
   places-within i k = omega (arith, h .judged .inside i k, used, h .few)
 
   module _ (pool : List ℕ) (filled : pool ≡ paste before imageSize m (length m))
-      (next : Table) (inserted : startsOf next ≡ insertAt p imageSize starts) (grown : next .count ≡ station .table .count + 1)
-      (old : List ℕ) (moved : take (station .logged) old ≡ map (shifted p) (placesIn station)) where
+      (next : List ℕ) (inserted : next ≡ insertAt p imageSize starts)
+      (old : List ℕ) (moved : take (station .logged) old ≡ map (shifted p) (placesIn station)) (begun : LogOrder) (first : Begun old (station .logged) begun) where
     both : take (length b + length m) pool ≡ b ++ m
     both =
         ap₂ (λ (n : ℕ) (l : List ℕ). take (n + length m) l) (h .size) filled ∙ take-paste before imageSize m (length m) (omega (arith, message-fits)) (omega arith)
@@ -73,33 +74,34 @@ module _ (b : List ℕ) (m : Message) (room : ℕ) (before : List ℕ) (station 
     starts-few : length starts < capacity
     starts-few = omega (arith, h .few, used)
 
-    next-starts : startsOf next ≡ insertAt p (length b) starts
+    next-starts : next ≡ insertAt p (length b) starts
     next-starts = inserted ∙ ap (λ (n : ℕ). insertAt p n starts) (sym (h .size))
 
-    holds-next : Holds pool (startsOf next)
+    holds-next : Holds pool next
     holds-next = subst (λ (s : List ℕ). Holds pool s) (sym next-starts) (new-holds pool b m both starts (h .judged .table .holds) (h .right) p (h .absent) starts-few origins)
 
-    set-next : setIn pool (startsOf next) ≡ add m (setIn b starts)
+    set-next : setIn pool next ≡ add m (setIn b starts)
     set-next = ap (setIn pool) next-starts ∙ new-set pool b m both starts (h .judged .table .holds) (h .right) p (h .absent) starts-few origins
 
     deltas-same : deltasOf pool starts ≡ deltasOf b starts
     deltas-same = old-deltas pool b m both starts (h .judged .table .holds) (h .right) p (h .absent) starts-few
 
-    log-moved : IsLogOf pool (startsOf next) (take (station .logged) old) (setIn b starts)
-    log-moved = subst (λ (s : List ℕ). IsLogOf pool s (take (station .logged) old) (setIn b starts)) (sym inserted)
-        (subst (λ (l : List ℕ). IsLogOf pool (insertAt p imageSize starts) l (setIn b starts)) (sym moved)
+    log-moved : IsLogOf pool next (oldOf begun) (setIn b starts)
+    log-moved = subst (λ (s : List ℕ). IsLogOf pool s (oldOf begun) (setIn b starts)) (sym inserted)
+        (subst (λ (l : List ℕ). IsLogOf pool (insertAt p imageSize starts) l (setIn b starts)) (sym (first .olds ∙ moved))
         (log-shifted b pool starts p imageSize (placesIn station) (setIn b starts) deltas-same (h .absent .inside) (record { log = h .judged .log; within = h .judged .inside })))
 
     set-is : setIn b starts ≡ stateIn b
     set-is = h .judged .table .set
 
-    pub updatable : Updatable b room pool next old (station .logged)
+    pub updatable : Updatable b room pool next begun
     updatable = record {
       size = h .size;
       steps-room = h .steps-room;
       holds = holds-next;
-      fits = let few : station .table .count < capacity = h .few in omega arith;
-      few = log-few;
+      right = first .right;
+      none = first .none;
+      few = omega (arith, first .size, log-few);
       old-state = setIn b starts;
       before = log-moved;
       smaller = stateIn b;
@@ -108,7 +110,7 @@ module _ (b : List ℕ) (m : Message) (room : ℕ) (before : List ℕ) (station 
           (used-grows (stateIn b) (own-valid b (h .judged .image) .ascends) m (λ x k e. absent-member b starts (sequenceOf m) p (h .absent) x (subst (λ (R : State). x ∈ R .deltas) (sym set-is) k) (sym e)));
     }
 
-    pub accepted-answer : (steps : List ℕ) (d : Delivered) → Updates steps pool next old (station .logged) d → d ≡ acceptedAnswer (stateIn b) (add m (stateIn b)) steps
+    pub accepted-answer : (steps : List ℕ) (d : Delivered) → Updates steps pool next begun d → d ≡ acceptedAnswer (stateIn b) (add m (stateIn b)) steps
     accepted-answer steps d u =
         u .answer (setIn b starts) (sym origins) log-moved
         ∙ ap₂ (λ (S R : State). acceptedAnswer S R steps) (h .judged .table .set) (set-next ∙ ap (add m) (h .judged .table .set))

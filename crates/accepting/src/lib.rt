@@ -1,20 +1,29 @@
 // A new message joins the station: its image becomes that of the larger set, and the steps lead to the new log.
 
 use buffer_writes::copy_at;
+use image::write_used;
 use judged::judging::Station;
+use key::KEYS;
 use layout::CAPACITY;
 use layout::IMAGE_SIZE;
-use ordering::order_table;
-use ordering::write_change;
-use ordering::write_table;
-use table::Table;
+use log::listing::order;
+use log_order::LogOrder;
+use needs::rows::ROWS;
+use prepared::prepare;
+use steps::write_steps;
 use table::shifting::shift_places;
 ghost use mathlib.Core.Path.{_≡_};
+ghost use mathlib.Core.List.{[]};
 ghost use lib.ListN.{length};
 ghost use Rattle.model.specs.Order.{add};
 ghost use Rattle.model.specs.Image.{stateIn};
 ghost use Rattle.model.specs.Calls.{acceptedAnswer};
-ghost use Rattle.accepting.specs.Accepting.{acceptedBy, Updatable, Updates, Acceptable};
+ghost use Rattle.table.specs.Table.{setIn, Holds};
+ghost use Rattle.image_sections.specs.LogPlaces.{ImageInput};
+ghost use Rattle.steps.specs.Room.{StepsFit};
+ghost use Rattle.log_order.specs.LogOrder.{placesOf, OrderRight};
+ghost use Rattle.log.specs.Ordered.{Ordered};
+ghost use Rattle.accepting.specs.Accepting.{acceptedBy, IsWritten, Updatable, Updates, Acceptable};
 
 // How many deltas of the old log are undone, and how many of the new one executed.
 pub struct Counts {
@@ -22,24 +31,59 @@ pub struct Counts {
     pub executions: usize,
 }
 
-// Writes the image of a table's set over that of a smaller one, and the steps to its log from the old one, whose places in the table
-// are given.
+// The log of a table's set beside the old one, from an order that has placed none.
+fn order_table(pool: &[u8], starts: &[u16], begun: LogOrder) -> LogOrder
+    requires { ⌜ Holds (now pool) (now starts) × OrderRight begun × (placesOf begun ≡ []) ⌝ }
+    ensures { λ r. ⌜ Ordered (setIn (now (pool .entry)) (now (starts .entry))) begun r ⌝ }
+{
+    let mut rows = [0u8; ROWS];
+    let mut counts = [0u8; CAPACITY];
+    let mut keys = [0u64; KEYS];
+    prepare(&mut rows, &mut counts, &mut keys, pool, starts);
+    order(pool, starts, &rows, &counts, &keys, begun)
+}
+
+// Writes the used bytes of the image of a table's set, whose log is the new one, and the steps to it from the old one.
+fn write_change(
+    image: &mut [u8],
+    steps: &mut [u8],
+    pool: &[u8],
+    starts: &[u16],
+    old: &[u8],
+    new: &[u8],
+    kept: usize,
+)
+    requires { ⌜ ImageInput (now image) (now pool) (now starts) (now new) × StepsFit (now pool) (now starts) (now old) (now new) kept (length (now steps)) ⌝ }
+    ensures { λ _. ⌜ IsWritten (now (pool .entry)) (now (starts .entry)) (now (old .entry)) (now (new .entry)) (now (image .entry)) (now (steps .entry)) (now (image .exit)) (now (steps .exit)) ⌝ }
+{
+    write_used(image, pool, starts, new);
+    write_steps(steps, pool, starts, old, new, kept);
+}
+
+// Writes the image of a table's set over that of a smaller one, and the steps to its log from the old one, beside which nothing is placed
+// yet.
 fn update(
     image: &mut [u8],
     steps: &mut [u8],
     pool: &[u8],
-    table: Table,
-    old: [u8; CAPACITY],
-    logged: usize,
+    starts: &[u16],
+    begun: LogOrder,
 ) -> Counts
-    requires { ⌜ Updatable (now image) (length (now steps)) (now pool) table old logged ⌝ }
-    ensures { λ r. ⌜ Updates (now (steps .entry)) (now (pool .entry)) table old logged (acceptedBy r (now (image .exit)) (now (steps .exit))) ⌝ }
+    requires { ⌜ Updatable (now image) (length (now steps)) (now pool) (now starts) begun ⌝ }
+    ensures { λ r. ⌜ Updates (now (steps .entry)) (now (pool .entry)) (now (starts .entry)) begun (acceptedBy r (now (image .exit)) (now (steps .exit))) ⌝ }
 {
-    let order = order_table(pool, table, old, logged);
+    let order = order_table(pool, starts, begun);
+    let old = order.old;
     let places = order.places;
-    let count = order.count;
-    write_table(image, pool, table, places, count);
-    write_change(steps, pool, table, order);
+    write_change(
+        image,
+        steps,
+        pool,
+        starts,
+        &old[..order.old_count],
+        &places[..order.count],
+        order.kept,
+    );
     Counts {
         undos: order.undos(),
         executions: order.executions(),
@@ -60,10 +104,10 @@ pub fn accept(
     ensures { λ r. ⌜ acceptedBy r (now (image .exit)) (now (steps .exit)) ≡ acceptedAnswer (stateIn (now (image .entry))) (add (now (message .entry)) (stateIn (now (image .entry)))) (now (steps .entry)) ⌝ }
 {
     copy_at(pool, IMAGE_SIZE, message, message.len());
-    let table = station.table;
-    let next = table.insert(p, IMAGE_SIZE as u16);
+    let next = station.table.insert(p, IMAGE_SIZE as u16);
+    let starts = next.starts;
     let places = station.places;
-    let logged = station.logged;
-    let old = shift_places(places, logged, p);
-    update(image, steps, pool, next, old, logged)
+    let old = shift_places(places, station.logged, p);
+    let begun = LogOrder::begin(old, station.logged);
+    update(image, steps, pool, &starts[..next.count], begun)
 }

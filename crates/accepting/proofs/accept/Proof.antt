@@ -1,7 +1,9 @@
 -- The message stands in the pool behind the image, its start in the table, and the old log at the shifted places: `update` does the rest.
-use mathlib.Core.Path.{_≡_}
+use mathlib.Core.Path.{_≡_, sym}
+use Prim.Native.Nat.{_≤_}
 use native.Mathlib.Omega.{arith}
 use lib.ListN.{length}
+use lib.Seq.{length-take-le}
 use Rattle.accepting.specs.AcceptedLaws.{message-fits, place-fits, places-within, updatable, accepted-answer}
 use Rattle.model.specs.Layout.{capacity}
 use borrow.Author.Needs.{needs}
@@ -22,6 +24,16 @@ start f = f .before .before .before .before .before .before
 abbrev filled : tie.After-shift-places → tie.After-copy-at
 filled c = c .before .before .before .before .before .before
 
+-- the message in the table, from where the order is begun
+abbrev inserted : tie.After-begin → tie.After-insert
+inserted c = c .before .before .before .before
+
+next-size : (c : tie.After-insert) → length (c .insert .result .starts) ≡ capacity
+next-size c = search needs
+
+next-inside : (c : tie.After-insert) → c .insert .result .count ≤ length (c .insert .result .starts)
+next-inside c = omega (arith, next-size c, c .insert .ensures .count, start (c .before .before .before) .pre .few)
+
 copy-at-requires : tie.Need-copy-at-requires
 copy-at-requires c κs =
     let s = c .before .before .before .before .before in
@@ -30,7 +42,7 @@ copy-at-requires c κs =
 
 insert-requires : tie.Need-insert-requires
 insert-requires c κs =
-    let s = start (c .before .before .before) in
+    let s = start (c .before .before) in
     let a = s .args in
     (s .pre .few, place-fits (a .image .now) (a .message .now) (length (a .steps .now)) (a .pool .now) (a .station) (a .p) (s .pre) (starts-size s) (places-size s))
 
@@ -40,22 +52,31 @@ shift-places-requires c κs =
     let a = s .args in
     (s .pre .judged .fits, places-within (a .image .now) (a .message .now) (length (a .steps .now)) (a .pool .now) (a .station) (a .p) (s .pre) (starts-size s) (places-size s))
 
+begin-requires : tie.Need-begin-requires
+begin-requires c κs = start (filled c) .pre .judged .fits
+
+array-share-prefix-starts : tie.Need-array-share-prefix-starts
+array-share-prefix-starts c = next-inside (inserted (c .before .before .before))
+
+slice-aggregate-update : tie.Need-slice-aggregate-update
+slice-aggregate-update c = sym (length-take-le _ _ (next-inside (inserted (c .before .before .before .before))))
+
 update-requires : tie.Need-update-requires
 update-requires c κs =
-    let shifted = c .before .before .before in
-    let inserted = shifted .before .before in
+    let begun = c .before .before .before .before in
+    let shifted = begun .before in
     let s = start (filled shifted) in
     let a = s .args in
-    updatable (a .image .now) (a .message .now) (length (a .steps .now)) (a .pool .now) (a .station) (a .p) (s .pre) (starts-size s) (places-size s) _ (filled shifted .copy-at .ensures) _ (inserted .insert .ensures .starts) (inserted .insert .ensures .count) _ (shifted .shift-places .ensures)
+    updatable (a .image .now) (a .message .now) (length (a .steps .now)) (a .pool .now) (a .station) (a .p) (s .pre) (starts-size s) (places-size s) _ (filled shifted .copy-at .ensures) _ (inserted begun .insert .ensures .starts) _ (shifted .shift-places .ensures) (begun .begin .result) (begun .begin .ensures)
 
 returns : tie.Need-returns
 returns c =
     let updated = c .before .before .before .before in
-    let shifted = updated .before .before .before .before in
-    let inserted = shifted .before .before in
+    let begun = updated .before .before .before .before .before in
+    let shifted = begun .before in
     let s = start (filled shifted) in
     let a = s .args in
-    accepted-answer (a .image .now) (a .message .now) (length (a .steps .now)) (a .pool .now) (a .station) (a .p) (s .pre) (starts-size s) (places-size s) _ (filled shifted .copy-at .ensures) _ (inserted .insert .ensures .starts) (inserted .insert .ensures .count) _ (shifted .shift-places .ensures) _ _ (updated .update .ensures)
+    accepted-answer (a .image .now) (a .message .now) (length (a .steps .now)) (a .pool .now) (a .station) (a .p) (s .pre) (starts-size s) (places-size s) _ (filled shifted .copy-at .ensures) _ (inserted begun .insert .ensures .starts) _ (shifted .shift-places .ensures) (begun .begin .result) (begun .begin .ensures) _ _ (updated .update .ensures)
 
 pub accept-spec : {M : Type 1} → statement M
 accept-spec =
@@ -65,6 +86,9 @@ accept-spec =
     (λ c. omega arith)
     insert-requires
     shift-places-requires
+    begin-requires
+    array-share-prefix-starts
+    slice-aggregate-update
     update-requires
     (λ c. search needs)
     (λ c. search needs)
