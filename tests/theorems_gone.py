@@ -16,9 +16,9 @@ from pathlib import Path
 
 ROOT = Path(__file__).resolve().parents[1]
 FILES = [
-    'claims/specs/Claims', 'claims/specs/OwnCalls', 'theorems/specs/Theorems', 'refusals/specs/Refusals', 'runs/specs/Runs',
-    'runs/specs/Composes', 'host_runs/specs/HostRuns', 'host_runs/specs/HostComposes', 'host_runs/specs/HostReads',
-    'round_trips/specs/Texts', 'log_reader/specs/Readings',
+    'claims/specs/Claims', 'claims/specs/OwnCalls', 'theorems/specs/Theorems', 'theorems_refusals/specs/Refusals',
+    'theorems_calls/specs/Runs', 'theorems_calls/specs/Composes', 'theorems_host/specs/HostRuns', 'theorems_host/specs/HostComposes',
+    'theorems_host/specs/HostReads', 'theorems_texts/specs/Texts', 'read_log/specs/Readings',
 ]
 LAW = re.compile(r'^( *)pub ([a-z][a-z-]*) : ')
 

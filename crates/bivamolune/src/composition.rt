@@ -1,7 +1,7 @@
 // Compose, for C.
+use bivamolune_packing::compositions::pack_composition;
 use compose::compose;
-use packing::compositions::pack_composition;
-ghost use Rattle.packing.specs.ComposeAnswers.{Composes};
+ghost use Rattle.bivamolune_packing.specs.ComposeAnswers.{Composes};
 
 // Composes a message, and answers code + 256 × length.
 #[no_mangle]

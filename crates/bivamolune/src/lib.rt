@@ -3,11 +3,11 @@ pub mod composition;
 pub mod reads;
 pub mod texts;
 
+use bivamolune_packing::deliveries::pack_delivery;
+use bivamolune_packing::deliveries::pack_emptying;
 use deliver::delivery::deliver;
-use emptying::empty;
-use packing::deliveries::pack_delivery;
-use packing::deliveries::pack_emptying;
-ghost use Rattle.packing.specs.Answers.{Empties, Delivers};
+use empty::empty;
+ghost use Rattle.bivamolune_packing.specs.Answers.{Empties, Delivers};
 
 // Writes the image of no deltas, and answers the code.
 #[no_mangle]

@@ -1,11 +1,11 @@
 // The calls that only read an image, for C. Each answers one number.
-use packing::reads::pack_part;
-use packing::reads::pack_value;
-use reading::answer::Located;
-use reading::answer::Reading;
-use reading::locating::locate;
-use reading::setpoint::setpoint;
-ghost use Rattle.packing.specs.ReadAnswers.{AnswersLogMessage, AnswersSetpoint};
+use bivamolune_packing::reads::pack_part;
+use bivamolune_packing::reads::pack_value;
+use read_calls::answer::Located;
+use read_calls::answer::Reading;
+use read_calls::locating::locate;
+use read_calls::setpoint::setpoint;
+ghost use Rattle.bivamolune_packing.specs.ReadAnswers.{AnswersLogMessage, AnswersSetpoint};
 
 // Where the log's message at a place lies: code + 256 × size + 2^32 × offset.
 #[no_mangle]

@@ -1,8 +1,8 @@
 // Sequences as text, for C. Each call answers code + 256 × length.
-use packing::texts::pack_conversion;
+use bivamolune_packing::texts::pack_conversion;
 use text_reading::read_sequences;
 use text_writing::write_sequences;
-ghost use Rattle.packing.specs.TextAnswers.{ReadsSequences, WritesSequences};
+ghost use Rattle.bivamolune_packing.specs.TextAnswers.{ReadsSequences, WritesSequences};
 
 // Reads the sequences of a text.
 #[no_mangle]

@@ -7,8 +7,8 @@ use lib.ListN.{length, take, drop, length-drop, take-append-drop}
 use lib.Seq.{paste, take-paste, drop-paste, drop-drop, take-add, take-append-add, take-all, take-length, take-take, length-take-le, take-append-le, drop-append-le, take-at, drop-at}
 use Rattle.model.specs.Bytes.{bytes}
 use Rattle.model.specs.Calls.{written}
-use Rattle.wire_laws.specs.BytesLaws.{length-bytes}
-use Rattle.buffer.specs.FieldLaws.{bytes-split}
+use Rattle.laws_wire.specs.BytesLaws.{length-bytes}
+use Rattle.buffer_reads.specs.FieldLaws.{bytes-split}
 
 -- the first n + k of two lists, of which the first has n
 take-both : (x y : List ℕ) (n k : ℕ) → length x ≡ n → take (n + k) (x ++ y) ≡ x ++ take k y

@@ -23,18 +23,18 @@ use Rattle.model.specs.Codes.{Conditions, lowestCode, emptyConditions, deliverC
 use Rattle.model.specs.Calls.{Emptied, empty, Delivered, deliver, Composed, compose, logMessageCode, logMessage, Setpoint, setpoint, start, Converted, convertedAnswer, front, readSequences, writeSequences}
 use Rattle.model_runs.specs.Run.{Given, Event, imageAfter, Run, stateAfter, logAfter, oldLog, accepts?, codeFor, acceptedIn, Played, recordsRead, PairsPlayed}
 use Rattle.model_runs.specs.RunOrder.{receivedIn}
-use Rattle.run_laws.specs.CalledRuns.{Began, Answered}
-use Rattle.compose_laws.specs.ComposeLaws.{messageBy}
-use Rattle.compose_laws.specs.ComposedFields.{NeededByNone}
+use Rattle.laws_run.specs.CalledRuns.{Began, Answered}
+use Rattle.laws_compose.specs.ComposeLaws.{messageBy}
+use Rattle.laws_compose.specs.ComposedFields.{NeededByNone}
 use Rattle.theorems.specs.Theorems.{CodeLaw, offset-law}
-use Rattle.refusals.specs.Refusals.{empty-codes, deliver-codes, compose-codes, log-message-codes, setpoint-codes, read-sequences-codes, write-sequences-codes}
-use Rattle.round_trips.specs.Texts.{ReadFrom, WrittenFrom, written-read, read-written}
-use Rattle.log_reader.specs.declared.reader.LogReader.{LogReader}
-use Rattle.log_reader.specs.Reader.{readerOf, Starts}
-use Rattle.log_reader.specs.Readings.{NextCalls, calls-read}
-use Rattle.host_runs.specs.HostRuns.{HostEmptied, host-emptied-as, HostDelivered, host-delivered-as, host-agreement, host-order-kept}
-use Rattle.host_runs.specs.HostComposes.{HostComposed, host-composed-as, host-composed-keeps}
-use Rattle.host_runs.specs.HostReads.{HostLogMessage, host-log-message-as, HostSetpoint, host-setpoint-as, HostRead, host-read-as, HostWritten, host-written-as}
+use Rattle.theorems_refusals.specs.Refusals.{empty-codes, deliver-codes, compose-codes, log-message-codes, setpoint-codes, read-sequences-codes, write-sequences-codes}
+use Rattle.theorems_texts.specs.Texts.{ReadFrom, WrittenFrom, written-read, read-written}
+use Rattle.read_log.specs.declared.reader.LogReader.{LogReader}
+use Rattle.read_log.specs.Reader.{readerOf, Starts}
+use Rattle.read_log.specs.Readings.{NextCalls, calls-read}
+use Rattle.theorems_host.specs.HostRuns.{HostEmptied, host-emptied-as, HostDelivered, host-delivered-as, host-agreement, host-order-kept}
+use Rattle.theorems_host.specs.HostComposes.{HostComposed, host-composed-as, host-composed-keeps}
+use Rattle.theorems_host.specs.HostReads.{HostLogMessage, host-log-message-as, HostSetpoint, host-setpoint-as, HostRead, host-read-as, HostWritten, host-written-as}
 
 -- ---- DEMAND 1: "No call may leave its result open": each answers what its definition does, code, counts, values and every byte. "The lowest number that
 -- applies to the call is answered, and never when its condition fails. A refusal writes nothing, and its counts and length are 0."

@@ -6,12 +6,12 @@ use Prim.Native.Nat.{ℕ}
 use Rattle.model.specs.Calls.{Composed}
 use Rattle.model_runs.specs.Run.{Agreement}
 use Rattle.model_runs.specs.RunOrder.{OrderKept}
-use Rattle.run_laws.specs.CalledRuns.{Began, Answered}
-use Rattle.compose_laws.specs.ComposePromise.{ComposePromise}
-use Rattle.runs.specs.Runs as runs
-use Rattle.runs.specs.Runs.{EmptiedFrom, DeliveredTo}
-use Rattle.runs.specs.Composes as composes
-use Rattle.runs.specs.Composes.{ComposedOn}
+use Rattle.laws_run.specs.CalledRuns.{Began, Answered}
+use Rattle.laws_compose.specs.ComposePromise.{ComposePromise}
+use Rattle.theorems_calls.specs.Runs as runs
+use Rattle.theorems_calls.specs.Runs.{EmptiedFrom, DeliveredTo}
+use Rattle.theorems_calls.specs.Composes as composes
+use Rattle.theorems_calls.specs.Composes.{ComposedOn}
 
 pub agreement : Agreement (Began EmptiedFrom) (Answered DeliveredTo)
 agreement = runs.agreement

@@ -11,8 +11,8 @@ use Rattle.model.specs.Image.{stateIn, isImage}
 use Rattle.model.specs.Compose.{composed}
 use Rattle.model.specs.Codes.{lowestCode, wrongSize, commandsSized, composeContent, composeConditions}
 use Rattle.model.specs.Calls.{Composed, composeAnswer, composeCode, compose}
-use Rattle.order.specs.TestLaws.{is-true}
-use Rattle.code_ladder.specs.Ladder.{Answers, Passed, met, free, fails, passes}
+use Rattle.laws_order.specs.TestLaws.{is-true}
+use Rattle.laws_codes.specs.Ladder.{Answers, Passed, met, free, fails, passes}
 use Rattle.compose_message.specs.Answer.{refusal}
 use Rattle.compose_checks.specs.Checks.{sizesRight}
 use Rattle.compose_message.specs.Stages.{lateConditions, lateAnswer}

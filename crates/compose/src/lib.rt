@@ -1,17 +1,17 @@
 // Compose: a station writes a new message.
-use commands::commands_sized;
 use compose_checks::check_content;
 use compose_checks::check_sizes;
 use compose_message::answer::Composition;
 use compose_message::compose_behind;
-use judged::judging::Station;
-use judged::judging::read_station;
-use message::checks::Check;
+use image_judged::judging::Station;
+use image_judged::judging::read_station;
+use message_commands::commands_sized;
+use message_header::checks::Check;
 ghost use mathlib.Core.Path.{_≡_};
 ghost use Rattle.model.specs.Bytes.{number};
 ghost use Rattle.model.specs.Image.{stateIn};
 ghost use Rattle.model.specs.Calls as model;
-ghost use Rattle.judged.specs.Judging.{IsStation};
+ghost use Rattle.image_judged.specs.Judging.{IsStation};
 ghost use Rattle.compose_message.specs.Answer.{composedBy};
 ghost use Rattle.compose_message.specs.Stages.{Composable, lateAnswer};
 

@@ -7,8 +7,8 @@ use lib.Dec.{T, eqb, leb, eqb→eq, nltb→le}
 use borrow.Author.Tests.{le-leb, lt-leb, eq-eqb, ne-eqb}
 use Rattle.model.specs.Layout.{imageSize, messageRoom, lineSize, fieldLimit}
 use Rattle.model.specs.Codes.{composeContent}
-use Rattle.order.specs.TestLaws.{and-l, and-r}
-use Rattle.commands.specs.CommandTests.{commandsRight}
+use Rattle.laws_order.specs.TestLaws.{and-l, and-r}
+use Rattle.message_commands.specs.CommandTests.{commandsRight}
 use Rattle.compose_checks.specs.Checks.{sizesRight, givenRight}
 
 -- ---- the sizes, as facts

@@ -1,13 +1,13 @@
 // The checks of compose's own arguments: the sizes (code 1), and flag, priority and commands (code 6).
-use commands::check_commands;
+use buffer_sizes::check_image_size;
+use buffer_sizes::check_line_size;
+use buffer_sizes::check_message_room;
 use layout::FIELD_LIMIT;
-use message::checks::Check;
-use sizes::check_image_size;
-use sizes::check_line_size;
-use sizes::check_message_room;
+use message_commands::check_commands;
+use message_header::checks::Check;
 ghost use mathlib.Core.Path.{_≡_};
 ghost use Rattle.model.specs.Codes.{composeContent};
-ghost use Rattle.message.specs.Check.{right};
+ghost use Rattle.message_header.specs.Check.{right};
 ghost use Rattle.compose_checks.specs.Checks.{sizesRight, givenRight};
 
 // Code 1: the sizes of the image, of the message buffer and of the line.

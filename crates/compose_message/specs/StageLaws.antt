@@ -13,18 +13,18 @@ use Rattle.model.specs.Order.{State}
 use Rattle.model.specs.Compose.{messageOf, newSequence, newBlock, newDependencies, composed}
 use Rattle.model.specs.Codes.{commandsSized, heldOn, pastLimit, manyDependencies}
 use Rattle.model.specs.Calls.{Composed, written, composeAnswer}
-use Rattle.order.specs.TestLaws.{and-l, and-r}
-use Rattle.sequence.specs.declared.Sequence.{Sequence}
-use Rattle.sequence.specs.Sequence.{sequenceNumber}
-use Rattle.message.specs.declared.header.Priority.{Priority}
-use Rattle.message.specs.declared.header.Priority.the-variants.{Absent, Given}
-use Rattle.table.specs.Table.{setIn}
-use Rattle.table.specs.Places.{sequenceIn}
-use Rattle.writing.specs.Writing.{messageWith, messageFor, namesAt, Writes}
-use Rattle.composing.specs.declared.drafting.Draft.{Draft}
-use Rattle.composing.specs.Drafting.{priorityBy, IsDraft}
-use Rattle.unneeded.specs.declared.Dependencies.{Dependencies}
-use Rattle.unneeded.specs.Unneeded.{placesFound, IsDependencies}
+use Rattle.laws_order.specs.TestLaws.{and-l, and-r}
+use Rattle.message_sequence.specs.declared.Sequence.{Sequence}
+use Rattle.message_sequence.specs.Sequence.{sequenceNumber}
+use Rattle.message_header.specs.declared.header.Priority.{Priority}
+use Rattle.message_header.specs.declared.header.Priority.the-variants.{Absent, Given}
+use Rattle.set_table.specs.Table.{setIn}
+use Rattle.set_table.specs.Places.{sequenceIn}
+use Rattle.compose_writing.specs.Writing.{messageWith, messageFor, namesAt, Writes}
+use Rattle.compose_draft.specs.declared.drafting.Draft.{Draft}
+use Rattle.compose_draft.specs.Drafting.{priorityBy, IsDraft}
+use Rattle.compose_dependencies.specs.declared.Dependencies.{Dependencies}
+use Rattle.compose_dependencies.specs.Unneeded.{placesFound, IsDependencies}
 use Rattle.compose_message.specs.declared.answer.Composition.the-variants as composition
 use Rattle.compose_message.specs.Answer.{refusal, composedBy}
 use Rattle.compose_message.specs.Stages.{lateAnswer, headerWith, namesOf, draftedMessage, draftedAnswer, draftAnswer}

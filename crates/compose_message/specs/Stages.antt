@@ -11,14 +11,14 @@ use Rattle.model.specs.Order.{State}
 use Rattle.model.specs.Compose.{newDependencies, composed}
 use Rattle.model.specs.Codes.{Conditions, lowestCode, commandsSized, heldOn, pastLimit, manyDependencies}
 use Rattle.model.specs.Calls.{Composed, written, composeAnswer}
-use Rattle.sequence.specs.Sequence.{sequenceNumber}
-use Rattle.message.specs.declared.header.Header.{Header}
-use Rattle.table.specs.Table.{Holds}
+use Rattle.message_sequence.specs.Sequence.{sequenceNumber}
+use Rattle.message_header.specs.declared.header.Header.{Header}
+use Rattle.set_table.specs.Table.{Holds}
 use Rattle.image_sections.specs.LogPlaces.{LogPlaces}
-use Rattle.writing.specs.Writing.{messageFor}
-use Rattle.composing.specs.declared.drafting.Draft.{Draft}
-use Rattle.unneeded.specs.declared.Dependencies.{Dependencies}
-use Rattle.unneeded.specs.Unneeded.{IsDependencies}
+use Rattle.compose_writing.specs.Writing.{messageFor}
+use Rattle.compose_draft.specs.declared.drafting.Draft.{Draft}
+use Rattle.compose_dependencies.specs.declared.Dependencies.{Dependencies}
+use Rattle.compose_dependencies.specs.Unneeded.{IsDependencies}
 use Rattle.compose_message.specs.Answer.{refusal}
 
 -- ---- codes 9 to 11, and the message

@@ -1,18 +1,18 @@
 // A draft becomes a message: its dependencies are found, and it is written.
 use crate::answer::Composition;
-use composing::drafting::Draft;
+use compose_dependencies::Dependencies;
+use compose_dependencies::find_dependencies;
+use compose_draft::drafting::Draft;
+use compose_writing::write_message;
 use layout::COMMAND_SIZE;
 use layout::MOST_DEPENDENCIES;
-use message::checks::Check;
-use message::header::Header;
-use unneeded::Dependencies;
-use unneeded::find_dependencies;
-use writing::write_message;
+use message_header::checks::Check;
+use message_header::header::Header;
 ghost use mathlib.Core.Path.{_≡_};
 ghost use lib.Dec.{leb};
 ghost use Rattle.model.specs.Layout.{mostDependencies};
-ghost use Rattle.message.specs.Check.{right};
-ghost use Rattle.table.specs.Table.{setIn};
+ghost use Rattle.message_header.specs.Check.{right};
+ghost use Rattle.set_table.specs.Table.{setIn};
 ghost use Rattle.compose_message.specs.Answer.{composedBy};
 ghost use Rattle.compose_message.specs.Stages.{draftAnswer, draftedAnswer, Draftable, Nameable};
 

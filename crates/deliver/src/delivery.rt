@@ -1,15 +1,15 @@
 // Deliver: a message arrives at a station. Each check's answer is opened by let else, which returns the refusal, in the order of the codes.
+use buffer_sizes::check_image_size;
+use buffer_sizes::check_step_room;
 use deliver_taking::answer::Delivery;
 use deliver_taking::take_in;
-use dependencies::check_dependencies;
-use dependencies::check_numbers;
-use judged::judging::read_and_copy;
+use image_judged::judging::read_and_copy;
 use layout::POOL_SIZE;
-use message::checks::Check;
-use message::checks::check_layout;
-use parse::content::check_content;
-use sizes::check_image_size;
-use sizes::check_step_room;
+use message_checks::content::check_content;
+use message_dependencies::check_dependencies;
+use message_dependencies::check_numbers;
+use message_header::checks::Check;
+use message_header::checks::check_layout;
 ghost use mathlib.Core.Path.{_≡_};
 ghost use Rattle.model.specs.Calls as model;
 ghost use Rattle.deliver_taking.specs.Answer.{deliveredBy};

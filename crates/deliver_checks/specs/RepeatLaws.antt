@@ -8,9 +8,9 @@ use Rattle.model.specs.Lists.{same}
 use Rattle.model.specs.Message.{Message, sequenceOf}
 use Rattle.model.specs.Order.{find}
 use Rattle.model.specs.Codes.{conflicts}
-use Rattle.table.specs.Table.{deltasOf, setIn, Holds}
-use Rattle.table.specs.Places.{IsPresent, IsAbsent}
-use Rattle.table.specs.FindLaws.{present-has, present-find, absent-has}
+use Rattle.set_table.specs.Table.{deltasOf, setIn, Holds}
+use Rattle.set_table.specs.Places.{IsPresent, IsAbsent}
+use Rattle.set_table.specs.FindLaws.{present-has, present-find, absent-has}
 
 module _ (pool starts : List ℕ) (m : Message) where
   pub present-conflicts : (i : ℕ) → IsPresent pool starts (sequenceOf m) i → Holds pool starts

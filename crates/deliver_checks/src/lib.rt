@@ -1,18 +1,18 @@
 // The checks of codes 7 and 8, of a message that passes 3 to 6 and that arrives at a station.
-use buffer::same;
+use buffer_reads::same;
 use layout::CAPACITY;
-use message::checks::Check;
-use table::entry::message_at;
-use table::places::Place;
+use message_header::checks::Check;
+use set_table::entry::message_at;
+use set_table::places::Place;
 ghost use mathlib.Core.Path.{_≡_};
 ghost use mathlib.Core.Bool.{not};
 ghost use lib.Dec.{ltb};
 ghost use Rattle.model.specs.Layout.{capacity};
 ghost use Rattle.model.specs.Message.{sequenceOf};
 ghost use Rattle.model.specs.Codes.{conflicts};
-ghost use Rattle.message.specs.Check.{right};
-ghost use Rattle.table.specs.Table.{setIn, Holds};
-ghost use Rattle.table.specs.Places.{Finds};
+ghost use Rattle.message_header.specs.Check.{right};
+ghost use Rattle.set_table.specs.Table.{setIn, Holds};
+ghost use Rattle.set_table.specs.Places.{Finds};
 
 // Code 7: what is present under the message's sequence has its bytes. The place is where that sequence was looked for.
 pub fn check_repeat(pool: &[u8], starts: &[u16], place: Place, message: &[u8]) -> Check

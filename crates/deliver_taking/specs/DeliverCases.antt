@@ -13,12 +13,12 @@ use Rattle.model.specs.Image.{imageOf, stateIn, isImage}
 use Rattle.model.specs.Codes.{present, deliverConditions}
 use Rattle.model.specs.Steps.{StepRecord, undosOf, recordsBytes}
 use Rattle.model.specs.Calls.{written, acceptedAnswer, deliverAnswer, deliverCode, deliver}
-use Rattle.order.specs.TestLaws.{true-T, has→∈}
-use Rattle.order.specs.StepLaws.{common-self}
-use Rattle.wire_laws.specs.RecordLaws.{records-self}
-use Rattle.laws.specs.ImageLaws.{image-own, own-valid}
-use Rattle.laws.specs.SetLaws.{insert-present}
-use Rattle.code_ladder.specs.Ladder.{Answers}
+use Rattle.laws_order.specs.TestLaws.{true-T, has→∈}
+use Rattle.laws_order.specs.StepLaws.{common-self}
+use Rattle.laws_wire.specs.RecordLaws.{records-self}
+use Rattle.laws_state.specs.ImageLaws.{image-own, own-valid}
+use Rattle.laws_state.specs.SetLaws.{insert-present}
+use Rattle.laws_codes.specs.Ladder.{Answers}
 
 module _ (b : List ℕ) (m : Message) (steps : List ℕ) where
   abbrev S : State

@@ -15,11 +15,11 @@ use Rattle.model.specs.Order.{State, find, add}
 use Rattle.model.specs.Image.{stateIn}
 use Rattle.model.specs.Codes.{present, conflicts, full}
 use Rattle.model.specs.Calls.{acceptedAnswer, deliver}
-use Rattle.table.specs.Table.{startsOf, messageFrom, setIn}
-use Rattle.table.specs.Places.{IsPresent, IsAbsent}
-use Rattle.table.specs.FindLaws.{present-has, absent-has}
-use Rattle.listed.specs.declared.Station.{Station}
-use Rattle.code_ladder.specs.Ladder.{none, free, met}
+use Rattle.set_table.specs.Table.{startsOf, messageFrom, setIn}
+use Rattle.set_table.specs.Places.{IsPresent, IsAbsent}
+use Rattle.set_table.specs.FindLaws.{present-has, absent-has}
+use Rattle.image_listed.specs.declared.Station.{Station}
+use Rattle.laws_codes.specs.Ladder.{none, free, met}
 use Rattle.deliver_taking.specs.declared.answer.Delivery.the-variants as delivery
 use Rattle.deliver_taking.specs.Answer.{deliveredBy}
 use Rattle.deliver_taking.specs.Taking.{Takeable}

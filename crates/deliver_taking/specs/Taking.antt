@@ -7,9 +7,9 @@ use lib.Dec.{T}
 use Rattle.model.specs.Layout.{imageSize, messageRoom, stepRoom}
 use Rattle.model.specs.Message.{Message, passes}
 use Rattle.model.specs.Codes.{deliverConditions}
-use Rattle.code_ladder.specs.Ladder.{Passed}
-use Rattle.listed.specs.declared.Station.{Station}
-use Rattle.judged.specs.Judging.{IsStation}
+use Rattle.laws_codes.specs.Ladder.{Passed}
+use Rattle.image_listed.specs.declared.Station.{Station}
+use Rattle.image_judged.specs.Judging.{IsStation}
 
 pub record Takeable (b : List ℕ) (m : Message) (room : ℕ) (pool : List ℕ) (station : Station) : Type 0 where
   pub size : length b ≡ imageSize

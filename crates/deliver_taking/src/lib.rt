@@ -2,15 +2,15 @@
 pub mod answer;
 
 use crate::answer::Delivery;
-use accepting::accept;
+use deliver_accepting::accept;
 use deliver_checks::check_repeat;
 use deliver_checks::check_room;
-use judged::judging::Station;
+use image_judged::judging::Station;
 use layout::SEQUENCE_AT;
-use message::checks::Check;
-use sequence::read_sequence;
-use table::places::Place;
-use table::places::find;
+use message_header::checks::Check;
+use message_sequence::read_sequence;
+use set_table::places::Place;
+use set_table::places::find;
 ghost use mathlib.Core.Path.{_≡_};
 ghost use lib.ListN.{length};
 ghost use Rattle.model.specs.Calls as model;

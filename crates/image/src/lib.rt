@@ -6,14 +6,14 @@ use image_sections::held::held_places;
 use image_sections::messages::put_messages;
 use image_sections::running::run_log;
 use layout::SETPOINTS_START;
+use set_table::start::messages_start;
 use setpoints_values::put_values;
-use table::start::messages_start;
 ghost use mathlib.Core.Path.{_≡_};
 ghost use lib.ListN.{length};
 ghost use Rattle.model.specs.Layout.{imageSize};
 ghost use Rattle.model.specs.Image.{imageOf};
 ghost use Rattle.model.specs.Calls.{emptyState};
-ghost use Rattle.table.specs.Table.{setIn};
+ghost use Rattle.set_table.specs.Table.{setIn};
 ghost use Rattle.image_sections.specs.LogPlaces.{ImageInput};
 ghost use Rattle.image_header.specs.Pieces.{UsedWritten};
 

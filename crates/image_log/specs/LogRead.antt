@@ -6,9 +6,9 @@ use lib.ListN.{length, take}
 use Rattle.model.specs.Lists.{_∈_}
 use Rattle.model.specs.Layout.{imageSize, capacity}
 use Rattle.model.specs.Image.{logCount, logIn, messagesIn}
-use Rattle.order.specs.TestLaws.{Same}
-use Rattle.table.specs.Table.{deltasOf, deltasAt, Holds}
-use Rattle.walk.specs.Walk.{LogOffsets}
+use Rattle.laws_order.specs.TestLaws.{Same}
+use Rattle.set_table.specs.Table.{deltasOf, deltasAt, Holds}
+use Rattle.image_walk.specs.Walk.{LogOffsets}
 
 -- The messages of an image are in the table, and its log's start at the offsets.
 pub record Readable (b starts offsets : List ℕ) : Type 0 where

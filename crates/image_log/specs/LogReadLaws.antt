@@ -12,14 +12,14 @@ use Rattle.model.specs.Lists.{_∈_}
 use Rattle.model.specs.Layout.{capacity}
 use Rattle.model.specs.Message.{Message, sequenceOf, passes}
 use Rattle.model.specs.Image.{logCount, logIn, messagesIn}
-use Rattle.order.specs.ListLaws.{getD-∈, take-next}
-use Rattle.laws.specs.SetLaws.{ascending-names}
-use Rattle.laws.specs.OffsetLaws.{count-messages, log-count, log-message}
-use Rattle.table.specs.Table.{messageFrom, deltasOf, deltasAt}
-use Rattle.table.specs.TableLaws.{deltas-length}
-use Rattle.table.specs.Places.{IsPresent, IsAbsent}
-use Rattle.table.specs.FindLaws.{absent-member}
-use Rattle.walk.specs.WalkLaws.{walked-message}
+use Rattle.laws_order.specs.ListLaws.{getD-∈, take-next}
+use Rattle.laws_state.specs.SetLaws.{ascending-names}
+use Rattle.laws_state.specs.OffsetLaws.{count-messages, log-count, log-message}
+use Rattle.set_table.specs.Table.{messageFrom, deltasOf, deltasAt}
+use Rattle.set_table.specs.TableLaws.{deltas-length}
+use Rattle.set_table.specs.Places.{IsPresent, IsAbsent}
+use Rattle.set_table.specs.FindLaws.{absent-member}
+use Rattle.image_walk.specs.WalkLaws.{walked-message}
 use Rattle.image_log.specs.LogRead.{Readable, ReadsLog, LogReading}
 
 module _ (b starts offsets : List ℕ) (r : Readable b starts offsets) where

@@ -1,9 +1,9 @@
 // The log of an image as places of its table.
 use layout::CAPACITY;
 use layout::SEQUENCE_AT;
-use sequence::read_sequence;
-use table::places::Place;
-use table::places::find;
+use message_sequence::read_sequence;
+use set_table::places::Place;
+use set_table::places::find;
 ghost use lib.ListN.{length};
 ghost use Rattle.image_log.specs.LogRead.{Readable, ReadsLog};
 

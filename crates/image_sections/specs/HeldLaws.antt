@@ -11,11 +11,11 @@ use lib.Seq.{take-suc, take-length}
 use Rattle.model.specs.Lists.{_∈_, has, keep}
 use Rattle.model.specs.Message.{Message, sequenceOf}
 use Rattle.model.specs.Order.{sequencesOf, logOf, heldOf}
-use Rattle.order.specs.ListLaws.{keep-snoc}
-use Rattle.order.specs.TestLaws.{keep-∈, keep-length, same-eqb}
-use Rattle.laws.specs.LogLaws.{held-by-log}
-use Rattle.table.specs.Table.{messageFrom, deltasOf, deltasAt, setIn}
-use Rattle.table.specs.PlaceLaws.{one-place}
+use Rattle.laws_order.specs.ListLaws.{keep-snoc}
+use Rattle.laws_order.specs.TestLaws.{keep-∈, keep-length, same-eqb}
+use Rattle.laws_state.specs.LogLaws.{held-by-log}
+use Rattle.set_table.specs.Table.{messageFrom, deltasOf, deltasAt, setIn}
+use Rattle.set_table.specs.PlaceLaws.{one-place}
 use Rattle.image_sections.specs.LogPlaces.{below, othersBelow, TablePlaces, LogPlaces}
 use Rattle.image_sections.specs.LogPlaceLaws.{log-inside}
 

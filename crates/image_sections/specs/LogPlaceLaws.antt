@@ -13,12 +13,12 @@ use Rattle.model.specs.Layout.{headerSize, capacity}
 use Rattle.model.specs.Message.{Message, passes}
 use Rattle.model.specs.Order.{logOf}
 use Rattle.model.specs.Setpoints.{startValues, runLog, setpointsOf}
-use Rattle.order.specs.ListLaws.{getD-∈, getD-map}
-use Rattle.laws.specs.LogLaws.{log-received, log-length}
-use Rattle.wire_laws.specs.MessageLaws.{passes-sized, sized-range}
-use Rattle.table.specs.Table.{deltasOf, deltasAt, setIn, Holds}
-use Rattle.table.specs.TableLaws.{deltas-length}
-use Rattle.table.specs.PlaceLaws.{entry-passes}
+use Rattle.laws_order.specs.ListLaws.{getD-∈, getD-map}
+use Rattle.laws_state.specs.LogLaws.{log-received, log-length}
+use Rattle.laws_wire.specs.MessageLaws.{passes-sized, sized-range}
+use Rattle.set_table.specs.Table.{deltasOf, deltasAt, setIn, Holds}
+use Rattle.set_table.specs.TableLaws.{deltas-length}
+use Rattle.set_table.specs.PlaceLaws.{entry-passes}
 use Rattle.image_sections.specs.LogPlaces.{TablePlaces, LogPlaces}
 
 -- ---- the places of the log are inside, since no message of the log is empty

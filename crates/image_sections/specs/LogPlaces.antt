@@ -7,7 +7,7 @@ use lib.ListN.{length, take}
 use Rattle.model.specs.Lists.{_∈_, has, keep}
 use Rattle.model.specs.Layout.{imageSize}
 use Rattle.model.specs.Order.{logOf}
-use Rattle.table.specs.Table.{deltasOf, deltasAt, setIn, Holds}
+use Rattle.set_table.specs.Table.{deltasOf, deltasAt, setIn, Holds}
 use Rattle.image_sections.specs.declared.held.Held.{Held}
 
 -- The numbers below n, ascending.

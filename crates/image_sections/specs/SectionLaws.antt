@@ -12,9 +12,9 @@ use Rattle.model.specs.Message.{Message}
 use Rattle.model.specs.Order.{State, logOf, heldOf}
 use Rattle.model.specs.Setpoints.{setpointsOf}
 use Rattle.model.specs.Image.{messagesStart, messagesOf, valuesOf, headerOf, usedOf, imageOf, Valid}
-use Rattle.laws.specs.ImageLaws.{frontOf, front-is, length-header, length-values, messages-start, used-front, used-length, messages-room}
+use Rattle.laws_state.specs.ImageLaws.{frontOf, front-is, length-header, length-values, messages-start, used-front, used-length, messages-room}
 use Rattle.setpoints_values.specs.Words.{wordsOf}
-use Rattle.table.specs.Table.{deltasOf, deltasAt, setIn}
+use Rattle.set_table.specs.Table.{deltasOf, deltasAt, setIn}
 use Rattle.image_sections.specs.LogPlaces.{AllPlaces}
 use Rattle.image_sections.specs.HeldLaws.{others-held}
 use Rattle.image_header.specs.Pieces.{pasted, headerBytes, Copied, UsedWritten}

@@ -1,11 +1,11 @@
 // Messages of the pool, copied one behind the other.
 use buffer_writes::copy_at;
-use table::entry::message_at;
+use set_table::entry::message_at;
 ghost use Prim.Native.Nat.{_+_, _≤_};
 ghost use lib.ListN.{length};
 ghost use Rattle.model.specs.Bytes.{join};
 ghost use Rattle.model.specs.Image.{messagesOf};
-ghost use Rattle.table.specs.Table.{deltasOf, deltasAt, setIn};
+ghost use Rattle.set_table.specs.Table.{deltasOf, deltasAt, setIn};
 ghost use Rattle.image_sections.specs.LogPlaces.{TablePlaces, AllPlaces};
 ghost use Rattle.image_header.specs.Pieces.{Copied};
 

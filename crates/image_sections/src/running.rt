@@ -8,7 +8,7 @@ ghost use mathlib.Core.Path.{_≡_};
 ghost use lib.Dec.{T};
 ghost use Rattle.model.specs.Message.{passes};
 ghost use Rattle.model.specs.Setpoints.{startValues, runDelta, runLog};
-ghost use Rattle.table.specs.Table.{deltasOf, deltasAt, setIn};
+ghost use Rattle.set_table.specs.Table.{deltasOf, deltasAt, setIn};
 ghost use Rattle.image_sections.specs.LogPlaces.{TablePlaces};
 
 // Runs a delta. The changes that its commands make are not asked for.

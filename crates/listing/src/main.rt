@@ -4,9 +4,9 @@ use libc::STDOUT_FILENO;
 use listing_whole::limits::INPUT_LIMIT;
 use listing_whole::limits::LISTING_ROOM;
 use listing_whole::walking::list;
-use standard_input::answer::Input;
-use standard_input::drop_rest;
-use standard_input::read_input;
+use program_input::answer::Input;
+use program_input::drop_rest;
+use program_input::read_input;
 
 // Writes the listing of an input to standard output.
 fn print_listing(input: &[u8]) {

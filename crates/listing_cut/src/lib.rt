@@ -4,7 +4,7 @@ pub mod limits;
 use crate::limits::LENGTH_SIZE;
 use crate::limits::LONGEST_CUT;
 use crate::limits::SHORTEST_CUT;
-use buffer::get_u16;
+use buffer_reads::get_u16;
 use layout::LENGTH_AT;
 ghost use Rattle.listing_cut.specs.Cut.{IsCut};
 

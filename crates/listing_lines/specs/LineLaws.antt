@@ -6,8 +6,8 @@ use native.Mathlib.Omega.{arith}
 use lib.ListN.{length}
 use Rattle.model.specs.Image.{logCount, heldCount}
 use Rattle.model.specs.Program.{printedLine, lastLine}
-use Rattle.decimal.specs.Puts.{digitsRoom, numeral, Puts}
-use Rattle.decimal.specs.PutsLaws.{puts-puts}
+use Rattle.program_decimal.specs.Puts.{digitsRoom, numeral, Puts}
+use Rattle.program_decimal.specs.PutsLaws.{puts-puts}
 use Rattle.listing_lines.specs.Rooms.{lineRoom, lastRoom}
 
 -- the bytes of " ", of "log ", of " held " and of the end of a line

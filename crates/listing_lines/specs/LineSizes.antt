@@ -6,8 +6,8 @@ use native.Mathlib.Omega.{arith}
 use lib.ListN.{length, length-append}
 use Rattle.model.specs.Image.{logCount, heldCount}
 use Rattle.model.specs.Program.{printedLine, lastLine}
-use Rattle.decimal.specs.Puts.{numeral}
-use Rattle.decimal.specs.DigitLaws.{numeral-few}
+use Rattle.program_decimal.specs.Puts.{numeral}
+use Rattle.program_decimal.specs.DigitLaws.{numeral-few}
 use Rattle.listing_lines.specs.Rooms.{lineRoom, lastRoom}
 
 line-is : (number code undos executions : ℕ)

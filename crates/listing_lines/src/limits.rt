@@ -1,5 +1,5 @@
 // The most bytes of a line and of the last line.
-use decimal::limits::DIGITS;
+use program_decimal::limits::DIGITS;
 
 // the line of a message: four numbers, each with the byte behind it
 pub const LINE_ROOM: usize = 4 * (DIGITS + 1);

@@ -1,17 +1,17 @@
 // The lines: one for each message, and the last.
-use buffer::get_u16;
-use decimal::digits::put_after;
-use decimal::digits::put_decimal;
-use decimal::text::put_text;
+use buffer_reads::get_u16;
 use layout::HELD_COUNT_AT;
 use layout::LOG_COUNT_AT;
+use program_decimal::digits::put_after;
+use program_decimal::digits::put_decimal;
+use program_decimal::text::put_text;
 ghost use mathlib.Core.Path.{_≡_};
 ghost use mathlib.Core.List.{_++_};
 ghost use Prim.Native.Nat.{_+_, _≤_};
 ghost use lib.ListN.{length};
 ghost use Rattle.model.specs.Layout.{imageSize};
 ghost use Rattle.model.specs.Program.{printedLine, lastLine};
-ghost use Rattle.decimal.specs.Puts.{Puts};
+ghost use Rattle.program_decimal.specs.Puts.{Puts};
 ghost use Rattle.listing_lines.specs.Rooms.{lineRoom, lastRoom};
 
 // Writes the line of a message from a place on, and answers the place behind it.

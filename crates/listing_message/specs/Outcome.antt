@@ -4,7 +4,7 @@ use mathlib.Core.List.{List}
 use Prim.Native.Nat.{ℕ}
 use Rattle.model.specs.Calls.{Delivered, deliver}
 use Rattle.model.specs.Program.{printedLine, stepBuffer}
-use Rattle.decimal.specs.Puts.{Puts}
+use Rattle.program_decimal.specs.Puts.{Puts}
 use Rattle.listing_lines.specs.Rooms.{lineRoom}
 use Rattle.deliver_taking.specs.declared.answer.Delivery.{Delivery}
 use Rattle.deliver_taking.specs.Answer.{codeBy, countsBy}

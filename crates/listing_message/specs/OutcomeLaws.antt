@@ -6,8 +6,8 @@ use Rattle.model.specs.Calls.{Delivered, deliver}
 use Rattle.model.specs.Program.{printedLine, stepBuffer}
 use Rattle.deliver_taking.specs.declared.answer.Delivery.{Delivery}
 use Rattle.deliver_taking.specs.Answer.{deliveredBy}
-use Rattle.decimal.specs.Puts.{Puts}
-use Rattle.decimal.specs.PutsLaws.{puts-as}
+use Rattle.program_decimal.specs.Puts.{Puts}
+use Rattle.program_decimal.specs.PutsLaws.{puts-as}
 use Rattle.listing_lines.specs.Rooms.{lineRoom}
 use Rattle.listing_lines.specs.LineSizes.{line-few}
 use Rattle.listing_message.specs.declared.delivering.Outcome.{Outcome}

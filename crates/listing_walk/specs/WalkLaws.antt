@@ -8,8 +8,8 @@ use lib.ListN.{length, take, drop, length-drop, drop-of-length-le}
 use lib.Seq.{drop-drop, take-all}
 use Rattle.model.specs.Layout.{imageSize}
 use Rattle.model.specs.Program.{printedLine, lastLine, badCut}
-use Rattle.decimal.specs.Puts.{Puts}
-use Rattle.decimal.specs.Ahead.{Ahead, ahead-all, ahead-next, ahead-done}
+use Rattle.program_decimal.specs.Puts.{Puts}
+use Rattle.program_decimal.specs.Ahead.{Ahead, ahead-all, ahead-next, ahead-done}
 use Rattle.listing_lines.specs.Rooms.{lineRoom, lastRoom}
 use Rattle.listing_cut.specs.Cut.{RightCut}
 use Rattle.listing_message.specs.Outcome.{answered, answerLine, Listed}

@@ -4,7 +4,7 @@ use mathlib.Core.List.{List}
 use Prim.Native.Nat.{ℕ, _+_, _-_, _≤_}
 use lib.ListN.{length, drop}
 use Rattle.model.specs.Layout.{imageSize}
-use Rattle.decimal.specs.Ahead.{Ahead}
+use Rattle.program_decimal.specs.Ahead.{Ahead}
 use Rattle.listing_walk.specs.Lines.{lines, roomFor}
 
 -- The messages before `from` are delivered and their lines stand before `at`: with the lines of the rest, that is all.

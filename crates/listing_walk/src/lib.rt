@@ -8,7 +8,7 @@ ghost use mathlib.Core.Path.{_≡_};
 ghost use Prim.Native.Nat.{_≤_};
 ghost use lib.ListN.{length};
 ghost use Rattle.model.specs.Layout.{imageSize};
-ghost use Rattle.decimal.specs.Puts.{Puts};
+ghost use Rattle.program_decimal.specs.Puts.{Puts};
 ghost use Rattle.listing_walk.specs.Lines.{lines, roomFor};
 
 // Writes the lines of all messages of an input, delivered to an image, and the last line.

@@ -8,10 +8,10 @@ use borrow.Author.Tests.{eq-eqb}
 use Rattle.model.specs.Layout.{imageSize}
 use Rattle.model.specs.Image.{imageOf}
 use Rattle.model.specs.Calls.{Emptied, emptyState, empty}
-use Rattle.emptying.specs.declared.Emptying.{Emptying}
-use Rattle.emptying.specs.declared.Emptying.the-variants as emptying
-use Rattle.emptying.specs.EmptyAnswer.{emptiedBy}
-use Rattle.emptying.specs.EmptyCases.{empty-done}
+use Rattle.empty.specs.declared.Emptying.{Emptying}
+use Rattle.empty.specs.declared.Emptying.the-variants as emptying
+use Rattle.empty.specs.EmptyAnswer.{emptiedBy}
+use Rattle.empty.specs.EmptyCases.{empty-done}
 
 module _ (entry exit : List ℕ) (r : Emptying) (size : length entry ≡ imageSize) (e : emptiedBy r exit ≡ empty entry) where
   answer-is : {k : Emptying} → r ≡ k → emptiedBy k exit ≡ record { code = 0; image = imageOf emptyState }

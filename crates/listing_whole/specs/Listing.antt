@@ -7,8 +7,8 @@ use Rattle.model.specs.Layout.{inputLimit}
 use Rattle.model.specs.Image.{imageOf}
 use Rattle.model.specs.Calls.{emptyState}
 use Rattle.model.specs.Program.{listing}
-use Rattle.decimal.specs.Puts.{Puts}
-use Rattle.decimal.specs.Front.{Prints, puts-prints}
+use Rattle.program_decimal.specs.Puts.{Puts}
+use Rattle.program_decimal.specs.Front.{Prints, puts-prints}
 use Rattle.listing_walk.specs.Lines.{lines}
 
 -- the lines of what is read of an input, from no deltas on, are its listing

@@ -1,15 +1,15 @@
 // The whole listing: what is read of the input, delivered to an image of no deltas.
 use crate::limits::INPUT_LIMIT;
 use crate::limits::LISTING_ROOM;
-use emptying::Emptying;
-use emptying::empty;
+use empty::Emptying;
+use empty::empty;
 use layout::IMAGE_SIZE;
 use listing_walk::list_messages;
 ghost use mathlib.Core.Path.{_≡_};
 ghost use lib.ListN.{take};
 ghost use Rattle.model.specs.Layout.{inputLimit};
 ghost use Rattle.model.specs.Program.{listing};
-ghost use Rattle.decimal.specs.Front.{Prints};
+ghost use Rattle.program_decimal.specs.Front.{Prints};
 
 // The part of an input that is read: any bytes beyond the limit are dropped.
 fn read_part(input: &[u8]) -> &[u8]

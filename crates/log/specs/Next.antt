@@ -9,8 +9,8 @@ use Rattle.model.specs.Lists.{keep}
 use Rattle.model.specs.Message.{Message}
 use Rattle.model.specs.Listing as L
 use Rattle.model.specs.Order.{State, placedBy, ready, keyOf, less}
-use Rattle.needs.specs.Rows.{RowFits}
-use Rattle.ready.specs.Ready.{marksSize, isPlaced, readyIn, Placing}
+use Rattle.set_needs.specs.Rows.{RowFits}
+use Rattle.set_readiness.specs.Ready.{marksSize, isPlaced, readyIn, Placing}
 use Rattle.log.specs.declared.next.Next.{Next}
 use Rattle.log.specs.declared.next.Next.the-variants.{At, Nothing}
 

@@ -13,19 +13,19 @@ use Rattle.model.specs.Lists.{_∈_, keep}
 use Rattle.model.specs.Message.{Message, sequenceOf}
 use Rattle.model.specs.Listing as L
 use Rattle.model.specs.Order.{State, RightSet, Executable, needs, placedBy, ready, keyOf, less}
-use Rattle.order.specs.ListLaws.{getD-∈, ∈-getD}
-use Rattle.order.specs.TestLaws.{decide, is-true, not-eqb}
-use Rattle.order.specs.KeyOrder.{less-total}
-use Rattle.order.specs.ListingLaws.{ready-executable, Stuck, Next?, next-is, not-self}
-use Rattle.laws.specs.LogLaws.{keys-differ}
-use Rattle.key.specs.Key.{keyIn}
-use Rattle.needs.specs.Rows.{RowsRight}
-use Rattle.ready.specs.Ready.{isPlaced, readyIn, Placing}
-use Rattle.ready.specs.ReadyLaws.{ready-is, ready-marked}
-use Rattle.prepared.specs.Keys.{KeysRight}
+use Rattle.laws_order.specs.ListLaws.{getD-∈, ∈-getD}
+use Rattle.laws_order.specs.TestLaws.{decide, is-true, not-eqb}
+use Rattle.laws_order.specs.KeyOrder.{less-total}
+use Rattle.laws_order.specs.ListingLaws.{ready-executable, Stuck, Next?, next-is, not-self}
+use Rattle.laws_state.specs.LogLaws.{keys-differ}
+use Rattle.log_key.specs.Key.{keyIn}
+use Rattle.set_needs.specs.Rows.{RowsRight}
+use Rattle.set_readiness.specs.Ready.{isPlaced, readyIn, Placing}
+use Rattle.set_readiness.specs.ReadyLaws.{ready-is, ready-marked}
+use Rattle.log_prepared.specs.Keys.{KeysRight}
 use Rattle.log.specs.declared.next.Next.{Next}
 use Rattle.log.specs.declared.next.Next.the-variants.{At, Nothing}
-use Rattle.sorting.specs.Sorted.{Sorted}
+use Rattle.log_sorting.specs.Sorted.{Sorted}
 use Rattle.log.specs.Next.{Skips, FirstReady, Picks, NextRight}
 
 -- what holds of all from a place on below k, and of k, holds below k + 1

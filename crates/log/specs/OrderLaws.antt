@@ -9,13 +9,13 @@ use lib.Seq.{length-take-le}
 use Rattle.model.specs.Layout.{capacity}
 use Rattle.model.specs.Message.{Message, sequenceOf}
 use Rattle.model.specs.Order.{State, RightSet, needs, placedBy, keyOf, less, logFrom, logOf}
-use Rattle.order.specs.KeyOrder.{less-total}
-use Rattle.order.specs.ListingLaws.{Next?, next-is}
-use Rattle.order.specs.Greedy.{Greedy, greedy-snoc, greedy-begins, greedy-first}
-use Rattle.laws.specs.LogLaws.{keys-differ}
-use Rattle.table.specs.Table.{deltasAt}
-use Rattle.ready.specs.Ready.{marksSize, Placing}
-use Rattle.closure.specs.ClosingLaws.{placing-none, placing-more}
+use Rattle.laws_order.specs.KeyOrder.{less-total}
+use Rattle.laws_order.specs.ListingLaws.{Next?, next-is}
+use Rattle.laws_order.specs.Greedy.{Greedy, greedy-snoc, greedy-begins, greedy-first}
+use Rattle.laws_state.specs.LogLaws.{keys-differ}
+use Rattle.set_table.specs.Table.{deltasAt}
+use Rattle.set_readiness.specs.Ready.{marksSize, Placing}
+use Rattle.set_closure.specs.ClosingLaws.{placing-none, placing-more}
 use Rattle.log_order.specs.declared.LogOrder.{LogOrder}
 use Rattle.log_order.specs.LogOrder.{placesOf, OrderRight, Placed}
 use Rattle.log.specs.declared.next.Next.{Next}

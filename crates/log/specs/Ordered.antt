@@ -6,10 +6,10 @@ use lib.ListN.{length}
 use Rattle.model.specs.Lists.{_∈_}
 use Rattle.model.specs.Message.{sequenceOf}
 use Rattle.model.specs.Order.{State, needs, keyOf, less, logOf}
-use Rattle.order.specs.KeyOrder.{less-total}
-use Rattle.order.specs.Greedy.{Greedy}
-use Rattle.table.specs.Table.{deltasAt}
-use Rattle.ready.specs.Ready.{Placing}
+use Rattle.laws_order.specs.KeyOrder.{less-total}
+use Rattle.laws_order.specs.Greedy.{Greedy}
+use Rattle.set_table.specs.Table.{deltasAt}
+use Rattle.set_readiness.specs.Ready.{Placing}
 use Rattle.log_order.specs.declared.LogOrder.{LogOrder}
 use Rattle.log_order.specs.LogOrder.{oldOf, placesOf, OrderRight}
 

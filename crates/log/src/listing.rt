@@ -3,13 +3,13 @@ use crate::next::Next;
 use crate::next::first_ready;
 use crate::next::skip_placed;
 use log_order::LogOrder;
-use ready::MARKS;
-use sorting::sort_by_key;
+use log_sorting::sort_by_key;
+use set_readiness::MARKS;
 ghost use mathlib.Core.Path.{_≡_};
 ghost use mathlib.Core.List.{[]};
-ghost use Rattle.table.specs.Table.{setIn, Holds};
+ghost use Rattle.set_table.specs.Table.{setIn, Holds};
 ghost use Rattle.log_order.specs.LogOrder.{placesOf, OrderRight};
-ghost use Rattle.prepared.specs.Keys.{PreparedRight};
+ghost use Rattle.log_prepared.specs.Keys.{PreparedRight};
 ghost use Rattle.log.specs.Ordered.{Ordered};
 
 // Of all deltas that are ready it places the one of the lowest key, again and again, until none is.

@@ -1,8 +1,8 @@
 // The delta that comes next: of the deltas by key the first that is ready.
-use ready::ready;
+use set_readiness::ready;
 ghost use mathlib.Core.Path.{_≡_};
 ghost use lib.ListN.{length};
-ghost use Rattle.ready.specs.Ready.{marksSize};
+ghost use Rattle.set_readiness.specs.Ready.{marksSize};
 ghost use Rattle.log.specs.Next.{Marked, Lookable, Skips, FirstReady};
 
 // The index of the delta that comes next.

@@ -7,7 +7,7 @@ use lib.ListN.{length, getD}
 use lib.Dec.{T}
 use Rattle.model.specs.Layout.{capacity}
 use Rattle.model.specs.Order.{less}
-use Rattle.key.specs.Key.{keySize, keyIn}
+use Rattle.log_key.specs.Key.{keySize, keyIn}
 
 -- The key of the delta at a place.
 abbrev pub keyAt : List ℕ → List ℕ → ℕ → List ℕ

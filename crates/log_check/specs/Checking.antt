@@ -7,10 +7,10 @@ use lib.Dec.{T}
 use Rattle.model.specs.Lists.{_∈_}
 use Rattle.model.specs.Layout.{capacity}
 use Rattle.model.specs.Order.{State, placedBy, ready, less, logOf}
-use Rattle.message.specs.declared.checks.Check.{Check}
-use Rattle.message.specs.declared.checks.Check.the-variants.{Right, Wrong}
-use Rattle.table.specs.Table.{deltasAt}
-use Rattle.ready.specs.Ready.{marksSize, Placing}
+use Rattle.message_header.specs.declared.checks.Check.{Check}
+use Rattle.message_header.specs.declared.checks.Check.the-variants.{Right, Wrong}
+use Rattle.set_table.specs.Table.{deltasAt}
+use Rattle.set_readiness.specs.Ready.{marksSize, Placing}
 use Rattle.log_check.specs.Above.{keyAt}
 
 -- Places of the table, at most as many as it has room for.

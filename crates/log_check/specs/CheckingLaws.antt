@@ -15,23 +15,23 @@ use Rattle.model.specs.Layout.{capacity}
 use Rattle.model.specs.Message.{Message, sequenceOf}
 use Rattle.model.specs.Listing as L
 use Rattle.model.specs.Order.{State, RightSet, sequencesOf, needs, placedBy, ready, Listing, Executable, keyOf, less, logOf}
-use Rattle.order.specs.ListLaws.{getD-∈, getD-map, greatest-≤, take-map}
-use Rattle.order.specs.TestLaws.{decide, ∈→has, hasAll→∈, greatest-≥, not-eqb}
-use Rattle.order.specs.KeyOrder.{less-total}
-use Rattle.order.specs.ListingLaws.{Stuck, ready-fresh, ready-needs, complete-stuck, stuck-complete}
-use Rattle.order.specs.ListingPlaces.{below, after-take, listing-at, listing-apart, ready-at}
-use Rattle.order.specs.InPlace.{InPlace, first-in-place, in-place-first}
-use Rattle.laws.specs.SetLaws.{ascending-names}
-use Rattle.laws.specs.LogLaws.{keys-differ, log-complete}
-use Rattle.table.specs.Table.{deltasAt}
-use Rattle.needs.specs.Names.{indexOf}
-use Rattle.needs.specs.IndexLaws.{index-here}
-use Rattle.needs.specs.NameLaws.{sequence-at, set-ascends}
-use Rattle.needs.specs.Rows.{rowIn, RowsRight}
-use Rattle.ready.specs.Ready.{marksSize, readyIn, greatestAlong, Placing}
-use Rattle.ready.specs.ReadyLaws.{greatest-named, ready-is, idle-stuck}
-use Rattle.closure.specs.ClosingLaws.{placing-none, placing-more}
-use Rattle.prepared.specs.Keys.{KeysRight}
+use Rattle.laws_order.specs.ListLaws.{getD-∈, getD-map, greatest-≤, take-map}
+use Rattle.laws_order.specs.TestLaws.{decide, ∈→has, hasAll→∈, greatest-≥, not-eqb}
+use Rattle.laws_order.specs.KeyOrder.{less-total}
+use Rattle.laws_order.specs.ListingLaws.{Stuck, ready-fresh, ready-needs, complete-stuck, stuck-complete}
+use Rattle.laws_order.specs.ListingPlaces.{below, after-take, listing-at, listing-apart, ready-at}
+use Rattle.laws_order.specs.InPlace.{InPlace, first-in-place, in-place-first}
+use Rattle.laws_state.specs.SetLaws.{ascending-names}
+use Rattle.laws_state.specs.LogLaws.{keys-differ, log-complete}
+use Rattle.set_table.specs.Table.{deltasAt}
+use Rattle.set_needs.specs.Names.{indexOf}
+use Rattle.set_needs.specs.IndexLaws.{index-here}
+use Rattle.set_needs.specs.NameLaws.{sequence-at, set-ascends}
+use Rattle.set_needs.specs.Rows.{rowIn, RowsRight}
+use Rattle.set_readiness.specs.Ready.{marksSize, readyIn, greatestAlong, Placing}
+use Rattle.set_readiness.specs.ReadyLaws.{greatest-named, ready-is, idle-stuck}
+use Rattle.set_closure.specs.ClosingLaws.{placing-none, placing-more}
+use Rattle.log_prepared.specs.Keys.{KeysRight}
 use Rattle.log_check.specs.Above.{keyAt, Comparable, Above}
 use Rattle.log_check.specs.Waiting.{readyFrom, AnyReady}
 use Rattle.log_check.specs.Checking.{Inside, Checking}

@@ -4,8 +4,8 @@ use mathlib.Core.Bool.{Bool, true, false}
 use mathlib.Core.List.{List}
 use Prim.Native.Nat.{ℕ, _≤_, _<_}
 use Rattle.model.specs.Layout.{capacity}
-use Rattle.needs.specs.Rows.{RowFits}
-use Rattle.ready.specs.Ready.{readyIn, greatestAlong}
+use Rattle.set_needs.specs.Rows.{RowFits}
+use Rattle.set_readiness.specs.Ready.{readyIn, greatestAlong}
 
 -- The greatest of what `ends` has for its needs; the first place where it needs nothing.
 abbrev pub readyFrom : List ℕ → List ℕ → List ℕ → ℕ → ℕ

@@ -1,5 +1,5 @@
 // Whether the key at a place of a log is above those before it.
-use key::key_less;
+use log_key::key_less;
 ghost use Rattle.log_check.specs.Above.{Comparable, Above};
 
 // Whether the key at place k is above those of all places from `from` on. Where a key is above the one at place q, it is above

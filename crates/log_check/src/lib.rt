@@ -6,11 +6,11 @@ use crate::above::above;
 use crate::waiting::any_ready;
 use crate::waiting::ready_from;
 use layout::CAPACITY;
-use message::checks::Check;
-use ready::MARKS;
-use ready::ready;
-ghost use Rattle.table.specs.Table.{setIn, Holds};
-ghost use Rattle.prepared.specs.Keys.{PreparedRight};
+use message_header::checks::Check;
+use set_readiness::MARKS;
+use set_readiness::ready;
+ghost use Rattle.set_table.specs.Table.{setIn, Holds};
+ghost use Rattle.log_prepared.specs.Keys.{PreparedRight};
 ghost use Rattle.log_check.specs.Checking.{Inside, ChecksLog};
 
 // Places the deltas of the log one after the other. Each has to be ready, and its key above those of all that stand at or behind

@@ -1,10 +1,10 @@
 // From where on a delta was ready, and whether something waits to be placed.
-use ready::greatest_along;
-use ready::ready;
+use set_readiness::greatest_along;
+use set_readiness::ready;
 ghost use mathlib.Core.Path.{_≡_};
 ghost use lib.ListN.{length};
-ghost use Rattle.needs.specs.Rows.{RowFits};
-ghost use Rattle.ready.specs.Ready.{marksSize};
+ghost use Rattle.set_needs.specs.Rows.{RowFits};
+ghost use Rattle.set_readiness.specs.Ready.{marksSize};
 ghost use Rattle.log_check.specs.Waiting.{readyFrom, AllFit, AnyReady};
 
 // The place from which a delta was ready: behind all that it needs, by `ends`, which has for each delta one more than its place.

@@ -8,10 +8,10 @@ use lib.ListN.{length, getD, take, set}
 use lib.Seq.{length-take-le, getD-take, take-suc-set}
 use Rattle.model.specs.Layout.{capacity}
 use Rattle.model.specs.Steps.{common, undosOf, executionsOf}
-use Rattle.order.specs.StepLaws.{common-le}
+use Rattle.laws_order.specs.StepLaws.{common-le}
 use Rattle.log_order.specs.declared.LogOrder.{LogOrder}
 use Rattle.log_order.specs.LogOrder.{oldOf, placesOf, OrderRight, Begun, Placed}
-use Rattle.order.specs.CommonLaws.{common-nil, common-parted, common-past, common-more, common-other}
+use Rattle.laws_order.specs.CommonLaws.{common-nil, common-parted, common-past, common-more, common-other}
 
 -- nothing is placed yet
 pub begun : (old places : List ℕ) (n : ℕ) → n ≤ capacity → Begun old n (record { old = old; «old_count» = n; places = places; count = 0; kept = 0 })

@@ -102,7 +102,7 @@ abbrev pub ownBlock : State → Message → ℕ
 ownBlock S m = blockOf m
 
 -- "The effective block is the greater of its own block (0 without priority) and the effective blocks of its needs":
--- along needs of needs, 64 deep, which is as far as the needs of an executable delta reach among 64. `laws` shows that
+-- along needs of needs, 64 deep, which is as far as the needs of an executable delta reach among 64. `laws_state` shows that
 -- equation of every executable delta; the number of a held one is used nowhere.
 abbrev pub blockAlong : State → ℕ → ℕ → ℕ
 blockAlong S zero s = 0

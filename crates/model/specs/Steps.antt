@@ -66,7 +66,7 @@ abbrev pub along : (Message → List ℤ → StepRecord) → List Message → Li
 along recordOf [] values = []
 along recordOf (m ∷ l) values = recordOf m values ∷ along recordOf l (runDelta m values)
 
--- The steps of `stepsOf` with their pairs (`records-steps` in `wire_laws`): both logs are run from these values on.
+-- The steps of `stepsOf` with their pairs (`records-steps` in `laws_wire`): both logs are run from these values on.
 unfoldable pub recordsOf : List ℤ → List Message → List Message → List StepRecord
 recordsOf start old new =
     let kept = common (sequencesOf old) (sequencesOf new) in

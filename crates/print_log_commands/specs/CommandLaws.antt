@@ -7,12 +7,12 @@ use lib.ListN.{length, take, drop}
 use Rattle.model.specs.Bytes.{field, integer}
 use Rattle.model.specs.Layout.{commandSize, mostCommands, tagAt, valueAt, valueSize}
 use Rattle.model.specs.Program.{printedValue, printedCommand, printedCommands}
-use Rattle.wire_laws.specs.BytesLaws.{field-part}
+use Rattle.laws_wire.specs.BytesLaws.{field-part}
 use Rattle.setpoints.specs.Commands.{commandsIn}
 use Rattle.setpoints.specs.CommandLaws.{commands-end, commands-next}
-use Rattle.decimal.specs.Puts.{digitsRoom, numeral, Puts}
-use Rattle.decimal.specs.PutsLaws.{puts-puts}
-use Rattle.decimal.specs.Ahead.{Ahead, ahead-all, ahead-next, ahead-none}
+use Rattle.program_decimal.specs.Puts.{digitsRoom, numeral, Puts}
+use Rattle.program_decimal.specs.PutsLaws.{puts-puts}
+use Rattle.program_decimal.specs.Ahead.{Ahead, ahead-all, ahead-next, ahead-none}
 use Rattle.print_log_commands.specs.Rooms.{valueRoom, commandRoom, commandsRoom}
 use Rattle.print_log_commands.specs.Commands.{Putting}
 

@@ -6,7 +6,7 @@ use lib.ListN.{length, drop}
 use Rattle.model.specs.Layout.{commandSize}
 use Rattle.model.specs.Program.{printedCommands}
 use Rattle.setpoints.specs.Commands.{commandsIn}
-use Rattle.decimal.specs.Ahead.{Ahead}
+use Rattle.program_decimal.specs.Ahead.{Ahead}
 use Rattle.print_log_commands.specs.Rooms.{commandRoom, commandsRoom}
 
 -- The first k commands stand before `next`: with the others behind them, that is all.

@@ -1,7 +1,7 @@
 -- The most bytes of a value, of a command, and of all commands.
 use Prim.Native.Nat.{ℕ, _+_, _*_}
 use Rattle.model.specs.Layout.{mostCommands}
-use Rattle.decimal.specs.Puts.{digitsRoom}
+use Rattle.program_decimal.specs.Puts.{digitsRoom}
 
 abbrev pub valueRoom : ℕ
 valueRoom = 1 + digitsRoom

@@ -7,7 +7,7 @@ use lib.IntN.{pos, negsuc}
 use borrow.Author.Tests.{lt-ltb, le-ltb}
 use Rattle.model.specs.Bytes.{integer}
 use Rattle.model.specs.Program.{printedValue}
-use Rattle.decimal.specs.Puts.{numeral}
+use Rattle.program_decimal.specs.Puts.{numeral}
 
 pub value-positive : (n : ℕ) → n < 2147483648 → numeral n ≡ printedValue (integer n)
 unfolding printedValue numeral

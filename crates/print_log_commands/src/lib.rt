@@ -2,19 +2,19 @@
 pub mod value;
 
 use crate::value::put_value;
-use buffer::byte;
-use buffer::get_u32;
-use decimal::digits::put_after;
-use decimal::text::put_text;
+use buffer_reads::byte;
+use buffer_reads::get_u32;
 use layout::COMMAND_SIZE;
 use layout::TAG_AT;
 use layout::VALUE_AT;
+use program_decimal::digits::put_after;
+use program_decimal::text::put_text;
 ghost use Prim.Native.Nat.{_+_, _*_, _≤_};
 ghost use lib.ListN.{length, take, drop};
 ghost use Rattle.model.specs.Layout.{commandSize, mostCommands};
 ghost use Rattle.model.specs.Program.{printedCommand, printedCommands};
 ghost use Rattle.setpoints.specs.Commands.{commandsIn};
-ghost use Rattle.decimal.specs.Puts.{Puts};
+ghost use Rattle.program_decimal.specs.Puts.{Puts};
 ghost use Rattle.print_log_commands.specs.Rooms.{commandRoom, commandsRoom};
 
 // Writes tag and value of the command that starts at a place.

@@ -1,11 +1,11 @@
 // A command's value in decimal.
-use decimal::digits::put_after;
-use decimal::digits::put_decimal;
+use program_decimal::digits::put_after;
+use program_decimal::digits::put_decimal;
 ghost use Prim.Native.Nat.{_+_, _≤_};
 ghost use lib.ListN.{length};
 ghost use Rattle.model.specs.Bytes.{integer};
 ghost use Rattle.model.specs.Program.{printedValue};
-ghost use Rattle.decimal.specs.Puts.{Puts};
+ghost use Rattle.program_decimal.specs.Puts.{Puts};
 ghost use Rattle.print_log_commands.specs.Rooms.{valueRoom};
 
 // Writes the value of a word from a place on, and answers the place behind it. A word is two's complement: from 2147483648 on it is

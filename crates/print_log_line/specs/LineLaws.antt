@@ -13,8 +13,8 @@ use Rattle.model.specs.Program.{printedCommands, logLine}
 use Rattle.setpoints.specs.Commands.{commandsIn}
 use Rattle.setpoints.specs.DeltaLaws.{commands-own}
 use Rattle.text_writing.specs.CharacterLaws.{characters-sized}
-use Rattle.decimal.specs.Puts.{numeral, Puts}
-use Rattle.decimal.specs.PutsLaws.{puts-puts}
+use Rattle.program_decimal.specs.Puts.{numeral, Puts}
+use Rattle.program_decimal.specs.PutsLaws.{puts-puts}
 use Rattle.print_log_commands.specs.Rooms.{commandsRoom}
 use Rattle.print_log_line.specs.Rooms.{sequenceRoom, headRoom, lineRoom}
 use Rattle.print_log_line.specs.Lines.{sequenceField, lineHead}

@@ -5,7 +5,7 @@ use lib.ListN.{length, take, drop}
 use Rattle.model.specs.Layout.{sequenceAt, sequenceSize}
 use Rattle.model.specs.Message.{Message}
 use Rattle.model.specs.Text.{charactersOf}
-use Rattle.decimal.specs.Puts.{numeral}
+use Rattle.program_decimal.specs.Puts.{numeral}
 
 abbrev pub sequenceField : Message → List ℕ
 sequenceField m = 32 ∷ charactersOf (take sequenceSize (drop sequenceAt m))

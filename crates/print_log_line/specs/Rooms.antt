@@ -1,7 +1,7 @@
 -- The most bytes of what stands before the commands, and of a message's line.
 use Prim.Native.Nat.{ℕ, _+_}
 use Rattle.model.specs.Layout.{charactersSize}
-use Rattle.decimal.specs.Puts.{digitsRoom}
+use Rattle.program_decimal.specs.Puts.{digitsRoom}
 use Rattle.print_log_commands.specs.Rooms.{commandsRoom}
 
 abbrev pub sequenceRoom : ℕ

@@ -1,7 +1,7 @@
 // The most bytes of what is printed of a message.
-use decimal::limits::DIGITS;
 use layout::CHARACTERS_SIZE;
 use layout::MOST_COMMANDS;
+use program_decimal::limits::DIGITS;
 
 // a value: its sign and its digits
 pub const VALUE_ROOM: usize = 1 + DIGITS;

@@ -1,14 +1,14 @@
 // The line of a message of the log.
-use buffer::byte;
-use decimal::digits::put_after;
-use decimal::digits::put_decimal;
-use decimal::text::put_text;
+use buffer_reads::byte;
 use layout::CHARACTERS_SIZE;
 use layout::DEPENDENCY_COUNT_AT;
 use layout::HEADER_SIZE;
 use layout::SEQUENCE_AT;
 use layout::SEQUENCE_SIZE;
 use print_log_commands::put_commands;
+use program_decimal::digits::put_after;
+use program_decimal::digits::put_decimal;
+use program_decimal::text::put_text;
 use text_writing::parts::put_characters;
 ghost use Prim.Native.Nat.{_+_, _≤_};
 ghost use lib.Dec.{T};
@@ -16,7 +16,7 @@ ghost use lib.ListN.{length};
 ghost use Rattle.model.specs.Layout.{headerSize};
 ghost use Rattle.model.specs.Message.{layoutRight};
 ghost use Rattle.model.specs.Program.{logLine};
-ghost use Rattle.decimal.specs.Puts.{Puts};
+ghost use Rattle.program_decimal.specs.Puts.{Puts};
 ghost use Rattle.print_log_line.specs.Rooms.{sequenceRoom, headRoom, lineRoom};
 ghost use Rattle.print_log_line.specs.Lines.{sequenceField, lineHead};
 

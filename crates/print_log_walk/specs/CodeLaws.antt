@@ -9,8 +9,8 @@ use borrow.Author.Tests.{leb-true}
 use Rattle.model.specs.Image.{logCount, isImage}
 use Rattle.model.specs.Codes.{lowestCode, wrongSize, readConditions, logMessageConditions}
 use Rattle.model.specs.Calls.{logMessageCode}
-use Rattle.order.specs.TestLaws.{is-false}
-use Rattle.code_ladder.specs.Ladder.{Answers, Passed, none, free, all-free}
+use Rattle.laws_order.specs.TestLaws.{is-false}
+use Rattle.laws_codes.specs.Ladder.{Answers, Passed, none, free, all-free}
 
 module _ (b : List ℕ) (place : ℕ) where
   abbrev inputCode : ℕ

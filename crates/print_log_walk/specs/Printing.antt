@@ -6,7 +6,7 @@ use lib.ListN.{length, drop}
 use Rattle.model.specs.Layout.{capacity}
 use Rattle.model.specs.Image.{logCount, logIn, messageOffset}
 use Rattle.model.specs.Program.{logLines}
-use Rattle.decimal.specs.Ahead.{Ahead}
+use Rattle.program_decimal.specs.Ahead.{Ahead}
 use Rattle.print_log_line.specs.Rooms.{lineRoom}
 
 -- the most bytes of all lines

@@ -15,15 +15,15 @@ use Rattle.model.specs.Image.{logCount, logIn, messagesIn, messageOffset, isIma
 use Rattle.model.specs.Codes.{lowestCode, readConditions}
 use Rattle.model.specs.Calls.{logMessageCode, logMessage}
 use Rattle.model.specs.Program.{logLine, logLines}
-use Rattle.wire_laws.specs.MessageLaws.{passes-layout}
-use Rattle.laws.specs.ImageSetLaws.{image-messages}
-use Rattle.laws.specs.OffsetLaws.{count-messages, log-count, log-message, message-passes}
-use Rattle.log_reader.specs.Reader.{firstOffset}
-use Rattle.log_reader.specs.ReaderLaws.{code-image}
-use Rattle.reader_offsets.specs.Offsets.{offsetAfter}
-use Rattle.reader_offsets.specs.OffsetLaws.{offset-start, offset-after}
-use Rattle.decimal.specs.Puts.{Puts}
-use Rattle.decimal.specs.Ahead.{Ahead, ahead-all, ahead-next, ahead-none}
+use Rattle.laws_wire.specs.MessageLaws.{passes-layout}
+use Rattle.laws_state.specs.ImageSetLaws.{image-messages}
+use Rattle.laws_state.specs.OffsetLaws.{count-messages, log-count, log-message, message-passes}
+use Rattle.read_log.specs.Reader.{firstOffset}
+use Rattle.read_log.specs.ReaderLaws.{code-image}
+use Rattle.read_offsets.specs.Offsets.{offsetAfter}
+use Rattle.read_offsets.specs.OffsetLaws.{offset-start, offset-after}
+use Rattle.program_decimal.specs.Puts.{Puts}
+use Rattle.program_decimal.specs.Ahead.{Ahead, ahead-all, ahead-next, ahead-none}
 use Rattle.print_log_line.specs.Rooms.{lineRoom}
 use Rattle.print_log_walk.specs.Printing.{logRoom, linesFrom, Printing}
 use Rattle.print_log_walk.specs.CodeLaws.{code-found}

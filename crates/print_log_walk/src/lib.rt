@@ -1,17 +1,17 @@
 // The messages of a log one after the other, each as its line. The reader keeps the offset, `log_message` gives the message.
 use print_log_line::line::put_line;
-use reader_offsets::move_on;
-use reader_offsets::start_offset;
-use reading::answer::Lookup;
-use reading::log_message::log_message;
-use reading::log_message::log_message_code;
+use read_calls::answer::Lookup;
+use read_calls::log_message::log_message;
+use read_calls::log_message::log_message_code;
+use read_offsets::move_on;
+use read_offsets::start_offset;
 ghost use mathlib.Core.Path.{_≡_};
 ghost use Prim.Native.Nat.{_≤_};
 ghost use lib.Dec.{eqb};
 ghost use lib.ListN.{length};
 ghost use Rattle.model.specs.Codes.{lowestCode, readConditions};
 ghost use Rattle.model.specs.Calls.{logMessageCode};
-ghost use Rattle.decimal.specs.Puts.{Puts};
+ghost use Rattle.program_decimal.specs.Puts.{Puts};
 ghost use Rattle.print_log_walk.specs.Printing.{logRoom, linesFrom};
 
 // Whether the log has a message at a place.

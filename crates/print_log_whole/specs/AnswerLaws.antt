@@ -6,8 +6,8 @@ use native.Mathlib.Omega.{arith}
 use Rattle.model.specs.Image.{logCount}
 use Rattle.model.specs.Codes.{lowestCode, readConditions}
 use Rattle.model.specs.Program.{logAnswer, printedLog}
-use Rattle.decimal.specs.Puts.{numeral, Puts}
-use Rattle.decimal.specs.Front.{Prints, puts-prints}
+use Rattle.program_decimal.specs.Puts.{numeral, Puts}
+use Rattle.program_decimal.specs.Front.{Prints, puts-prints}
 use Rattle.print_log_walk.specs.Printing.{linesFrom}
 use Rattle.print_log_walk.specs.PrintingLaws.{lines-end}
 

@@ -13,7 +13,7 @@ use Rattle.model.specs.Layout.{imageSize}
 use Rattle.model.specs.Image.{isImage}
 use Rattle.model.specs.Codes.{lowestCode, readConditions}
 use Rattle.model.specs.Program.{logAnswer, printedLog}
-use Rattle.order.specs.TestLaws.{decide}
+use Rattle.laws_order.specs.TestLaws.{decide}
 
 long-refused : (b : List ℕ) → imageSize < length b → lowestCode (readConditions b) ≡ 1
 long-refused b h = ap (λ (sized : Bool). cond (not sized) 1 (cond (not (isImage b)) 2 0)) (ne-eqb (length b) imageSize (λ e. omega arith))

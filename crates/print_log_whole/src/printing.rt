@@ -1,16 +1,16 @@
 // The whole output: the lines of the log, or the code of a refusal.
 use crate::limits::LOG_ROOM;
-use decimal::digits::put_decimal;
-use decimal::text::put_text;
 use print_log_walk::put_lines;
-use reading::answer::Lookup;
-use reading::log_message::log_message_code;
+use program_decimal::digits::put_decimal;
+use program_decimal::text::put_text;
+use read_calls::answer::Lookup;
+use read_calls::log_message::log_message_code;
 ghost use mathlib.Core.List.{[], _∷_, _++_};
 ghost use Prim.Native.Nat.{_+_, _≤_};
 ghost use lib.ListN.{length};
 ghost use Rattle.model.specs.Program.{printedLog};
-ghost use Rattle.decimal.specs.Puts.{Puts, digitsRoom, numeral};
-ghost use Rattle.decimal.specs.Front.{Prints};
+ghost use Rattle.program_decimal.specs.Puts.{Puts, digitsRoom, numeral};
+ghost use Rattle.program_decimal.specs.Front.{Prints};
 
 // Writes the code of a refusal as a line, and answers the place behind it.
 fn put_code(out: &mut [u8], code: usize) -> usize

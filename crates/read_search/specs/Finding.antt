@@ -8,7 +8,7 @@ use Rattle.model.specs.Layout.{imageSize}
 use Rattle.model.specs.Message.{Message}
 use Rattle.model.specs.Image.{messagesStartIn, logCount, logIn, messageOffset, isImage}
 use Rattle.model.specs.Calls.{messageAt}
-use Rattle.walk.specs.Walk.{LogOffsets}
+use Rattle.image_walk.specs.Walk.{LogOffsets}
 use Rattle.read_search.specs.declared.Found.{Found}
 use Rattle.read_search.specs.declared.Found.the-variants as found
 

@@ -10,10 +10,10 @@ use Rattle.model.specs.Bytes.{field}
 use Rattle.model.specs.Layout.{lengthAt}
 use Rattle.model.specs.Image.{messagesStartIn, logCount, logIn, messageOffset}
 use Rattle.model.specs.Calls.{messageAt}
-use Rattle.order.specs.TestLaws.{decide}
-use Rattle.laws.specs.OffsetLaws.{message-at-offset, Placed, message-placed, log-count, log-offset, log-full}
-use Rattle.table.specs.TableLaws.{Lies}
-use Rattle.reading.specs.PartLaws.{part-lies, part-size, part-is}
+use Rattle.laws_order.specs.TestLaws.{decide}
+use Rattle.laws_state.specs.OffsetLaws.{message-at-offset, Placed, message-placed, log-count, log-offset, log-full}
+use Rattle.set_table.specs.TableLaws.{Lies}
+use Rattle.read_calls.specs.PartLaws.{part-lies, part-size, part-is}
 use Rattle.read_search.specs.Finding.{Searchable, startingAt, IsMessage, Looking}
 
 module _ (b offsets : List ℕ) (s : Searchable b offsets) (offset : ℕ) where

@@ -1,5 +1,5 @@
 // The log's message that starts at an offset, looked for among the offsets of all of them.
-use buffer::get_u16;
+use buffer_reads::get_u16;
 use layout::LENGTH_AT;
 ghost use Rattle.read_search.specs.Finding.{Searchable, Finds};
 

@@ -1,12 +1,12 @@
 // The program for the service laptop: reads sequences in either form on standard input, and prints the other.
 use libc::STDERR_FILENO;
 use libc::STDOUT_FILENO;
-use standard_input::answer::Input;
-use standard_input::drop_rest;
-use standard_input::read_input;
+use program_input::answer::Input;
+use program_input::drop_rest;
+use program_input::read_input;
+use sequences_forms::OUTPUT_ROOM;
+use sequences_forms::convert;
 use text_checks::answer::Conversion;
-use text_forms::OUTPUT_ROOM;
-use text_forms::convert;
 
 // More than either form has: an input that fills it is refused.
 const INPUT_ROOM: usize = 256;

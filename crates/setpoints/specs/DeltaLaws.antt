@@ -10,7 +10,7 @@ use Rattle.model.specs.Bytes.{parts}
 use Rattle.model.specs.Layout.{commandSize}
 use Rattle.model.specs.Message.{Message, dependencyCount, commandCount, commandsStart, commandsOf, layoutRight, passes}
 use Rattle.model.specs.Setpoints.{Change, runCommands, changesBy, runDelta, changesOf}
-use Rattle.wire_laws.specs.MessageLaws.{layout-sized, passes-layout, passes-sized}
+use Rattle.laws_wire.specs.MessageLaws.{layout-sized, passes-layout, passes-sized}
 use Rattle.setpoints.specs.Commands.{commandsIn}
 
 -- of any message of right layout

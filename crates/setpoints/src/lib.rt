@@ -1,5 +1,5 @@
 // The command runner: a delta's commands, run on 64 setpoints, and the change of each.
-use buffer::byte;
+use buffer_reads::byte;
 use layout::COMMAND_SIZE;
 use layout::DEPENDENCY_COUNT_AT;
 use layout::HEADER_SIZE;

@@ -10,7 +10,7 @@ use Rattle.model.specs.Bytes.{field, integer}
 use Rattle.model.specs.Layout.{commandSize, operationAt, tagAt, valueAt, valueSize}
 use Rattle.model.specs.Message.{valueOf}
 use Rattle.model.specs.Setpoints.{Change, operate, changeOf}
-use Rattle.wire_laws.specs.BytesLaws.{field-part}
+use Rattle.laws_wire.specs.BytesLaws.{field-part}
 use Rattle.setpoints_changes.specs.Changes.{changesIn, Room}
 
 -- past the end stands the default

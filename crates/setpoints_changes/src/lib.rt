@@ -1,11 +1,11 @@
 // A command's change of the setpoints, as a value: made from the command and the values, kept, and applied to them.
-use arithmetic::integers::of_word;
-use arithmetic::operations::operate;
-use buffer::byte;
-use buffer::get_u32;
+use buffer_reads::byte;
+use buffer_reads::get_u32;
 use layout::OPERATION_AT;
 use layout::TAG_AT;
 use layout::VALUE_AT;
+use setpoints_arithmetic::integers::of_word;
+use setpoints_arithmetic::operations::operate;
 ghost use mathlib.Core.Path.{_≡_};
 ghost use Prim.Native.Nat.{_+_, _≤_, _<_};
 ghost use lib.IntN.{pos};

@@ -9,7 +9,7 @@ use lib.ListN.{length, take, getD, length-append}
 use lib.Seq.{paste, take-suc, length-take-le}
 use Rattle.model.specs.Bytes.{bytes, join, word}
 use Rattle.model.specs.Layout.{valueSize}
-use Rattle.wire_laws.specs.BytesLaws.{length-bytes}
+use Rattle.laws_wire.specs.BytesLaws.{length-bytes}
 use Rattle.buffer_writes.specs.PasteLaws.{paste-paste}
 
 abbrev pub wordsOf : List ℤ → List ℕ

@@ -1,8 +1,8 @@
 // The 64 values as a whole.
-use arithmetic::integers::to_word;
 use buffer_writes::put_u32;
 use layout::TAG_COUNT;
 use layout::VALUE_SIZE;
+use setpoints_arithmetic::integers::to_word;
 ghost use mathlib.Core.Path.{_≡_};
 ghost use mathlib.Core.List.{List};
 ghost use Prim.Native.Nat.{_+_, _*_, _≤_};

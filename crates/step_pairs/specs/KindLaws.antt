@@ -9,7 +9,7 @@ use lib.ListN.{length, take, getD, length-map, length-reverse, List·getD-append
 use lib.Seq.{getD-at, getD-take, length-take-le}
 use Rattle.model.specs.Setpoints.{Change}
 use Rattle.model.specs.Steps.{Pair, pairOf}
-use Rattle.order.specs.ListLaws.{getD-map}
+use Rattle.laws_order.specs.ListLaws.{getD-map}
 use Rattle.setpoints_changes.specs.Changes.{changesIn, Room}
 use Rattle.setpoints_changes.specs.ChangeLaws.{changes-room, change-at}
 use Rattle.step_pairs.specs.declared.kinds.Kind.{Kind}

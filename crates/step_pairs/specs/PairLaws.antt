@@ -8,9 +8,9 @@ use lib.Seq.{paste, paste-zero, length-take-le}
 use Rattle.model.specs.Bytes.{join}
 use Rattle.model.specs.Layout.{pairSize}
 use Rattle.model.specs.Steps.{Pair, pairBytes, pairsBytes}
-use Rattle.order.specs.ListLaws.{take-next}
-use Rattle.wire_laws.specs.BytesLaws.{join-append}
-use Rattle.wire_laws.specs.StepBytesLaws.{length-pairs}
+use Rattle.laws_order.specs.ListLaws.{take-next}
+use Rattle.laws_wire.specs.BytesLaws.{join-append}
+use Rattle.laws_wire.specs.StepBytesLaws.{length-pairs}
 use Rattle.buffer_writes.specs.PasteLaws.{paste-paste}
 use Rattle.step_pairs.specs.Pairs.{withPairs}
 

@@ -8,8 +8,8 @@ use lib.Seq.{paste, length-paste, take-append-le}
 use Rattle.model.specs.Bytes.{bytes}
 use Rattle.model.specs.Layout.{mostCommands, pairCountSize, stepSequenceAt, pairsAt, pairSize, pairsSize, stepSize}
 use Rattle.model.specs.Steps.{StepRecord, headBytes, pairsBytes, recordBytes}
-use Rattle.wire_laws.specs.StepBytesLaws.{Fits, length-step, length-pairs}
-use Rattle.buffer.specs.FieldLaws.{bytes-split, bytes-low}
+use Rattle.laws_wire.specs.StepBytesLaws.{Fits, length-step, length-pairs}
+use Rattle.buffer_reads.specs.FieldLaws.{bytes-split, bytes-low}
 use Rattle.buffer_writes.specs.PasteLaws.{paste-paste, paste-behind}
 use Rattle.step_records.specs.Frame.{framed}
 use Rattle.step_pairs.specs.Pairs.{withPairs}

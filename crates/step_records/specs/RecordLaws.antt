@@ -11,9 +11,9 @@ use Rattle.model.specs.Layout.{commandSize, sequenceSize, pairCountSize, pairsA
 use Rattle.model.specs.Message.{Message, dependencyCount, commandCount, commandsStart, commandsOf, sequenceOf, passes}
 use Rattle.model.specs.Setpoints.{Change, changesOf}
 use Rattle.model.specs.Steps.{Step, Pair, StepRecord, executionOf, undoOf, headBytes, recordBytes}
-use Rattle.wire_laws.specs.BytesLaws.{length-parts}
-use Rattle.wire_laws.specs.RecordLaws.{length-changes, execution-fits, undo-fits}
-use Rattle.wire_laws.specs.StepBytesLaws.{Fits}
+use Rattle.laws_wire.specs.BytesLaws.{length-parts}
+use Rattle.laws_wire.specs.RecordLaws.{length-changes, execution-fits, undo-fits}
+use Rattle.laws_wire.specs.StepBytesLaws.{Fits}
 use Rattle.step_pairs.specs.declared.kinds.Kind.{Kind}
 use Rattle.step_pairs.specs.declared.kinds.Kind.the-variants.{Undo, Execute}
 use Rattle.step_pairs.specs.Kinds.{pairsBy}

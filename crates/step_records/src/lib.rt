@@ -1,5 +1,5 @@
 // A delta's step, written into a step buffer from the changes that the delta makes of the setpoints.
-use buffer::byte;
+use buffer_reads::byte;
 use buffer_writes::copy_at;
 use buffer_writes::put_u32;
 use layout::COMMAND_COUNT_AT;
@@ -10,9 +10,9 @@ use layout::PAIRS_SIZE;
 use layout::SEQUENCE_AT;
 use layout::STEP_SEQUENCE_AT;
 use layout::TAG_COUNT;
-use sequence::Sequence;
-use sequence::put_sequence;
-use sequence::read_sequence;
+use message_sequence::Sequence;
+use message_sequence::put_sequence;
+use message_sequence::read_sequence;
 use setpoints::run_delta;
 use step_pairs::kinds::Kind;
 use step_pairs::put_pairs;
@@ -27,7 +27,7 @@ ghost use Rattle.model.specs.Layout.{mostCommands, sequenceSize, pairCountSize,
 ghost use Rattle.model.specs.Message.{commandCount, sequenceOf, passes};
 ghost use Rattle.model.specs.Setpoints.{runDelta};
 ghost use Rattle.model.specs.Steps.{recordBytes};
-ghost use Rattle.sequence.specs.Sequence.{sequenceNumber};
+ghost use Rattle.message_sequence.specs.Sequence.{sequenceNumber};
 ghost use Rattle.step_records.specs.Frame.{framed};
 ghost use Rattle.step_records.specs.Records.{firstBy, recordBy};
 

@@ -9,10 +9,10 @@ use borrow.Author.Tests.{le-leb, eq-eqb}
 use Rattle.model.specs.Lists.{every}
 use Rattle.model.specs.Layout.{textPartSize, textRoom}
 use Rattle.model.specs.Text.{comma, textParts, textPartRight, textRight}
-use Rattle.order.specs.ScanLaws.{every-step}
-use Rattle.order.specs.TestLaws.{false-of}
-use Rattle.wire_laws.specs.BytesLaws.{length-parts, parts-at}
-use Rattle.text_laws.specs.TextLaws.{Text, text-out}
+use Rattle.laws_order.specs.ScanLaws.{every-step}
+use Rattle.laws_order.specs.TestLaws.{false-of}
+use Rattle.laws_wire.specs.BytesLaws.{length-parts, parts-at}
+use Rattle.laws_text.specs.TextLaws.{Text, text-out}
 
 pub text-wrong : (t : List ℕ) → (Text t (suc (length t) / textPartSize) → ⊥) → false ≡ textRight t
 text-wrong t f = sym (false-of (textRight t) (λ r. f (text-out t r)))

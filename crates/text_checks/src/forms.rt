@@ -1,10 +1,10 @@
 // Code 13: the form of a text, and the size of sequences.
+use buffer_sizes::check_pieces;
 use layout::SEQUENCE_SIZE;
 use layout::SEQUENCES_ROOM;
 use layout::TEXT_PART_SIZE;
 use layout::TEXT_ROOM;
-use message::checks::Check;
-use sizes::check_pieces;
+use message_header::checks::Check;
 use text_digits::digits;
 use text_parts::check_part;
 ghost use mathlib.Core.Path.{_≡_};
@@ -12,7 +12,7 @@ ghost use Prim.Native.Nat.{_/_};
 ghost use lib.ListN.{length};
 ghost use Rattle.model.specs.Layout.{sequenceSize};
 ghost use Rattle.model.specs.Text.{textRight, sequencesRight};
-ghost use Rattle.message.specs.Check.{right};
+ghost use Rattle.message_header.specs.Check.{right};
 
 // One to eight sequences, joined by commas.
 pub fn check_text(text: &[u8]) -> Check

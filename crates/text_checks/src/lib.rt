@@ -4,12 +4,12 @@ pub mod forms;
 
 use crate::forms::count_sequences;
 use layout::SEQUENCE_SIZE;
-use message::checks::Check;
-use sequence::number_of;
-use sequence::read_sequence;
+use message_header::checks::Check;
+use message_sequence::number_of;
+use message_sequence::read_sequence;
 ghost use mathlib.Core.Path.{_≡_};
 ghost use Rattle.model.specs.Text.{allNumbered};
-ghost use Rattle.message.specs.Check.{right};
+ghost use Rattle.message_header.specs.Check.{right};
 
 // Code 14: no number of whole sequences is 0000.
 pub fn check_numbers(sequences: &[u8]) -> Check

@@ -6,7 +6,7 @@ use Prim.Native.Nat.{ℕ, zero, suc, _+_, _<_}
 use native.Mathlib.Nat.{add-zero, zero-add, add-suc, suc-add, le-of-suc-le-suc, not-suc-le-zero}
 use lib.Dec.{T}
 use lib.ListN.{length, getD}
-use Rattle.order.specs.TestLaws.{and-l, and-r}
+use Rattle.laws_order.specs.TestLaws.{and-l, and-r}
 
 -- whether a test passes at each place and its entry, the places counted from i
 abbrev pub everyPlace : (ℕ → ℕ → Bool) → ℕ → List ℕ → Bool

@@ -1,6 +1,6 @@
 // A part of a text: the characters of a sequence, and the comma behind them. Behind the last part none stands.
 use layout::CHARACTERS_SIZE;
-use message::checks::Check;
+use message_header::checks::Check;
 use text_digits::CHARACTER_COUNT;
 use text_digits::COMMA;
 use text_digits::NO_DIGIT;
@@ -12,7 +12,7 @@ ghost use lib.ListN.{length, take, drop};
 ghost use Rattle.model.specs.Lists.{every};
 ghost use Rattle.model.specs.Layout.{charactersSize, textPartSize};
 ghost use Rattle.model.specs.Text.{comma, isDigit, textPartRight};
-ghost use Rattle.message.specs.Check.{right};
+ghost use Rattle.message_header.specs.Check.{right};
 ghost use Rattle.text_digits.specs.DigitTable.{HasDigits};
 
 // Whether the characters of a sequence are digits. It looks at all of them.

@@ -7,9 +7,9 @@ use lib.ListN.{length, take, drop, getD, length-drop}
 use lib.Seq.{length-take-le}
 use Rattle.model.specs.Layout.{sequenceSize, charactersSize}
 use Rattle.model.specs.Text.{digitOf, isDigit, bytesIn}
-use Rattle.order.specs.ListLaws.{getD-∈, getD-part}
-use Rattle.order.specs.TestLaws.{every-∈}
-use Rattle.text_laws.specs.DigitLaws.{digit-small, length-bytesIn, byte-at}
+use Rattle.laws_order.specs.ListLaws.{getD-∈, getD-part}
+use Rattle.laws_order.specs.TestLaws.{every-∈}
+use Rattle.laws_text.specs.DigitLaws.{digit-small, length-bytesIn, byte-at}
 use Rattle.text_reading.specs.Parts.{PartReadable}
 
 module _ {table text : List ℕ} {from : ℕ} {bytes : List ℕ} {at : ℕ} (p : PartReadable table text from bytes at) where

@@ -10,7 +10,7 @@ use Rattle.model.specs.Layout.{sequencesRoom}
 use Rattle.model.specs.Text.{sequenceBytesIn, textRight}
 use Rattle.model.specs.Calls.{written}
 use Rattle.buffer_writes.specs.PasteLaws.{front-written}
-use Rattle.text_laws.specs.TextLaws.{text-out, read-length}
+use Rattle.laws_text.specs.TextLaws.{text-out, read-length}
 use Rattle.text_reading.specs.Parts.{TextRead}
 
 module _ {text entry : List ℕ} {size : ℕ} {exit : List ℕ} (r : TextRead text entry size exit) where

@@ -2,10 +2,10 @@
 pub mod parts;
 
 use crate::parts::read_text;
+use buffer_sizes::check_sequences_room;
 use buffer_writes::copy_at;
 use layout::SEQUENCES_ROOM;
-use message::checks::Check;
-use sizes::check_sequences_room;
+use message_header::checks::Check;
 use text_checks::answer::Conversion;
 use text_checks::check_numbers;
 use text_checks::forms::check_text;

@@ -7,8 +7,8 @@ use lib.ListN.{length, set, take, drop, getD, length-drop}
 use lib.Seq.{paste, paste-suc, length-take-le}
 use Rattle.model.specs.Layout.{sequenceSize, charactersSize}
 use Rattle.model.specs.Text.{characterOf, charactersOf}
-use Rattle.order.specs.ListLaws.{getD-part}
-use Rattle.text_laws.specs.DigitLaws.{length-characters, high-at, low-at}
+use Rattle.laws_order.specs.ListLaws.{getD-part}
+use Rattle.laws_text.specs.DigitLaws.{length-characters, high-at, low-at}
 
 module _ (sequences : List ℕ) (from : ℕ) (inside : from + sequenceSize ≤ length sequences) where
   abbrev sequence : List ℕ

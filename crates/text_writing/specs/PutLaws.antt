@@ -9,8 +9,8 @@ use Rattle.model.specs.Layout.{sequenceSize, charactersSize, textPartSize}
 use Rattle.model.specs.Text.{comma, charactersOf, textOf}
 use Rattle.model.specs.Calls.{written}
 use Rattle.buffer_writes.specs.PasteLaws.{paste-more, front-written}
-use Rattle.text_laws.specs.TextLaws.{Sequences, text-length}
-use Rattle.text_laws.specs.PlaceLaws.{characters-at, comma-at}
+use Rattle.laws_text.specs.TextLaws.{Sequences, text-length}
+use Rattle.laws_text.specs.PlaceLaws.{characters-at, comma-at}
 
 module _ (d b : List ℕ) (s : Sequences b (length b / sequenceSize)) (room : length (textOf b) ≤ length d) where
   -- the buffer with so many characters of the text

@@ -2,8 +2,8 @@
 pub mod parts;
 
 use crate::parts::put_text;
-use message::checks::Check;
-use sizes::check_text_room;
+use buffer_sizes::check_text_room;
+use message_header::checks::Check;
 use text_checks::answer::Conversion;
 use text_checks::check_numbers;
 use text_checks::forms::check_sequences;

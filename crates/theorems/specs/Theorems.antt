@@ -22,26 +22,26 @@ use Rattle.model.specs.Calls.{empty, Delivered, deliver, compose, logMessageCod
 use Rattle.model.specs.PlainStation.{receive}
 use Rattle.model_runs.specs.Run.{delivery, Agreement, Begins, Answers}
 use Rattle.model_runs.specs.RunOrder.{OrderKept}
-use Rattle.order.specs.KeyOrder.{Total}
-use Rattle.order.specs.TestLaws.{Same}
-use Rattle.order.specs.CommonLaws.{common-start, common-longest}
-use Rattle.order.specs.StepLaws.{steps-play, steps-counted, steps-fewest}
-use Rattle.laws.specs.OriginLaws.{one-origin}
-use Rattle.laws.specs.LogLaws.{key-order, keys-differ, log-is, log-only, log-of-set, log-executable, log-grounded, held-is, held-ascends, ring-held}
-use Rattle.laws.specs.EffectiveLaws.{effective-is, effective-only}
-use Rattle.wire_laws.specs.RecordLaws.{records-steps}
-use Rattle.laws.specs.ImageLaws.{image-size, state-back, log-back, held-back, image-declared, image-state}
-use Rattle.laws.specs.OffsetLaws.{offset-join, walk-offset, message-at-offset, message-placed, log-count, log-offset, message-here, log-full, offset-used}
-use Rattle.laws.specs.ValueLaws.{values-back}
-use Rattle.laws.specs.RecordRange.{records-back}
-use Rattle.laws.specs.PairLaws.{standingIn, state-pairs-play, pairs-unique}
-use Rattle.laws.specs.CodeLaws.{Above, Lowest, lowest-is, empty-code, deliver-code, compose-code, setpoint-code, deliver-refused, empty-refused, compose-refused, log-message-refused, setpoint-refused}
-use Rattle.laws.specs.DeliverLaws.{receive-valid}
-use Rattle.run_laws.specs.RunLaws.{CallFacts, call-facts, agreement}
-use Rattle.run_laws.specs.OrderRuns.{order-kept}
-use Rattle.text_laws.specs.AnswerLaws.{read-code, read-refused, write-code, write-refused}
-use Rattle.text_laws.specs.RoundTrips as trips
-use Rattle.compose_laws.specs.ComposePromise.{ComposePromise, promise-of}
+use Rattle.laws_order.specs.KeyOrder.{Total}
+use Rattle.laws_order.specs.TestLaws.{Same}
+use Rattle.laws_order.specs.CommonLaws.{common-start, common-longest}
+use Rattle.laws_order.specs.StepLaws.{steps-play, steps-counted, steps-fewest}
+use Rattle.laws_state.specs.OriginLaws.{one-origin}
+use Rattle.laws_state.specs.LogLaws.{key-order, keys-differ, log-is, log-only, log-of-set, log-executable, log-grounded, held-is, held-ascends, ring-held}
+use Rattle.laws_state.specs.EffectiveLaws.{effective-is, effective-only}
+use Rattle.laws_wire.specs.RecordLaws.{records-steps}
+use Rattle.laws_state.specs.ImageLaws.{image-size, state-back, log-back, held-back, image-declared, image-state}
+use Rattle.laws_state.specs.OffsetLaws.{offset-join, walk-offset, message-at-offset, message-placed, log-count, log-offset, message-here, log-full, offset-used}
+use Rattle.laws_state.specs.ValueLaws.{values-back}
+use Rattle.laws_state.specs.RecordRange.{records-back}
+use Rattle.laws_state.specs.PairLaws.{standingIn, state-pairs-play, pairs-unique}
+use Rattle.laws_state.specs.CodeLaws.{Above, Lowest, lowest-is, empty-code, deliver-code, compose-code, setpoint-code, deliver-refused, empty-refused, compose-refused, log-message-refused, setpoint-refused}
+use Rattle.laws_state.specs.DeliverLaws.{receive-valid}
+use Rattle.laws_run.specs.RunLaws.{CallFacts, call-facts, agreement}
+use Rattle.laws_run.specs.OrderRuns.{order-kept}
+use Rattle.laws_text.specs.AnswerLaws.{read-code, read-refused, write-code, write-refused}
+use Rattle.laws_text.specs.RoundTrips as trips
+use Rattle.laws_compose.specs.ComposePromise.{ComposePromise, promise-of}
 
 -- 1. The computed log is the declared one and the only one. A received delta is in it exactly if it is executable, and so
 -- exactly if all it needs, step by step back, was received and contains no ring; held are the others, by ascending sequence, and so

@@ -5,7 +5,7 @@ use mathlib.Core.List.{List}
 use Prim.Native.Nat.{ℕ, _+_, _/_, _%_}
 use lib.Seq.{paste}
 use Rattle.model.specs.Bytes.{bytes}
-use Rattle.buffer.specs.FieldLaws.{bytes-low}
+use Rattle.buffer_reads.specs.FieldLaws.{bytes-low}
 use Rattle.buffer_writes.specs.PasteLaws.{paste-halves}
 use borrow.Author.Needs.{needs}
 use Rattle.buffer_writes.proofs.put_u64.Statement.{statement}

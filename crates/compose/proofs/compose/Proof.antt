@@ -5,11 +5,11 @@ use lib.ListN.{length}
 use lib.Dec.{T}
 use Rattle.model.specs.Bytes.{isBytes}
 use Rattle.model.specs.Codes.{commandsSized, composeContent}
-use Rattle.order.specs.TestLaws.{true-T}
-use Rattle.buffer.specs.FieldLaws.{all-bytes}
-use Rattle.message.specs.Check.{right}
-use Rattle.judged.specs.Judging.{IsStation}
-use Rattle.judged.specs.JudgingLaws.{judges-wrong, judges-right}
+use Rattle.laws_order.specs.TestLaws.{true-T}
+use Rattle.buffer_reads.specs.FieldLaws.{all-bytes}
+use Rattle.message_header.specs.Check.{right}
+use Rattle.image_judged.specs.Judging.{IsStation}
+use Rattle.image_judged.specs.JudgingLaws.{judges-wrong, judges-right}
 use Rattle.compose_checks.specs.Checks.{sizesRight}
 use Rattle.compose_checks.specs.CheckLaws.{Sizes, sizes-out, content-given}
 use Rattle.compose.specs.ComposeCases.{sizes-case, image-case, commands-case, content-case, late-case}

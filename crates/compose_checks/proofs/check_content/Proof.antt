@@ -2,9 +2,9 @@
 use mathlib.Core.Path.{_≡_, sym, _∙_, ap}
 use mathlib.Core.Bool.{Bool, _&&_}
 use Rattle.model.specs.Codes.{composeContent}
-use Rattle.message.specs.declared.checks.Check.{Check}
-use Rattle.message.specs.Check.{right}
-use Rattle.commands.specs.CommandTests.{commandsRight}
+use Rattle.message_header.specs.declared.checks.Check.{Check}
+use Rattle.message_header.specs.Check.{right}
+use Rattle.message_commands.specs.CommandTests.{commandsRight}
 use Rattle.compose_checks.specs.CheckLaws.{content-parts}
 use borrow.Author.Needs.{needs}
 use Rattle.compose_checks.proofs.check_content.Statement.{statement}

@@ -3,8 +3,8 @@ use mathlib.Core.Path.{_≡_, sym, _∙_, ap}
 use mathlib.Core.Bool.{Bool, not, _&&_}
 use lib.Dec.{eqb, ltb}
 use Rattle.model.specs.Layout.{messageRoom, lineSize}
-use Rattle.message.specs.declared.checks.Check.{Check}
-use Rattle.message.specs.Check.{right}
+use Rattle.message_header.specs.declared.checks.Check.{Check}
+use Rattle.message_header.specs.Check.{right}
 use Rattle.compose_checks.specs.Checks.{sizesRight}
 use borrow.Author.Needs.{needs}
 use Rattle.compose_checks.proofs.check_sizes.Statement.{statement}

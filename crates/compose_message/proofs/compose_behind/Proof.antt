@@ -8,12 +8,12 @@ use Rattle.model.specs.Bytes.{number}
 use Rattle.model.specs.Message.{lineOf}
 use Rattle.model.specs.Order.{State}
 use Rattle.model.specs.Codes.{heldOn}
-use Rattle.message.specs.declared.checks.Check.{Check}
-use Rattle.message.specs.Check.{right}
-use Rattle.sequence.specs.Sequence.{sequenceNumber}
-use Rattle.table.specs.Table.{setIn}
-use Rattle.composing.specs.declared.drafting.Drafting.{Drafting}
-use Rattle.composing.specs.Drafting.{Drafts}
+use Rattle.message_header.specs.declared.checks.Check.{Check}
+use Rattle.message_header.specs.Check.{right}
+use Rattle.message_sequence.specs.Sequence.{sequenceNumber}
+use Rattle.set_table.specs.Table.{setIn}
+use Rattle.compose_draft.specs.declared.drafting.Drafting.{Drafting}
+use Rattle.compose_draft.specs.Drafting.{Drafts}
 use Rattle.compose_message.specs.StageLaws.{line-back, held-case, past-case, draft-case}
 use borrow.Author.Needs.{needs}
 use Rattle.compose_message.proofs.compose_behind.Statement.{statement}

@@ -6,8 +6,8 @@ use Prim.Native.Nat.{ℕ}
 use Rattle.model.specs.Lists.{same}
 use Rattle.model.specs.Message.{sequenceOf}
 use Rattle.model.specs.Codes.{conflicts}
-use Rattle.table.specs.Table.{setIn}
-use Rattle.table.specs.Places.{IsPresent, Finds}
+use Rattle.set_table.specs.Table.{setIn}
+use Rattle.set_table.specs.Places.{IsPresent, Finds}
 use Rattle.deliver_checks.specs.RepeatLaws.{present-conflicts, absent-conflicts}
 use borrow.Author.Needs.{needs}
 use Rattle.deliver_checks.proofs.check_repeat.Statement.{statement}

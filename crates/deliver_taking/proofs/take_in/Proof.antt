@@ -7,11 +7,11 @@ use lib.Seq.{length-take-le}
 use borrow.Author.Tests.{ltb-true}
 use Rattle.model.specs.Layout.{capacity}
 use Rattle.model.specs.Message.{sequenceOf}
-use Rattle.wire_laws.specs.MessageLaws.{passes-sized, sized-range}
-use Rattle.message.specs.Check.{right}
-use Rattle.code_ladder.specs.Ladder.{tells}
-use Rattle.table.specs.Table.{startsOf}
-use Rattle.table.specs.Places.{IsAbsent, Finds}
+use Rattle.laws_wire.specs.MessageLaws.{passes-sized, sized-range}
+use Rattle.message_header.specs.Check.{right}
+use Rattle.laws_codes.specs.Ladder.{tells}
+use Rattle.set_table.specs.Table.{startsOf}
+use Rattle.set_table.specs.Places.{IsAbsent, Finds}
 use Rattle.deliver_taking.specs.PlaceCases.{conflict, repeated, filled, joins}
 use borrow.Author.Needs.{needs}
 use Rattle.deliver_taking.proofs.take_in.Statement.{statement}

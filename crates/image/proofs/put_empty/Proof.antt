@@ -9,8 +9,8 @@ use Rattle.model.specs.Layout.{imageSize}
 use Rattle.model.specs.Order.{State}
 use Rattle.model.specs.Image.{usedOf, imageOf, originIn}
 use Rattle.model.specs.Calls.{emptyState}
-use Rattle.laws.specs.ImageLaws.{used-fits}
-use Rattle.table.specs.Table.{setIn}
+use Rattle.laws_state.specs.ImageLaws.{used-fits}
+use Rattle.set_table.specs.Table.{setIn}
 use Rattle.image_sections.specs.LogPlaceLaws.{empty-log}
 use Rattle.image_sections.specs.SectionLaws.{used-cleared}
 use Rattle.image.proofs.put_empty.Statement.{statement}

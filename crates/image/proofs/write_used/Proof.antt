@@ -8,11 +8,11 @@ use borrow.Author.Needs.{needs}
 use Rattle.model.specs.Layout.{imageSize, capacity, setpointsStart}
 use Rattle.model.specs.Order.{State}
 use Rattle.model.specs.Image.{messagesStart, messagesOf}
-use Rattle.laws.specs.ImageLaws.{messages-room}
-use Rattle.table.specs.Table.{setIn}
-use Rattle.table.specs.StartLaws.{start-in}
+use Rattle.laws_state.specs.ImageLaws.{messages-room}
+use Rattle.set_table.specs.Table.{setIn}
+use Rattle.set_table.specs.StartLaws.{start-in}
 use Rattle.image_sections.specs.LogPlaces.{othersBelow, LogPlaces}
-use Rattle.table.specs.TableLaws.{table-count}
+use Rattle.set_table.specs.TableLaws.{table-count}
 use Rattle.image_sections.specs.LogPlaceLaws.{log-inside, log-count, log-fits, log-values}
 use Rattle.image_sections.specs.HeldLaws.{others-length, others-count}
 use Rattle.image_header.specs.Pieces.{pasted, Copied}

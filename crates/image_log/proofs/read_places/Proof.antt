@@ -6,11 +6,11 @@ use native.Mathlib.Omega.{arith}
 use borrow.Author.Needs.{needs}
 use Rattle.model.specs.Layout.{capacity, sequenceAt, sequenceSize}
 use Rattle.model.specs.Message.{sequenceOf}
-use Rattle.sequence.specs.Sequence.{sequenceNumber}
-use Rattle.table.specs.declared.places.Place.{Place}
-use Rattle.table.specs.Table.{messageFrom}
-use Rattle.table.specs.TableLaws.{Lies, passes-lies}
-use Rattle.table.specs.Places.{IsPresent, Finds}
+use Rattle.message_sequence.specs.Sequence.{sequenceNumber}
+use Rattle.set_table.specs.declared.places.Place.{Place}
+use Rattle.set_table.specs.Table.{messageFrom}
+use Rattle.set_table.specs.TableLaws.{Lies, passes-lies}
+use Rattle.set_table.specs.Places.{IsPresent, Finds}
 use Rattle.image_log.specs.LogRead.{LogReading}
 use Rattle.image_log.specs.LogReadLaws.{reading-none, reading-end, next-passes, not-absent, place-small, reading-more}
 use Rattle.image_log.proofs.read_places.Statement.{statement}

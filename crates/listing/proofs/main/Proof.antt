@@ -4,7 +4,7 @@ use Prim.Native.Nat.{ℕ, _≤_}
 use native.Mathlib.Nat.{le-of-lt}
 use lib.ListN.{length}
 use lib.Seq.{length-take-le}
-use Rattle.standard_input.specs.Reading.{InputFits}
+use Rattle.program_input.specs.Reading.{InputFits}
 use borrow.Author.Needs.{needs}
 use Rattle.listing.proofs.main.Statement.{statement}
 use Rattle.listing.proofs.main.Tie as tie

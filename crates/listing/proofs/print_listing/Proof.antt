@@ -1,5 +1,5 @@
 -- The listing lies within the buffer.
-use Rattle.decimal.specs.Front.{prints-counts}
+use Rattle.program_decimal.specs.Front.{prints-counts}
 use borrow.Author.Needs.{needs}
 use Rattle.listing.proofs.print_listing.Statement.{statement}
 use Rattle.listing.proofs.print_listing.Tie as tie

@@ -7,10 +7,10 @@ use lib.ListN.{length, getD, set, length-map}
 use native.Mathlib.Omega.{arith}
 use borrow.Author.Needs.{needs}
 use borrow.Author.Tests.{not-true, not-false}
-use Rattle.order.specs.ListLaws.{getD-∈}
-use Rattle.table.specs.Table.{messageFrom, setIn}
-use Rattle.needs.specs.RowLaws.{rows-fit}
-use Rattle.ready.specs.Ready.{readyIn}
+use Rattle.laws_order.specs.ListLaws.{getD-∈}
+use Rattle.set_table.specs.Table.{messageFrom, setIn}
+use Rattle.set_needs.specs.RowLaws.{rows-fit}
+use Rattle.set_readiness.specs.Ready.{readyIn}
 use Rattle.log_check.specs.Above.{Above}
 use Rattle.log_check.specs.Waiting.{readyFrom, AnyReady}
 use Rattle.log_check.specs.Checking.{Checking}

@@ -1,5 +1,5 @@
 -- What is printed lies within the buffer.
-use Rattle.decimal.specs.Front.{prints-counts}
+use Rattle.program_decimal.specs.Front.{prints-counts}
 use borrow.Author.Needs.{needs}
 use Rattle.print_log.proofs.print_log.Statement.{statement}
 use Rattle.print_log.proofs.print_log.Tie as tie

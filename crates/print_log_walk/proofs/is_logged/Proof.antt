@@ -2,7 +2,7 @@
 use mathlib.Core.Path.{sym, _∙_, ap}
 use Prim.Native.Nat.{ℕ}
 use lib.Dec.{eqb}
-use Rattle.reading.specs.Answers.{lookupBy}
+use Rattle.read_calls.specs.Answers.{lookupBy}
 use borrow.Author.Needs.{needs}
 use Rattle.print_log_walk.proofs.is_logged.Statement.{statement}
 use Rattle.print_log_walk.proofs.is_logged.Tie as tie

@@ -9,7 +9,7 @@ use Rattle.model.specs.Message.{Message, layoutRight}
 use Rattle.model.specs.Image.{logCount}
 use Rattle.model.specs.Calls.{logMessageCode}
 use Rattle.model.specs.Program.{logLine}
-use Rattle.decimal.specs.Puts.{Puts}
+use Rattle.program_decimal.specs.Puts.{Puts}
 use Rattle.print_log_line.specs.Rooms.{lineRoom}
 use Rattle.print_log_walk.specs.Printing.{Printing}
 use Rattle.print_log_walk.specs.CodeLaws.{code-found, code-ended}

@@ -4,7 +4,7 @@ use native.Mathlib.Omega.{arith}
 use lib.ListN.{length, getD}
 use borrow.Author.Needs.{needs}
 use Rattle.model.specs.Image.{logCount}
-use Rattle.table.specs.TableLaws.{Lies}
+use Rattle.set_table.specs.TableLaws.{Lies}
 use Rattle.read_search.specs.Finding.{Looking}
 use Rattle.read_search.specs.FindingLaws.{looking-first, looking-end, lies, looking-here, looking-on}
 use Rattle.read_search.proofs.find_message.Statement.{statement}

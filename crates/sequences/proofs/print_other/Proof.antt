@@ -7,7 +7,7 @@ use lib.Seq.{length-take-le}
 use borrow.Author.Needs.{needs}
 use Rattle.text_checks.specs.declared.answer.Conversion.{Conversion}
 use Rattle.text_checks.specs.Answer.{convertedBy}
-use Rattle.text_forms.specs.FormCases.{put-inside}
+use Rattle.sequences_forms.specs.FormCases.{put-inside}
 use Rattle.sequences.proofs.print_other.Statement.{statement}
 use Rattle.sequences.proofs.print_other.Tie as tie
 

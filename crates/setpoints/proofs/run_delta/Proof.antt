@@ -6,7 +6,7 @@ use lib.ListN.{length, take, drop, length-drop}
 use lib.Seq.{take-all}
 use borrow.Author.Needs.{needs}
 use Rattle.model.specs.Message.{Message, dependencyCount, commandsStart}
-use Rattle.wire_laws.specs.MessageLaws.{Sized, passes-sized}
+use Rattle.laws_wire.specs.MessageLaws.{Sized, passes-sized}
 use Rattle.setpoints.specs.DeltaLaws.{delta-count, delta-run, delta-changes}
 use Rattle.setpoints.proofs.run_delta.Statement.{statement}
 use Rattle.setpoints.proofs.run_delta.Tie as tie

@@ -7,8 +7,8 @@ use lib.ListN.{replicate}
 use lib.Seq.{paste}
 use Rattle.model.specs.Bytes.{bytes}
 use Rattle.model.specs.Layout.{sequenceSize, pairCountSize, pairsAt, pairSize, pairsSize}
-use Rattle.wire_laws.specs.MessageLaws.{Sized, passes-sized}
-use Rattle.sequence.specs.Sequence.{sequenceNumber}
+use Rattle.laws_wire.specs.MessageLaws.{Sized, passes-sized}
+use Rattle.message_sequence.specs.Sequence.{sequenceNumber}
 use Rattle.step_records.specs.Frame.{framed}
 use Rattle.step_records.specs.FrameLaws.{kind-bytes}
 use borrow.Author.Needs.{needs}

@@ -6,7 +6,7 @@ use native.Mathlib.Omega.{arith}
 use lib.Seq.{paste}
 use Rattle.model.specs.Bytes.{bytes}
 use Rattle.model.specs.Layout.{stepSequenceAt, sequenceSize}
-use Rattle.sequence.specs.Sequence.{sequenceNumber}
+use Rattle.message_sequence.specs.Sequence.{sequenceNumber}
 use Rattle.buffer_writes.specs.PasteLaws.{paste-paste}
 use borrow.Author.Needs.{needs}
 use Rattle.step_records.proofs.put_head.Statement.{statement}

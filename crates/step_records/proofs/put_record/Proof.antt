@@ -4,7 +4,7 @@ use Prim.Native.Nat.{ℕ}
 use native.Mathlib.Omega.{arith}
 use lib.ListN.{length, take}
 use Rattle.model.specs.Layout.{mostCommands}
-use Rattle.wire_laws.specs.MessageLaws.{Sized, passes-sized}
+use Rattle.laws_wire.specs.MessageLaws.{Sized, passes-sized}
 use Rattle.setpoints_changes.specs.Changes.{changesIn, Room}
 use Rattle.step_records.specs.RecordLaws.{record-written}
 use borrow.Author.Needs.{needs}

@@ -12,8 +12,8 @@ use Rattle.model.specs.Bytes.{number, field}
 use Rattle.model.specs.Layout.{sequenceSize}
 use Rattle.model.specs.Message.{numberOf, numbered}
 use Rattle.model.specs.Text.{sequenceParts, allNumbered}
-use Rattle.order.specs.ScanLaws.{every-step, every-end}
-use Rattle.wire_laws.specs.BytesLaws.{length-parts, parts-at}
+use Rattle.laws_order.specs.ScanLaws.{every-step, every-end}
+use Rattle.laws_wire.specs.BytesLaws.{length-parts, parts-at}
 use Rattle.text_checks.proofs.check_numbers.Statement.{statement}
 use Rattle.text_checks.proofs.check_numbers.Tie as tie
 

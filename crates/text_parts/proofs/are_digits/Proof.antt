@@ -11,8 +11,8 @@ use borrow.Author.Needs.{needs}
 use Rattle.model.specs.Lists.{every}
 use Rattle.model.specs.Layout.{charactersSize}
 use Rattle.model.specs.Text.{noDigit, isDigit}
-use Rattle.order.specs.ListLaws.{getD-part}
-use Rattle.order.specs.ScanLaws.{every-step, every-end}
+use Rattle.laws_order.specs.ListLaws.{getD-part}
+use Rattle.laws_order.specs.ScanLaws.{every-step, every-end}
 use Rattle.text_parts.proofs.are_digits.Statement.{statement}
 use Rattle.text_parts.proofs.are_digits.Tie as tie
 

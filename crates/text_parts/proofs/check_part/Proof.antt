@@ -10,7 +10,7 @@ use borrow.Author.Tests.{eq-eqb, ne-eqb, not-true, not-false}
 use borrow.Author.Needs.{needs}
 use Rattle.model.specs.Layout.{charactersSize, textPartSize}
 use Rattle.model.specs.Text.{comma, textPartRight}
-use Rattle.text_laws.specs.PartLaws.{part-is, comma-put, comma-there}
+use Rattle.laws_text.specs.PartLaws.{part-is, comma-put, comma-there}
 use Rattle.text_parts.proofs.check_part.Statement.{statement}
 use Rattle.text_parts.proofs.check_part.Tie as tie
 

@@ -12,10 +12,10 @@ use borrow.Author.Needs.{needs}
 use Rattle.model.specs.Layout.{sequencesRoom}
 use Rattle.model.specs.Text.{sequenceBytesIn, textRight, allNumbered}
 use Rattle.model.specs.Codes.{readSequencesConditions}
-use Rattle.order.specs.TestLaws.{true-T}
-use Rattle.message.specs.Check.{right}
-use Rattle.code_ladder.specs.Ladder.{Passed, tells, none, met, free, fails, passes}
-use Rattle.text_laws.specs.AnswerLaws.{read-told}
+use Rattle.laws_order.specs.TestLaws.{true-T}
+use Rattle.message_header.specs.Check.{right}
+use Rattle.laws_codes.specs.Ladder.{Passed, tells, none, met, free, fails, passes}
+use Rattle.laws_text.specs.AnswerLaws.{read-told}
 use Rattle.text_reading.specs.ReadCases.{size-most, exit-length, bytes-are, copied}
 use Rattle.text_reading.proofs.read_sequences.Statement.{statement}
 use Rattle.text_reading.proofs.read_sequences.Tie as tie

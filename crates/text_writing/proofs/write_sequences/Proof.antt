@@ -10,10 +10,10 @@ use borrow.Author.Needs.{needs}
 use Rattle.model.specs.Layout.{textRoom}
 use Rattle.model.specs.Text.{sequencesRight}
 use Rattle.model.specs.Codes.{writeSequencesConditions}
-use Rattle.order.specs.TestLaws.{true-T}
-use Rattle.message.specs.Check.{right}
-use Rattle.code_ladder.specs.Ladder.{Passed, tells, none, met, free, fails, passes}
-use Rattle.text_laws.specs.AnswerLaws.{write-told}
+use Rattle.laws_order.specs.TestLaws.{true-T}
+use Rattle.message_header.specs.Check.{right}
+use Rattle.laws_codes.specs.Ladder.{Passed, tells, none, met, free, fails, passes}
+use Rattle.laws_text.specs.AnswerLaws.{write-told}
 use Rattle.text_writing.proofs.write_sequences.Statement.{statement}
 use Rattle.text_writing.proofs.write_sequences.Tie as tie
 

@@ -2,11 +2,11 @@
 use mathlib.Core.Path.{_≡_, refl, sym, _∙_, ap}
 use Prim.Native.Nat.{ℕ}
 use borrow.Author.Needs.{needs}
-use Rattle.reading.specs.declared.answer.Located.{Located}
-use Rattle.reading.specs.declared.answer.Located.the-variants as located
-use Rattle.reading.specs.Answers.{partBy}
-use Rattle.packing.specs.ReadAnswers.{partNumber, AnswersLogMessage}
-use Rattle.packing.specs.ReadAnswerLaws.{part-small, answers-log-message}
+use Rattle.read_calls.specs.declared.answer.Located.{Located}
+use Rattle.read_calls.specs.declared.answer.Located.the-variants as located
+use Rattle.read_calls.specs.Answers.{partBy}
+use Rattle.bivamolune_packing.specs.ReadAnswers.{partNumber, AnswersLogMessage}
+use Rattle.bivamolune_packing.specs.ReadAnswerLaws.{part-small, answers-log-message}
 use Rattle.bivamolune.proofs.reads.bivamolune_log_message.Statement.{statement}
 use Rattle.bivamolune.proofs.reads.bivamolune_log_message.Tie as tie
 

@@ -5,11 +5,11 @@ use borrow.Author.Needs.{needs}
 use mir.Syntax.{w32}
 use mir.Facts.{toZ-ofZ}
 use Rattle.model.specs.Calls.{setpoint}
-use Rattle.reading.specs.declared.answer.Reading.{Reading}
-use Rattle.reading.specs.declared.answer.Reading.the-variants as reading
-use Rattle.reading.specs.Answers.{setpointBy}
-use Rattle.packing.specs.ReadAnswers.{valueNumber, AnswersSetpoint}
-use Rattle.packing.specs.ReadAnswerLaws.{read-fits, answers-setpoint}
+use Rattle.read_calls.specs.declared.answer.Reading.{Reading}
+use Rattle.read_calls.specs.declared.answer.Reading.the-variants as reading
+use Rattle.read_calls.specs.Answers.{setpointBy}
+use Rattle.bivamolune_packing.specs.ReadAnswers.{valueNumber, AnswersSetpoint}
+use Rattle.bivamolune_packing.specs.ReadAnswerLaws.{read-fits, answers-setpoint}
 use Rattle.bivamolune.proofs.reads.bivamolune_setpoint.Statement.{statement}
 use Rattle.bivamolune.proofs.reads.bivamolune_setpoint.Tie as tie
 

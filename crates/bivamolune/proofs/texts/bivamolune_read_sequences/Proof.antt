@@ -1,8 +1,8 @@
 -- The number that is answered is that of what the reader answered, whose length is small.
 use native.Mathlib.Omega.{arith}
 use Rattle.model.specs.Calls.{readSequences}
-use Rattle.text_laws.specs.RoundTrips.{read-short}
-use Rattle.packing.specs.TextAnswerLaws.{short, converts}
+use Rattle.laws_text.specs.RoundTrips.{read-short}
+use Rattle.bivamolune_packing.specs.TextAnswerLaws.{short, converts}
 use borrow.Author.Needs.{needs}
 use Rattle.bivamolune.proofs.texts.bivamolune_read_sequences.Statement.{statement}
 use Rattle.bivamolune.proofs.texts.bivamolune_read_sequences.Tie as tie

@@ -1,7 +1,7 @@
 -- The number that is answered is that of what the writer answered, whose length is small.
 use Rattle.model.specs.Calls.{writeSequences}
-use Rattle.text_laws.specs.RoundTrips.{write-short}
-use Rattle.packing.specs.TextAnswerLaws.{short, converts}
+use Rattle.laws_text.specs.RoundTrips.{write-short}
+use Rattle.bivamolune_packing.specs.TextAnswerLaws.{short, converts}
 use borrow.Author.Needs.{needs}
 use Rattle.bivamolune.proofs.texts.bivamolune_write_sequences.Statement.{statement}
 use Rattle.bivamolune.proofs.texts.bivamolune_write_sequences.Tie as tie

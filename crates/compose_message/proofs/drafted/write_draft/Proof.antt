@@ -4,9 +4,9 @@ use Prim.Native.Nat.{_≤_}
 use lib.ListN.{length}
 use borrow.Author.Tests.{leb-true, leb-false, lt-ltb, le-ltb}
 use Rattle.model.specs.Layout.{capacity, mostDependencies}
-use Rattle.message.specs.Check.{right}
-use Rattle.sequence.specs.Sequence.{sequenceNumber}
-use Rattle.table.specs.Table.{setIn}
+use Rattle.message_header.specs.Check.{right}
+use Rattle.message_sequence.specs.Sequence.{sequenceNumber}
+use Rattle.set_table.specs.Table.{setIn}
 use Rattle.compose_message.specs.Stages.{namesOf}
 use Rattle.compose_message.specs.StageLaws.{found-counted, by-count}
 use borrow.Author.Needs.{needs}

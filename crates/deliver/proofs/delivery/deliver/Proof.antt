@@ -12,12 +12,12 @@ use Rattle.model.specs.Image.{stateIn, isImage}
 use Rattle.model.specs.Codes.{Conditions, smallSteps, deliverConditions}
 use Rattle.model.specs.Calls as model
 use Rattle.model.specs.Calls.{deliverAnswer}
-use Rattle.order.specs.TestLaws.{true-T}
-use Rattle.message.specs.Check.{right}
-use Rattle.parse.specs.PassLaws.{sized, passes-by}
-use Rattle.judged.specs.Judging.{IsStation, Copies}
-use Rattle.judged.specs.JudgingLaws.{judges-right, judgement}
-use Rattle.code_ladder.specs.Ladder.{Answers, Passed, tells, met, free, fails, passes, either}
+use Rattle.laws_order.specs.TestLaws.{true-T}
+use Rattle.message_header.specs.Check.{right}
+use Rattle.message_checks.specs.PassLaws.{sized, passes-by}
+use Rattle.image_judged.specs.Judging.{IsStation, Copies}
+use Rattle.image_judged.specs.JudgingLaws.{judges-right, judgement}
+use Rattle.laws_codes.specs.Ladder.{Answers, Passed, tells, met, free, fails, passes, either}
 use Rattle.deliver_taking.specs.DeliverCases.{answered}
 use borrow.Author.Needs.{needs}
 use Rattle.deliver.proofs.delivery.deliver.Statement.{statement}

@@ -7,7 +7,7 @@ use native.Mathlib.Omega.{arith}
 use borrow.Author.Needs.{needs}
 use borrow.Author.Tests.{eq-eqb, ne-eqb}
 use Rattle.model.specs.Lists.{has}
-use Rattle.order.specs.ScanLaws.{has-step, has-end}
+use Rattle.laws_order.specs.ScanLaws.{has-step, has-end}
 use Rattle.image_sections.proofs.held.is_among.Statement.{statement}
 use Rattle.image_sections.proofs.held.is_among.Tie as tie
 

@@ -11,9 +11,9 @@ use borrow.Author.Needs.{needs}
 use Rattle.model.specs.Bytes.{join}
 use Rattle.model.specs.Message.{Message}
 use Rattle.model.specs.Image.{offsetOf}
-use Rattle.order.specs.ListLaws.{getD-map, drop-map}
-use Rattle.laws.specs.OffsetLaws.{offset-first, offset-next, offset-left}
-use Rattle.table.specs.Table.{deltasOf, deltasAt}
+use Rattle.laws_order.specs.ListLaws.{getD-map, drop-map}
+use Rattle.laws_state.specs.OffsetLaws.{offset-first, offset-next, offset-left}
+use Rattle.set_table.specs.Table.{deltasOf, deltasAt}
 use Rattle.image_sections.specs.LogPlaceLaws.{place-inside, next-message, no-message}
 use Rattle.image_header.specs.Pieces.{pasted}
 use Rattle.image_header.specs.PieceLaws.{pasted-pasted}

@@ -6,7 +6,7 @@ use native.Mathlib.Omega.{arith}
 use lib.ListN.{length, length-append}
 use borrow.Author.Needs.{needs}
 use Rattle.model.specs.Bytes.{join}
-use Rattle.table.specs.Table.{deltasOf, deltasAt}
+use Rattle.set_table.specs.Table.{deltasOf, deltasAt}
 use Rattle.image_sections.specs.LogPlaces.{TablePlaces}
 use Rattle.image_sections.specs.LogPlaceLaws.{log-inside}
 use Rattle.image_sections.specs.HeldLaws.{others-inside}

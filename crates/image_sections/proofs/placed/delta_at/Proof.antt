@@ -5,8 +5,8 @@ use Prim.Native.Nat.{ℕ}
 use native.Mathlib.Omega.{arith}
 use lib.ListN.{getD}
 use borrow.Author.Needs.{needs}
-use Rattle.order.specs.ListLaws.{getD-map}
-use Rattle.table.specs.Table.{deltasOf}
+use Rattle.laws_order.specs.ListLaws.{getD-map}
+use Rattle.set_table.specs.Table.{deltasOf}
 use Rattle.image_sections.specs.LogPlaceLaws.{place-inside}
 use Rattle.image_sections.proofs.placed.delta_at.Statement.{statement}
 use Rattle.image_sections.proofs.placed.delta_at.Tie as tie

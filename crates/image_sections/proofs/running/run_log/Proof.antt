@@ -7,7 +7,7 @@ use lib.ListN.{length, drop}
 use borrow.Author.Needs.{needs}
 use Rattle.model.specs.Message.{Message}
 use Rattle.model.specs.Setpoints.{runDelta, runLog}
-use Rattle.table.specs.Table.{deltasOf, deltasAt}
+use Rattle.set_table.specs.Table.{deltasOf, deltasAt}
 use Rattle.image_sections.specs.LogPlaceLaws.{deltas-count, delta-passes, next-delta, no-delta}
 use Rattle.image_sections.proofs.running.run_log.Statement.{statement}
 use Rattle.image_sections.proofs.running.run_log.Tie as tie

@@ -1,6 +1,6 @@
 -- The last line stands behind the line of the wrong cut.
 use native.Mathlib.Omega.{arith}
-use Rattle.decimal.specs.PutsLaws.{puts-puts}
+use Rattle.program_decimal.specs.PutsLaws.{puts-puts}
 use borrow.Author.Needs.{needs}
 use Rattle.listing_lines.proofs.printing.put_wrong_cut.Statement.{statement}
 use Rattle.listing_lines.proofs.printing.put_wrong_cut.Tie as tie

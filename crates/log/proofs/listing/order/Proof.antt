@@ -8,12 +8,12 @@ use native.Mathlib.Omega.{arith}
 use borrow.Author.Needs.{needs}
 use Rattle.model.specs.Layout.{capacity}
 use Rattle.model.specs.Order.{State}
-use Rattle.table.specs.Table.{setIn}
-use Rattle.table.specs.TableLaws.{deltas-length}
-use Rattle.needs.specs.RowLaws.{rows-fit}
+use Rattle.set_table.specs.Table.{setIn}
+use Rattle.set_table.specs.TableLaws.{deltas-length}
+use Rattle.set_needs.specs.RowLaws.{rows-fit}
 use Rattle.log.specs.declared.next.Next.the-variants.{At}
-use Rattle.sorting.specs.Sorted.{Sorted}
-use Rattle.sorting.specs.SortedLaws.{sorted-take}
+use Rattle.log_sorting.specs.Sorted.{Sorted}
+use Rattle.log_sorting.specs.SortedLaws.{sorted-take}
 use Rattle.log.specs.Next.{Lookable, Skips, NextRight}
 use Rattle.log.specs.NextLaws.{skips-on, skips-marked, next-right}
 use Rattle.log.specs.Ordered.{Growing}

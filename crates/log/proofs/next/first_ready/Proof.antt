@@ -4,7 +4,7 @@ use mathlib.Core.Path.{_≡_, refl, sym, _∙_}
 use mathlib.Core.Bool.{false}
 use lib.ListN.{length, getD}
 use native.Mathlib.Omega.{arith}
-use Rattle.ready.specs.Ready.{readyIn}
+use Rattle.set_readiness.specs.Ready.{readyIn}
 use Rattle.log.specs.NextLaws.{one-more}
 use Rattle.log.proofs.next.first_ready.Statement.{statement}
 use Rattle.log.proofs.next.first_ready.Tie as tie

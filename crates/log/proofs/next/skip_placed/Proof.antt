@@ -5,7 +5,7 @@ use mathlib.Core.Bool.{true, not}
 use lib.ListN.{length, getD}
 use native.Mathlib.Omega.{arith}
 use borrow.Author.Tests.{ne-eqb}
-use Rattle.ready.specs.Ready.{isPlaced}
+use Rattle.set_readiness.specs.Ready.{isPlaced}
 use Rattle.log.specs.NextLaws.{one-more}
 use Rattle.log.proofs.next.skip_placed.Statement.{statement}
 use Rattle.log.proofs.next.skip_placed.Tie as tie

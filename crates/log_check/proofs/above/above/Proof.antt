@@ -9,9 +9,9 @@ use lib.Dec.{T, eqb, eqb→eq, ltb, ltb→lt, nltb→le}
 use native.Mathlib.Omega.{arith}
 use borrow.Author.Tests.{not-true, not-false}
 use Rattle.model.specs.Order.{less}
-use Rattle.order.specs.TestLaws.{decide, not-eqb}
-use Rattle.order.specs.KeyOrder.{less-total}
-use Rattle.key.specs.Key.{HasKey}
+use Rattle.laws_order.specs.TestLaws.{decide, not-eqb}
+use Rattle.laws_order.specs.KeyOrder.{less-total}
+use Rattle.log_key.specs.Key.{HasKey}
 use Rattle.log_check.specs.Above.{keyAt, Comparable}
 use Rattle.log_check.proofs.above.above.Statement.{statement}
 use Rattle.log_check.proofs.above.above.Tie as tie

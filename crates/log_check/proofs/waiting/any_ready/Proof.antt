@@ -4,7 +4,7 @@ use mathlib.Core.Path.{_≡_, sym, _∙_}
 use mathlib.Core.Bool.{false}
 use native.Mathlib.Omega.{arith}
 use borrow.Author.Count.{below-more}
-use Rattle.ready.specs.Ready.{readyIn}
+use Rattle.set_readiness.specs.Ready.{readyIn}
 use Rattle.log_check.proofs.waiting.any_ready.Statement.{statement}
 use Rattle.log_check.proofs.waiting.any_ready.Tie as tie
 

@@ -1,6 +1,6 @@
 -- A word below 2147483648 is its own value; of another, what it lacks to 4294967296 stands behind `-`.
 use native.Mathlib.Omega.{arith}
-use Rattle.decimal.specs.PutsLaws.{puts-within}
+use Rattle.program_decimal.specs.PutsLaws.{puts-within}
 use Rattle.print_log_commands.specs.ValueLaws.{value-positive, value-negative}
 use borrow.Author.Needs.{needs}
 use Rattle.print_log_commands.proofs.value.put_value.Statement.{statement}

@@ -1,6 +1,6 @@
 -- The four fields with the spaces between them are the line's head.
 use native.Mathlib.Omega.{arith}
-use Rattle.decimal.specs.PutsLaws.{puts-puts}
+use Rattle.program_decimal.specs.PutsLaws.{puts-puts}
 use borrow.Author.Needs.{needs}
 use Rattle.print_log_line.proofs.line.put_head.Statement.{statement}
 use Rattle.print_log_line.proofs.line.put_head.Tie as tie

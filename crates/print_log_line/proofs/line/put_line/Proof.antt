@@ -3,7 +3,7 @@ use Prim.Native.Nat.{_+_, _*_, _-_, _≤_}
 use native.Mathlib.Omega.{arith}
 use lib.ListN.{length, drop, length-take, length-drop}
 use Rattle.model.specs.Layout.{headerSize, commandSize}
-use Rattle.wire_laws.specs.MessageLaws.{Sized, layout-sized, sized-range}
+use Rattle.laws_wire.specs.MessageLaws.{Sized, layout-sized, sized-range}
 use Rattle.print_log_line.specs.LineLaws.{line-puts}
 use borrow.Author.Needs.{needs}
 use Rattle.print_log_line.proofs.line.put_line.Statement.{statement}

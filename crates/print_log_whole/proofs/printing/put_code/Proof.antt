@@ -1,6 +1,6 @@
 -- The line feed stands behind the digits.
 use native.Mathlib.Omega.{arith}
-use Rattle.decimal.specs.PutsLaws.{puts-puts}
+use Rattle.program_decimal.specs.PutsLaws.{puts-puts}
 use borrow.Author.Needs.{needs}
 use Rattle.print_log_whole.proofs.printing.put_code.Statement.{statement}
 use Rattle.print_log_whole.proofs.printing.put_code.Tie as tie

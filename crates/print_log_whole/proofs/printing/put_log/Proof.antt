@@ -3,7 +3,7 @@ use mathlib.Core.Path.{_≡_, sym, _∙_, ap}
 use native.Mathlib.Omega.{arith}
 use Rattle.model.specs.Codes.{lowestCode, readConditions}
 use Rattle.model.specs.Calls.{logMessageCode}
-use Rattle.reading.specs.Answers.{lookupBy}
+use Rattle.read_calls.specs.Answers.{lookupBy}
 use Rattle.print_log_walk.specs.CodeLaws.{code-found, code-past, code-refused}
 use Rattle.print_log_whole.specs.AnswerLaws.{prints-lines, prints-code, prints-nothing}
 use borrow.Author.Needs.{needs}

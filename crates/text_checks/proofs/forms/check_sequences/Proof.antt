@@ -2,7 +2,7 @@
 use borrow.Author.Needs.{needs}
 use Rattle.model.specs.Layout.{sequenceSize, sequencesRoom}
 use Rattle.model.specs.Text.{sequencesRight}
-use Rattle.sizes.specs.Pieces.{slice-pieces}
+use Rattle.buffer_sizes.specs.Pieces.{slice-pieces}
 use Rattle.text_checks.proofs.forms.check_sequences.Statement.{statement}
 use Rattle.text_checks.proofs.forms.check_sequences.Tie as tie
 

@@ -9,9 +9,9 @@ use borrow.Author.Needs.{needs}
 use Rattle.model.specs.Lists.{every}
 use Rattle.model.specs.Layout.{textPartSize}
 use Rattle.model.specs.Text.{comma, textParts, textPartRight, textRight}
-use Rattle.order.specs.ScanLaws.{every-end}
-use Rattle.wire_laws.specs.BytesLaws.{length-parts}
-use Rattle.message.specs.Check.{right}
+use Rattle.laws_order.specs.ScanLaws.{every-end}
+use Rattle.laws_wire.specs.BytesLaws.{length-parts}
+use Rattle.message_header.specs.Check.{right}
 use Rattle.text_checks.specs.FormLaws.{text-wrong, text-sized, part-step}
 use Rattle.text_checks.proofs.forms.check_text.Statement.{statement}
 use Rattle.text_checks.proofs.forms.check_text.Tie as tie

@@ -9,8 +9,8 @@ use borrow.Author.Needs.{needs}
 use Rattle.model.specs.Layout.{sequenceSize, charactersSize, textPartSize}
 use Rattle.model.specs.Text.{bytesIn, sequenceBytesIn}
 use Rattle.buffer_writes.specs.PasteLaws.{paste-more}
-use Rattle.text_laws.specs.TextLaws.{Text, text-out, read-length}
-use Rattle.text_laws.specs.PlaceLaws.{digits-at, bytes-at}
+use Rattle.laws_text.specs.TextLaws.{Text, text-out, read-length}
+use Rattle.laws_text.specs.PlaceLaws.{digits-at, bytes-at}
 use Rattle.text_reading.proofs.parts.read_text.Statement.{statement}
 use Rattle.text_reading.proofs.parts.read_text.Tie as tie
 

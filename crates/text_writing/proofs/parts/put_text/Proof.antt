@@ -9,7 +9,7 @@ use borrow.Author.Needs.{needs}
 use Rattle.model.specs.Layout.{sequenceSize, charactersSize, textPartSize}
 use Rattle.model.specs.Text.{comma, charactersOf, textOf}
 use Rattle.model.specs.Calls.{written}
-use Rattle.text_laws.specs.TextLaws.{Sequences, sized-out, text-length}
+use Rattle.laws_text.specs.TextLaws.{Sequences, sized-out, text-length}
 use Rattle.text_writing.specs.PutLaws.{characters-more, comma-more, size-is, all-put, length-written}
 use Rattle.text_writing.proofs.parts.put_text.Statement.{statement}
 use Rattle.text_writing.proofs.parts.put_text.Tie as tie

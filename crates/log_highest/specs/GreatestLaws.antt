@@ -1,0 +1,20 @@
+-- The greatest over a list, taken one item at a time, and over a list that is mapped.
+use mathlib.Core.Path.{_≡_, refl, ap}
+use mathlib.Core.List.{List, [], _∷_, map}
+use Prim.Native.Nat.{ℕ, _+_, _≤_, _<_, max}
+use native.Mathlib.Omega.{arith}
+use lib.ListN.{length, getD, drop}
+use Rattle.model.specs.Lists.{greatest}
+use Rattle.laws_order.specs.ScanLaws.{greatest-step, greatest-end}
+
+-- the greatest so far, and that of those that are left
+module _ {A : Type 0} (f : A → ℕ) (l : List A) (k so : ℕ) {n : ℕ} (is : n ≡ max so (greatest f (drop k l))) where
+  pub greatest-next : {m : ℕ} (d : A) → k < length l → m ≡ max so (f (getD l k d)) → n ≡ max m (greatest f (drop (k + 1) l))
+  greatest-next d h e = omega (arith, greatest-step f l k d h)
+
+  pub greatest-last : length l ≤ k → so ≡ n
+  greatest-last h = omega (arith, greatest-end f l k h)
+
+pub greatest-map : {A B : Type 0} (f : B → ℕ) (g : A → B) (l : List A) → greatest (λ a. f (g a)) l ≡ greatest f (map g l)
+greatest-map f g [] = refl
+greatest-map f g (a ∷ l) = ap (max (f (g a))) (greatest-map f g l)
