@@ -1,4 +1,5 @@
-// The calls that a station's host makes, for C: numbers and byte slices, a slice as a pointer and a length.
+// The boundary to C: each function makes one call and packs its answer; `include/bivamolune.h` is beside it. Numbers and byte
+// slices alone cross it, a slice as a pointer and a length.
 pub mod composition;
 pub mod reads;
 pub mod texts;

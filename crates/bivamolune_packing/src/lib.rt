@@ -1,4 +1,4 @@
-// Answers as one number, for callers in C.
+// Answers as one number for C, and what the header takes out of it.
 pub mod compositions;
 pub mod deliveries;
 pub mod reads;

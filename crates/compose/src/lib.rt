@@ -1,4 +1,4 @@
-// Compose: a station writes a new message.
+// The call `compose`.
 use compose_checks::check_content;
 use compose_checks::check_sizes;
 use compose_message::answer::Composition;

@@ -1,4 +1,4 @@
-// The checks of compose's own arguments: the sizes (code 1), and flag, priority and commands (code 6).
+// The checks of compose's own arguments: the sizes (code 1), flag, priority and commands (code 6).
 use buffer_sizes::check_image_size;
 use buffer_sizes::check_line_size;
 use buffer_sizes::check_message_room;

@@ -1,4 +1,4 @@
-// The numbers of a message's header: its counts, its offsets, its fields.
+// The numbers of a message's header, written: its counts, its offsets, its fields.
 use buffer_writes::put_u16;
 use buffer_writes::put_u32;
 use layout::BLOCK_AT;

@@ -1,4 +1,4 @@
-// The line of a new delta: read, and no held delta on it.
+// The line of a new delta, and code 9: whether a held delta is on it.
 use buffer_reads::get_u16;
 use buffer_reads::get_u64;
 use image_sections::held::held_places;

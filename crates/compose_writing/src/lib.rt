@@ -1,4 +1,4 @@
-// A message written from its parts: the header, the dependencies' sequences, the commands.
+// A message written from its parts: header, dependencies, commands.
 pub mod header;
 pub mod sequences;
 

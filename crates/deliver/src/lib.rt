@@ -1,3 +1,3 @@
-// The call deliver.
+// The call `deliver`.
 pub mod answer;
 pub mod delivery;

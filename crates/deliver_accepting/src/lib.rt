@@ -1,4 +1,4 @@
-// A new message joins the station: its image becomes that of the larger set, and the steps lead to the new log.
+// A new message joins the station: the new log beside the old one, the image and the steps.
 
 use buffer_writes::copy_at;
 use deliver_steps::write_steps;

@@ -1,4 +1,4 @@
-// The checks of codes 7 and 8, of a message that passes 3 to 6 and that arrives at a station.
+// The checks of codes 7 and 8: what is present under a message's sequence, and room for one more.
 use buffer_reads::same;
 use layout::CAPACITY;
 use message_header::checks::Check;

@@ -1,5 +1,4 @@
-// The steps of a delivery: written into the step buffer from the old log and the new one, as places of a table. Each log is run on the
-// setpoints from where the two part.
+// The steps between two logs, as places of one table, each log run from where they part.
 use image_sections::placed::delta_at;
 use image_sections::running::run_log;
 use layout::STEP_SIZE;

@@ -1,4 +1,4 @@
-// What a message that passes 3 to 6 meets at a judged station: codes 7 and 8, or the image with the message in it.
+// A message that passes 3 to 6 at a judged station: codes 7 and 8, or taken in; and what deliver answers.
 pub mod answer;
 
 use crate::answer::Delivery;

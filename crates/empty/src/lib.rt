@@ -1,4 +1,4 @@
-// Empty: a station begins.
+// The call `empty`.
 use buffer_sizes::check_image_size;
 use image::put_empty;
 use message_header::checks::Check;

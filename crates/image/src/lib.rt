@@ -1,4 +1,4 @@
-// The image of a set of deltas, written from the places of its log: its used bytes, and that of no deltas whole.
+// The used bytes of a set's image, written from the places of its log; the image of no deltas.
 
 use buffer_writes::clear_from;
 use image_header::put_image_header;

@@ -1,4 +1,4 @@
-// The header of an image, in two halves.
+// The header of an image, and how pieces are pasted into a buffer.
 use buffer_writes::put_u16;
 use buffer_writes::put_u32;
 use layout::HELD_COUNT_AT;

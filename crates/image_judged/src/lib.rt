@@ -1,2 +1,3 @@
-// An image read and judged: its table, its log as places of the table, and whether it is an image at all. Every call that is handed an image begins here.
+// An image read and judged: its table, its log as places and as offsets, and whether it is an image at all. Every call that is
+// handed an image begins here.
 pub mod judging;

@@ -1,4 +1,4 @@
-// A buffer whose messages were read, with its log as it lists it: checked against the log of the set, and rewritten. Nothing is judged here.
+// A buffer with its table, and its log as it lists it: checked against the log of the set, and rewritten. Nothing is judged here.
 pub mod comparing;
 
 use buffer_reads::get_u16;

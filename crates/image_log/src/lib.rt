@@ -1,4 +1,4 @@
-// The log of an image as places of its table.
+// The log of an image as places of its table, from its offsets.
 use layout::CAPACITY;
 use layout::SEQUENCE_AT;
 use message_sequence::read_sequence;

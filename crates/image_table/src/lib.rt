@@ -1,4 +1,4 @@
-// The table of an image's messages.
+// The table of an image's messages, from their offsets.
 use layout::CAPACITY;
 use layout::SEQUENCE_AT;
 use message_header::checks::Check;

@@ -1,5 +1,5 @@
-// The walk over an image's messages: each is checked, its length is added once, and its offset is written down. Whatever looks for a
-// message of an image takes its offset from here.
+// The walk over an image's messages, the only one: each is checked, its length added once, its offset written down. Whatever looks
+// for a message of an image takes its offset from here.
 use buffer_reads::get_u16;
 use layout::CAPACITY;
 use layout::HEADER_SIZE;

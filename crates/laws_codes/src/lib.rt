@@ -1,1 +1,1 @@
-// Laws only: what a call answers by what its checks told.
+// The ladder of codes: what a call answers by what its checks told.

@@ -1,5 +1,5 @@
-// The listing program: reads messages end to end on standard input, and prints a line for each and a last line, in every case: where a
-// read fails, the listing is that of the bytes before it, and standard error says why.
+// The listing program: standard input read, the listing written. A line for each message and a last line are printed in every case:
+// where a read fails, the listing is that of the bytes before it, and standard error says why.
 use libc::STDOUT_FILENO;
 use listing_whole::limits::INPUT_LIMIT;
 use listing_whole::limits::LISTING_ROOM;

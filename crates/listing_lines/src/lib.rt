@@ -1,3 +1,3 @@
-// What the listing program prints: the line of a message, and the last line.
+// What the listing program prints: a message's line, the last line.
 pub mod limits;
 pub mod printing;

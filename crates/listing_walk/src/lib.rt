@@ -1,4 +1,4 @@
-// The messages of an input one after the other: each cut, delivered and listed, and the last line behind them.
+// All messages of an input one after the other, with the image that they are delivered to: their lines, and the last line.
 use listing_cut::Cut;
 use listing_cut::read_cut;
 use listing_lines::printing::put_last;

@@ -1,3 +1,3 @@
-// The listing of an input: all of its messages one after the other, and the last line.
+// The listing of an input: what is read of it, delivered to an image of no deltas.
 pub mod limits;
 pub mod walking;

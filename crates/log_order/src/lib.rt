@@ -1,4 +1,4 @@
-// The new log as it grows, beside the old one: the places of its deltas, and the length of their longest common start.
+// The new log as it grows beside the old one, and how much of the old one is kept.
 use layout::CAPACITY;
 ghost use mathlib.Core.Path.{_≡_};
 ghost use mathlib.Core.List.{[], _∷_, _++_};

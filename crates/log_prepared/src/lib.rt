@@ -1,4 +1,4 @@
-// What the log is computed from and checked by: the needs of each delta by index, and the keys.
+// What a log is computed from and checked by: the needs of each delta by index, and the keys.
 pub mod keys;
 
 use crate::keys::fill_keys;

@@ -1,3 +1,3 @@
-// A message checked by 3 to 6: the check of code 6, and all four of them.
+// The check of code 6, and a message checked by 3 to 6 in order.
 pub mod checking;
 pub mod content;

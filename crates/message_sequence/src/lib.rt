@@ -1,4 +1,4 @@
-// Sequences as two numbers: how they are read, written, compared and taken apart.
+// Sequences as two numbers: read, written, compared, and taken apart into line, number and predecessor.
 use buffer_reads::get_u32;
 use buffer_reads::get_u64;
 use buffer_writes::put_u32;

@@ -1,5 +1,4 @@
-// The program for the service laptop that prints a log: reads a station image on standard input, and prints a line for each message
-// of its log.
+// The program `print_log` for the service laptop: an image read, its log written.
 use layout::IMAGE_SIZE;
 use libc::STDOUT_FILENO;
 use print_log_whole::limits::LOG_ROOM;

@@ -1,4 +1,4 @@
-// The commands of a message as `print_log` prints them, one behind the other: tag and value, with its sign.
+// What `print_log` prints of a message's commands: tag and value, with its sign.
 pub mod value;
 
 use crate::value::put_value;

@@ -1,3 +1,3 @@
-// What the program `print_log` prints of a message: its line.
+// What `print_log` prints of a message: place, offset, length, sequence, and its commands.
 pub mod limits;
 pub mod line;

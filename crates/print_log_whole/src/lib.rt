@@ -1,3 +1,3 @@
-// The log of an image as the program `print_log` prints it: all of its lines, or the code of a refusal.
+// What `print_log` prints of an input: the lines of all messages of the log, or the code of a refusal.
 pub mod limits;
 pub mod printing;

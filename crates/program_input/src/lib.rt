@@ -1,4 +1,4 @@
-// Standard input, read in pieces until it ends or the buffer is full.
+// Standard input, read in pieces until it ends or a buffer is full.
 pub mod answer;
 
 use answer::Input;

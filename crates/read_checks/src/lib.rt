@@ -1,4 +1,4 @@
-// The checks of the reading calls: code 2, and code 12 of a place and of a tag.
+// The checks of the calls that only read an image: code 2, and code 12 of a place and of a tag.
 use buffer_reads::get_u16;
 use image_judged::judging::read_station;
 use layout::LOG_COUNT_AT;

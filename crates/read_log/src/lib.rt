@@ -1,3 +1,3 @@
-// The log reader: one message of the log after the other, each a part of the image that is lent.
+// The log reader: a struct with the lent image and the offset of the next message; whole readings.
 pub mod finding;
 pub mod reader;

@@ -1,4 +1,5 @@
-// The offsets that a log reader keeps. Each function makes a reader and gives it up, so that a caller holds numbers alone.
+// The log reader for a caller that holds none: where it starts, and where it stands after one message. Each function makes a reader
+// and gives it up, so that a caller holds numbers alone.
 use read_log::reader::LogReader;
 use read_log::reader::next;
 use read_log::reader::start;

@@ -1,4 +1,4 @@
-// The program for the service laptop: reads sequences in either form on standard input, and prints the other.
+// The program `sequences` for the service laptop: standard input read, the other form written.
 use libc::STDERR_FILENO;
 use libc::STDOUT_FILENO;
 use program_input::answer::Input;

@@ -1,4 +1,4 @@
-// What is ready, by the rows of needs and by what is placed; and the greatest of the numbers that stand beside a delta's needs.
+// What is ready, by its row of needs; and the greatest of the numbers that stand beside a delta's needs.
 use layout::CAPACITY;
 use set_needs::rows::ROW;
 ghost use mathlib.Core.Path.{_≡_};

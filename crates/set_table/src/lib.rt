@@ -1,4 +1,4 @@
-// A set of deltas in a run of bytes, the pool: where each message starts, by ascending sequence.
+// A set of messages in a run of bytes, the pool: where each starts, by ascending sequence; found, inserted.
 pub mod entry;
 pub mod inserting;
 pub mod places;

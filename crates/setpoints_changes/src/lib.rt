@@ -1,4 +1,4 @@
-// A command's change of the setpoints, as a value: made from the command and the values, kept, and applied to them.
+// A command's change (tag, before, after): made, applied to the values, kept beside others.
 use buffer_reads::byte;
 use buffer_reads::get_u32;
 use layout::OPERATION_AT;

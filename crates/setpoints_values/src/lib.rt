@@ -1,4 +1,4 @@
-// The 64 values as a whole.
+// The 64 setpoints as a whole: those before any command, and how they are written.
 use buffer_writes::put_u32;
 use layout::TAG_COUNT;
 use layout::VALUE_SIZE;

@@ -1,4 +1,4 @@
-// The pairs of a step: tags and values, written from the changes that its delta's commands make.
+// The pairs of a step, written from the changes that its delta makes; what an undo does otherwise than an execution.
 pub mod kinds;
 
 use crate::kinds::Kind;

@@ -1,4 +1,4 @@
-// A delta's step, written into a step buffer from the changes that the delta makes of the setpoints.
+// A delta's step of 80 bytes: its head, its pairs, zeros behind them.
 use buffer_reads::byte;
 use buffer_writes::copy_at;
 use buffer_writes::put_u32;

@@ -1,4 +1,4 @@
-// The checks of a text and of sequences, by code: 13 for the form, 14 for the numbers.
+// The checks of a text and of sequences, 13 for the form and 14 for the numbers; what reader and writer answer.
 pub mod answer;
 pub mod forms;
 

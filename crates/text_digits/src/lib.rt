@@ -1,4 +1,4 @@
-// The characters of a text: hexadecimal digits, and the comma.
+// The characters of a text: the table of 256 characters and their digits, the character of a digit, the comma.
 mod entries;
 
 use crate::entries::DIGIT_TABLE;

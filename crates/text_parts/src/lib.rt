@@ -1,4 +1,4 @@
-// A part of a text: the characters of a sequence, and the comma behind them. Behind the last part none stands.
+// A part of a text, looked at: a sequence's characters, and the comma behind them. Behind the last part no comma stands.
 use layout::CHARACTERS_SIZE;
 use message_header::checks::Check;
 use text_digits::CHARACTER_COUNT;
