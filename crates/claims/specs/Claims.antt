@@ -18,7 +18,7 @@ use Rattle.model.specs.Order.{Ascending, sequencesOf, effectiveBlock, MeetsRing
 use Rattle.model.specs.Setpoints.{startValues}
 use Rattle.model.specs.Image.{imageOf, valuesIn, logIn, heldIn, stateIn, isImage, messagesIn, messagesStartIn, offsetOf, walk, messageOffset, usedCount}
 use Rattle.model.specs.Steps.{Step, undosOf, executionsOf, recordsOf, Plays, Standing, execute, readSteps}
-use Rattle.model.specs.Compose.{newNumber, lastSequence}
+use Rattle.model.specs.Compose.{numberOn, lastSequence}
 use Rattle.model.specs.Codes.{Conditions, lowestCode, emptyConditions, deliverConditions, composeConditions, readConditions, logMessageConditions, setpointConditions, readSequencesConditions, writeSequencesConditions}
 use Rattle.model.specs.Calls.{Emptied, empty, Delivered, deliver, Composed, compose, logMessageCode, logMessage, Setpoint, setpoint, start, Converted, convertedAnswer, front, readSequences, writeSequences}
 use Rattle.model_runs.specs.Run.{Given, Event, imageAfter, Run, stateAfter, logAfter, oldLog, accepts?, codeFor, acceptedIn, Played, recordsRead, PairsPlayed}
@@ -78,13 +78,13 @@ module _ (given : Given) (b : List ℕ) (begun : Began HostEmptied given b) wher
     codes = let o = host-agreement .call given b begun call earlier run in (o .accepted, o .code)
 
     -- "The number of a delivery's undos is the length of its old log less that of the longest common start ..". "Its rivals .., both kinds counted together."
-    pub counts : let old = sequencesOf (oldLog (stateAfter given earlier) (call .call) (call .answer)) in let new = logAfter given (call ∷ earlier) in (call .answer .undos ≡ undosOf old new) × (call .answer .executions ≡ executionsOf old new)
+    pub counts : let old = sequencesOf (oldLog (stateAfter given earlier) (call .call) (call .answer .code)) in let new = logAfter given (call ∷ earlier) in (call .answer .undos ≡ undosOf old new) × (call .answer .executions ≡ executionsOf old new)
         × ((rival : List Step) → Plays old rival new → call .answer .undos + call .answer .executions ≤ length rival)
     counts = let o = host-agreement .call given b begun call earlier run in (o .undos, o .executions, o .fewest)
 
-    -- "An execution lists the value after each command; an undo lists the value restored by each command, last command first."
+    -- "An execution lists the value after each command; an undo lists the value restored by each command, last command first": from the start values after the call, which a delivery leaves as they were.
     pub records : let next = stateAfter given (call ∷ earlier) in
-        recordsRead (call .answer) ≡ some (recordsOf (startValues next) (oldLog (stateAfter given earlier) (call .call) (call .answer)) (logOf next))
+        recordsRead (call .answer) ≡ some (recordsOf (startValues next) (oldLog (stateAfter given earlier) (call .call) (call .answer .code)) (logOf next))
     records = host-agreement .call given b begun call earlier run .records
 
   module _ (calls : List Event) (run : Run (Answered HostDelivered) b calls) where
@@ -115,7 +115,7 @@ equal-images given other b c p q calls others run run′ same = host-agreement .
 -- ---- COMPOSE, as the host sees it: `bivamolune_compose` answered 0. Number, dependencies, group, block, and what was handed over; length and rest; delivery.
 module _ (b line commands : List ℕ) (flag priority : ℕ) (buffer : List ℕ) (a : Composed) (call : HostComposed b line commands flag priority buffer a) (answered : a .code ≡ 0) where
   pub composed-carries : let m = messageBy a in let S = stateIn b in let log = logOf S in
-      (lineOf (sequenceOf m) ≡ number line) × (numberOf (sequenceOf m) ≡ newNumber S (number line))
+      (lineOf (sequenceOf m) ≡ number line) × (numberOf (sequenceOf m) ≡ suc (greatest (λ x. numberOn (number line) (sequenceOf x)) log))
       × ((d : ℕ) → (d ∈ dependenciesOf m) ↔ (NeededByNone S d × ¬ (d ∈ predecessorOf (sequenceOf m)))) × T (ascending (dependenciesOf m))
       × (log ≡ [] → groupOf m ≡ 1) × (¬ (log ≡ []) → sequenceOf m < lastSequence log → groupOf m ≡ suc (greatest groupOf log))
       × (¬ (log ≡ []) → ¬ (sequenceOf m < lastSequence log) → groupOf m ≡ greatest groupOf log)

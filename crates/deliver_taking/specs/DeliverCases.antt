@@ -3,7 +3,6 @@ use mathlib.Core.Path.{_≡_, sym, _∙_, ap, ap₂}
 use mathlib.Core.Bool.{true}
 use mathlib.Core.List.{List}
 use Prim.Native.Nat.{ℕ}
-use native.Mathlib.Omega.{arith}
 use lib.ListN.{length}
 use lib.Dec.{T}
 use Rattle.model.specs.Message.{Message, sequenceOf}
@@ -11,10 +10,10 @@ use Rattle.model.specs.Order.{State, holding, add, sequencesOf, logOf}
 use Rattle.model.specs.Setpoints.{startValues}
 use Rattle.model.specs.Image.{imageOf, stateIn, isImage}
 use Rattle.model.specs.Codes.{present, deliverConditions}
-use Rattle.model.specs.Steps.{StepRecord, undosOf, recordsBytes}
+use Rattle.model.specs.Steps.{StepRecord, recordsBytes}
 use Rattle.model.specs.Calls.{written, acceptedAnswer, deliverAnswer, deliverCode, deliver}
 use Rattle.laws_order.specs.TestLaws.{true-T, has→∈}
-use Rattle.laws_order.specs.StepLaws.{common-self}
+use Rattle.laws_order.specs.StepLaws.{undos-self}
 use Rattle.laws_wire.specs.RecordLaws.{records-self}
 use Rattle.laws_state.specs.ImageLaws.{image-own, own-valid}
 use Rattle.laws_state.specs.SetLaws.{insert-present}
@@ -33,11 +32,8 @@ module _ (b : List ℕ) (m : Message) (steps : List ℕ) where
   repeat-case image there =
       sym (ap (λ (R : State). acceptedAnswer S R steps) same-state
       ∙ ap₂ (λ (n : ℕ) (l : List StepRecord). record { code = 0; undos = n; executions = n; image = imageOf S; steps = written (recordsBytes l) steps })
-      no-step (records-self (startValues S) (logOf S))
+      (undos-self (sequencesOf (logOf S))) (records-self (startValues S) (logOf S))
       ∙ ap (λ (i : List ℕ). record { code = 0; undos = 0; executions = 0; image = i; steps = steps }) (sym (image-own b image)))
     where
-      no-step : undosOf (sequencesOf (logOf S)) (sequencesOf (logOf S)) ≡ 0
-      no-step = omega (arith, common-self (sequencesOf (logOf S)))
-
       same-state : add m S ≡ S
       same-state = ap (holding (S .origin)) (insert-present m (S .deltas) (own-valid b image .ascends) (has→∈ (sequenceOf m) (sequencesOf (S .deltas)) (true-T _ there)))

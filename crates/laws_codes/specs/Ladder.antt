@@ -12,7 +12,7 @@ use Rattle.model.specs.Codes.{Conditions, lowestCode}
 pub record Answers (l : Conditions) (code : ℕ) : Type 0 where
   pub is : lowestCode l ≡ code
 
--- the first n conditions do not hold: those behind them decide
+-- the conditions behind the first n decide: so it is where the first n do not hold
 abbrev pub Passed : ℕ → Conditions → Type 0
 Passed n l = (code : ℕ) → Answers (drop n l) code → Answers l code
 
@@ -27,7 +27,7 @@ module _ {n : ℕ} {l : Conditions} where
   pub free : {c : Bool} {code : ℕ} → c ≡ false → Answers l code → Answers ((n, c) ∷ l) code
   free e r = record { is = ap (λ (x : Bool). cond x n (lowestCode l)) e ∙ r .is }
 
-  -- it is that a test fails, of which a check told
+  -- where the first condition is that a test fails: it failed, or it did not
   pub fails : {t : Bool} → false ≡ t → Answers ((n, not t) ∷ l) n
   fails e = met (ap not (sym e))
 
@@ -39,7 +39,7 @@ module _ {n : ℕ} {l : Conditions} where
   either true b r = record { is = r .is }
   either false b r = record { is = r .is }
 
--- what a check told, by its answer
+-- a check answered r, which is k: what its contract says of r holds of k
 pub tells : {A : Type 0} (test : A → Bool) {r k : A} {t : Bool} → r ≡ k → test r ≡ t → test k ≡ t
 tells test e h = sym (ap test e) ∙ h
 

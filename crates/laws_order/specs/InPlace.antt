@@ -18,11 +18,11 @@ use Rattle.laws_order.specs.Greedy.{Greedy, grow-greedy, greedy-listing,
 use Rattle.laws_order.specs.ListingPlaces.{listing-at}
 
 module _ {A : Type 0} (name : A → ℕ) (needs : A → List ℕ) (d : A) {K : Type 0} (key : A → K) (less : K → K → Bool) where
-  -- the same of a listing that goes on after the names `done`
+  -- An item that was ready at a place below its own has a greater key than the item there: of a listing that goes on after the names
+  -- `done`, and of a whole one.
   abbrev InPlaceAfter : List ℕ → List A → Type 0
   InPlaceAfter done l = (i k : ℕ) → i < k → k < length l → T (ready name needs (after name done (take i l)) (getD l k d)) → T (less (key (getD l i d)) (key (getD l k d)))
 
-  -- An item that was ready at a place below its own has a greater key than the item there.
   abbrev pub InPlace : List A → Type 0
   InPlace l = InPlaceAfter [] l
 

@@ -93,6 +93,9 @@ common-self (a ∷ l) = go (eqb a a) (eqb-refl a) (common-self l)
     go true t h = ap suc h
     go false t h = absurd t
 
+pub undos-self : (l : List ℕ) → undosOf l l ≡ 0
+undos-self l = omega (arith, common-self l)
+
 -- from a log to a longer one that starts with it nothing is undone
 pub common-longer : (l r : List ℕ) → common l (l ++ r) ≡ length l
 common-longer [] r = refl

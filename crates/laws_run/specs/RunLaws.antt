@@ -14,12 +14,12 @@ use Rattle.model.specs.Message.{Message}
 use Rattle.model.specs.Order.{Origin, State, holding, add, sequencesOf, logOf}
 use Rattle.model.specs.Setpoints.{startValues}
 use Rattle.model.specs.Image.{imageOf, Valid, valuesIn, logIn}
-use Rattle.model.specs.Steps.{Step, undo, execute, common, stepsOf, undosOf, StepRecord, recordsBetween, recordsBytes, readRecords, stepsIn, readSteps, Plays}
+use Rattle.model.specs.Steps.{Step, undo, execute, common, stepsOf, StepRecord, recordsBetween, recordsBytes, readRecords, stepsIn, readSteps, Plays}
 use Rattle.model.specs.Codes.{lowestCode, emptyConditions}
 use Rattle.model.specs.Calls.{Delivered, deliverAnswer, emptyState, emptyAnswer, empty}
 use Rattle.model.specs.PlainStation.{accepts, receive}
 use Rattle.model_runs.specs.Run.{Given, Call, delivery, Event, imageAfter, Run, accepts?, stateBegun, stateNext, stateAfter, logAfter, playedFrom, oldLog, codeFor, messagesOfCall, acceptedIn, SameStation, Played, recordsRead, CallAgrees, Agreement, Begins, Answers}
-use Rattle.laws_order.specs.StepLaws.{steps-play, steps-fewest, steps-counted, common-self, plays-unique}
+use Rattle.laws_order.specs.StepLaws.{steps-play, steps-fewest, steps-counted, undos-self, plays-unique}
 use Rattle.laws_order.specs.TestLaws.{Same}
 use Rattle.laws_state.specs.SetLaws.{insert-from, insert-keeps, insert-has, ascending-unique}
 use Rattle.laws_wire.specs.RecordLaws.{records-steps, records-counted, records-self}
@@ -37,12 +37,8 @@ pub record CallFacts (S next : State) (c : Call) (a : Delivered) : Type 0 where
 
 -- the steps alone
 pub steps-read : (S next : State) (b : List ℕ) (c : Call) (a : Delivered) → CallAgrees S next b c a
-    → readSteps (a .undos + a .executions) (a .steps) ≡ some (stepsOf (sequencesOf (oldLog S c a)) (sequencesOf (logOf next)))
-steps-read S next b c a agrees = ap stepsIn (agrees .records) ∙ ap some (records-steps (startValues next) (oldLog S c a) (logOf next))
-
--- no step from a log to itself
-pub undos-self : (l : List ℕ) → undosOf l l ≡ 0
-undos-self l = omega (arith, common-self l)
+    → readSteps (a .undos + a .executions) (a .steps) ≡ some (stepsOf (sequencesOf (oldLog S c (a .code))) (sequencesOf (logOf next)))
+steps-read S next b c a agrees = ap stepsIn (agrees .records) ∙ ap some (records-steps (startValues next) (oldLog S c (a .code)) (logOf next))
 
 module _ (S : State) (valid : Valid S) (m : Message) (steps : List ℕ) where
   code-is : (n : ℕ) → stateCode S m (length steps) ≡ n → n ≡ codeFor (imageOf S) (delivery m steps)
@@ -185,7 +181,7 @@ plays-log given b begun (e ∷ earlier) run log = go (plays-log given b begun ea
     S = stateAfter given earlier
 
     old : List ℕ
-    old = sequencesOf (oldLog S (e .call) (e .answer))
+    old = sequencesOf (oldLog S (e .call) (e .answer .code))
 
     new : List ℕ
     new = logAfter given (e ∷ earlier)

@@ -97,10 +97,10 @@ field-part b at n i size h = ap number (take-drop-take n i size (drop at b) h �
 pub field-part-start : (b : List ℕ) (at n size : ℕ) → size ≤ n → field (take n (drop at b)) 0 size ≡ field b at size
 field-part-start b at n size h = ap number (take-take size n (drop at b) h)
 
--- ---- fields, one behind the other
-abbrev pub InOrder : ℕ → List (ℕ × ℕ) → Type 0
-InOrder at [] = Unit {0}
-InOrder at (f ∷ l) = (f .0 ≡ at) × InOrder (at + f .1) l
+-- ---- fields, each of which begins where the one before it ends
+abbrev pub Adjoining : ℕ → List (ℕ × ℕ) → Type 0
+Adjoining at [] = Unit {0}
+Adjoining at (f ∷ l) = (f .0 ≡ at) × Adjoining (at + f .1) l
 
 -- each has room for its number
 abbrev pub Roomy : List (ℕ × ℕ) → List ℕ → Type 0
@@ -110,12 +110,12 @@ Roomy (f ∷ l) [] = ⊥
 Roomy (f ∷ l) (n ∷ k) = (n < 256 ^ f .1) × Roomy l k
 
 -- what is written in fields is read back from them
-pub fields-back : (l : List (ℕ × ℕ)) (k front rest : List ℕ) → InOrder (length front) l → Roomy l k → numbersIn l (front ++ (fieldsBytes l k ++ rest)) ≡ k
+pub fields-back : (l : List (ℕ × ℕ)) (k front rest : List ℕ) → Adjoining (length front) l → Roomy l k → numbersIn l (front ++ (fieldsBytes l k ++ rest)) ≡ k
 fields-back [] [] front rest o r = refl
 fields-back [] (n ∷ k) front rest o r = absurd r
 fields-back (f ∷ l) [] front rest o r = absurd r
 fields-back (f ∷ l) (n ∷ k) front rest o r = ap₂ _∷_ here (ap (numbersIn l) moved
-    ∙ fields-back l k (front ++ first) rest (subst (λ (at : ℕ). InOrder at l) (sym length-front) (o .1)) (r .1))
+    ∙ fields-back l k (front ++ first) rest (subst (λ (at : ℕ). Adjoining at l) (sym length-front) (o .1)) (r .1))
   where
     first : List ℕ
     first = bytes (f .1) n

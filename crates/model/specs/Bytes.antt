@@ -27,7 +27,8 @@ bytes (suc size) n = n / 256 ^ size % 256 ∷ bytes size n
 abbrev pub field : List ℕ → ℕ → ℕ → ℕ
 field b at size = number (take size (drop at b))
 
--- Fields, each by its place and its size: the bytes of numbers in them, one behind the other, and the numbers that a buffer has in them.
+-- Fields, each by its place and its size: the bytes of numbers in them, one field behind the other, and the numbers that a buffer has in
+-- them. Each field's place is the end of the one before it, so that these read back (`ImageLaws.header-back`).
 abbrev pub fieldsBytes : List (ℕ × ℕ) → List ℕ → List ℕ
 fieldsBytes [] k = []
 fieldsBytes (f ∷ l) [] = []

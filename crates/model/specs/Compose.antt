@@ -45,8 +45,12 @@ lastSequence [] = 0
 lastSequence (m ∷ []) = sequenceOf m
 lastSequence (m ∷ x ∷ l) = lastSequence (x ∷ l)
 
+-- The highest group of some deltas, and their highest effective block at a station; 0 of none.
 abbrev pub highestGroup : List Message → ℕ
-highestGroup log = greatest groupOf log
+highestGroup l = greatest groupOf l
+
+abbrev pub highestBlock : State → List Message → ℕ
+highestBlock S l = greatest (effectiveBlock S) l
 
 -- "Group is 1 on an empty log; the highest in the log plus one if the last delta's sequence is above the new one; else the highest."
 abbrev pub groupAfter : List Message → ℕ → ℕ
@@ -55,9 +59,6 @@ groupAfter (m ∷ l) s = let highest = highestGroup (m ∷ l) in cond (ltb s (la
 
 abbrev pub newGroup : State → ℕ → ℕ
 newGroup S s = groupAfter (logOf S) s
-
-abbrev pub highestBlock : State → List Message → ℕ
-highestBlock S log = greatest (effectiveBlock S) log
 
 -- "With priority, block is the highest effective block plus one (1 on an empty log)."
 abbrev pub newBlock : State → Bool → ℕ

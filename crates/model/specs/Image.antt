@@ -14,7 +14,7 @@ use Rattle.model.specs.Order.{Origin, firstOrigin, State, holding, Right
 use Rattle.model.specs.Setpoints.{setpointsOf}
 
 -- ---- the sections, one behind the other
--- Where the messages start: past the header and the values.
+-- Where the messages start: past the header and the values, whatever the state.
 unfoldable pub messagesStart : State → ℕ
 messagesStart S = setpointsStart + valuesSize
 
@@ -26,7 +26,7 @@ messagesOf S = join (logOf S) ++ join (heldOf S)
 unfoldable pub valuesOf : State → List ℕ
 valuesOf S = join (map (λ v. bytes valueSize (word v)) (setpointsOf S))
 
--- The header: log count, held count, the offsets of setpoints and of messages, the bytes used, zeros.
+-- The header, by the fields of `Layout.imageFields`: log count, held count, the offsets of setpoints and of messages, the bytes used, zeros.
 abbrev pub headerNumbers : State → List ℕ
 headerNumbers S =
     length (logOf S) ∷ length (heldOf S) ∷ setpointsStart ∷ messagesStart S ∷ (messagesStart S + length (messagesOf S)) ∷ 0 ∷ []
@@ -106,6 +106,7 @@ abbrev pub setOf : List Message → List Message
 setOf [] = []
 setOf (m ∷ l) = insert m (setOf l)
 
+-- The origin of a buffer's station: the same for all.
 unfoldable pub originIn : List ℕ → Origin
 originIn b = firstOrigin
 

@@ -125,7 +125,7 @@ usedAt = 8
 abbrev pub zerosAt : ℕ
 zerosAt = 10
 
--- the setpoints, past the header. Where the messages start depends on the image: see `messagesStart` in `Image`.
+-- the setpoints, past the header. Where the messages start is said in `Image`, by `messagesStart` of a state and `messagesStartIn` of a buffer.
 abbrev pub setpointsStart : ℕ
 setpointsStart = 16
 

@@ -97,7 +97,8 @@ unfoldable pub heldOf : State → List Message
 heldOf S = let executable = sequencesOf (executablesOf S) in keep (λ m. not (has (sequenceOf m) executable)) (S .deltas)
 
 -- ---- the key
--- A delta's own block, as it counts at a station of this state: "its own block (0 without priority)", which its message states.
+-- A delta's own block, as it counts at a station: "its own block (0 without priority)", its message's block, whatever the state (6 asks
+-- that it is 0 without priority).
 abbrev pub ownBlock : State → Message → ℕ
 ownBlock S m = blockOf m
 
@@ -120,7 +121,7 @@ abbrev pub turnOf : Option ℕ → ℕ
 turnOf (some p) = 0
 turnOf none = 1
 
--- "and the greater priority first": how far it lies below the limit. All without one are level.
+-- "and the greater priority first": how far it lies below the limit. All without one are level (6 asks that their priority is 0).
 abbrev pub rankOf : Option ℕ → ℕ
 rankOf (some p) = fieldLimit - p
 rankOf none = fieldLimit

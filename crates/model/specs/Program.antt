@@ -91,7 +91,7 @@ unfoldable pub printedValue : ℤ → List ℕ
 printedValue (pos n) = decimal n
 printedValue (negsuc n) = 45 ∷ decimal (suc n)
 
--- "for each of its commands, in order, the tag and the value"
+-- "for each of its commands, in order, the tag and the command's own value"
 unfoldable pub printedCommand : List ℕ → List ℕ
 printedCommand c = 32 ∷ decimal (field c tagAt 1) ++ 32 ∷ printedValue (valueOf c)
 

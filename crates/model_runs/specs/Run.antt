@@ -1,8 +1,9 @@
--- Demand 3 over a whole run, and what Paper 1 of document 02 adds to it, as one record. `Agreement` says what has to hold of an empty and a deliver call that are known by
--- what they promise: `begins given b`, that empty was given this, answered 0 and wrote b, and `answers b c a`, that the call c on
--- the image b answered a. `Begins` and `Answers` are those of the definitions; of the code they are the postconditions of its functions.
--- A list of calls is a list of events, the latest first. `RunExamples`, in this crate's proofs, works one through, call by call; `NearMisses` has
--- lists that no station in agreement can have.
+-- Demand 3 over a whole run, and what Paper 1 of document 02 adds to it, as one record, `Agreement`: `CallAgrees` of each call, `ListAgrees`
+-- after each list, and equal images of two lists. It says what has to hold of an empty and a deliver call that are known by what they
+-- promise: `begins given b`, that empty was given this, answered 0 and wrote b, and `answers b c a`, that the call c on the image b
+-- answered a. `Begins` and `Answers` are those of the definitions; of the code they are the postconditions of its functions.
+-- A list of calls is a list of events, the latest first. `RunExamples`, in this crate's proofs, works one through, call by call;
+-- `NearMisses` has lists that no station in agreement can have.
 use mathlib.Core.Path.{_≡_}
 use mathlib.Core.Logic.{_↔_}
 use mathlib.Core.Bool.{Bool, cond}
@@ -62,27 +63,28 @@ stateAfter given (e ∷ earlier) = stateNext (stateAfter given earlier) (e .call
 abbrev pub logAfter : Given → List Event → List ℕ
 logAfter given events = sequencesOf (logOf (stateAfter given events))
 
--- the log that a call's steps are played from, by the call's code: as it was left
+-- the log that a call's steps are played from, by the call's code; a delivery's: the log as it was left, whatever its code
 abbrev pub playedFrom : {A : Type 0} → Call → ℕ → List A → List A
 playedFrom (delivery m steps) code log = log
 
 -- a call's old log: the one before it, as its steps find it
-abbrev pub oldLog : State → Call → Delivered → List Message
-oldLog S c a = playedFrom c (a .code) (logOf S)
+abbrev pub oldLog : State → Call → ℕ → List Message
+oldLog S c code = playedFrom c code (logOf S)
 
 -- the lowest number that applies
 abbrev pub codeFor : List ℕ → Call → ℕ
 codeFor b (delivery m steps) = deliverCode b m (length steps)
 
--- the messages that were answered with 0
+-- the messages that a call brings
 abbrev pub messagesOfCall : Call → List Message
 messagesOfCall (delivery m steps) = m ∷ []
 
+-- the messages of the calls that were answered with 0
 abbrev pub acceptedIn : List Event → List Message
 acceptedIn [] = []
 acceptedIn (e ∷ earlier) = cond (eqb (e .answer .code) 0) (messagesOfCall (e .call) ++ acceptedIn earlier) (acceptedIn earlier)
 
--- what two stations share that are promised equal images: the same messages were accepted
+-- what two stations have to share to be promised equal images: that they accepted the same messages (what empty was given is of no matter)
 pub record SameStation (given : Given) (events : List Event) (other : Given) (others : List Event) : Type 0 where
   pub accepted : (m : Message) → m ∈ acceptedIn events ↔ m ∈ acceptedIn others
 
@@ -112,21 +114,22 @@ PairsPlayed begun (e ∷ earlier) standing values =
     × (recordsRead (e .answer) ≡ some records) × PlaysPairs before old records standing values
 
 -- ---- the demand
--- What it says of a call on the image b that answered a: S is the plain station's state before it, `next` the one after it.
+-- What it says of a call c on the image b that answered a: S is the plain station's state before it, `next` the one after it (in
+-- `Agreement` it is `stateNext S c`).
 pub record CallAgrees (S next : State) (b : List ℕ) (c : Call) (a : Delivered) : Type 0 where
   -- "Deliver answers 0 exactly where the plain station accepts, and otherwise the lowest number that applies."
   pub accepted : (a .code ≡ 0) ↔ T (accepts? S c)
   pub code : a .code ≡ codeFor b c
   -- "The number of a delivery's undos is the length of its old log less that of the longest common start,
   -- and of its executions the length of its new log less the same."
-  pub undos : a .undos ≡ undosOf (sequencesOf (oldLog S c a)) (sequencesOf (logOf next))
-  pub executions : a .executions ≡ executionsOf (sequencesOf (oldLog S c a)) (sequencesOf (logOf next))
+  pub undos : a .undos ≡ undosOf (sequencesOf (oldLog S c (a .code))) (sequencesOf (logOf next))
+  pub executions : a .executions ≡ executionsOf (sequencesOf (oldLog S c (a .code))) (sequencesOf (logOf next))
   -- "Its rivals are all lists of undos and executions that can be played from its old log to its new one, both kinds counted
   -- together": no rival is shorter.
-  pub fewest : (rival : List Step) → Plays (sequencesOf (oldLog S c a)) rival (sequencesOf (logOf next)) → a .undos + a .executions ≤ length rival
+  pub fewest : (rival : List Step) → Plays (sequencesOf (oldLog S c (a .code))) rival (sequencesOf (logOf next)) → a .undos + a .executions ≤ length rival
   -- "An execution lists the value after each command; an undo lists the value restored by each command, last command first": the records
-  -- of a call are those between its old log and its new one.
-  pub records : recordsRead a ≡ some (recordsOf (startValues next) (oldLog S c a) (logOf next))
+  -- of a call are those between its old log and its new one, both run from the start values after it (a delivery leaves these as they were).
+  pub records : recordsRead a ≡ some (recordsOf (startValues next) (oldLog S c (a .code)) (logOf next))
 
 -- What it says after a list of calls.
 pub record ListAgrees (given : Given) (b : List ℕ) (events : List Event) : Type 0 where
@@ -139,7 +142,8 @@ pub record ListAgrees (given : Given) (b : List ℕ) (events : List Event) : Typ
   -- what its execution's pair had found, and they lead to these values alone.
   pub setpoints : (values : List ℤ) → ((standing : List Standing) × PairsPlayed b events standing values) ↔ (values ≡ valuesIn (imageAfter b events))
 
--- "a single claim over whole lists": over every list of calls from an image that empty wrote, and its latest call.
+-- "a single claim over whole lists": what holds after every list of calls from an image that empty wrote, and of every call, which is the
+-- latest of the list up to it.
 pub record Agreement (begins : Given → List ℕ → Type 0) (answers : List ℕ → Call → Delivered → Type 0) : Type 0 where
   pub call : (given : Given) (b : List ℕ) → begins given b → (e : Event) (earlier : List Event) → Run answers b (e ∷ earlier)
       → CallAgrees (stateAfter given earlier) (stateAfter given (e ∷ earlier)) (imageAfter b earlier) (e .call) (e .answer)
