@@ -1,4 +1,4 @@
-// Code 1: the sizes of the buffers that a call is handed.
+// Code 1: the sizes of the buffers that a call is handed; and whether bytes are whole pieces, one to eight.
 use layout::IMAGE_SIZE;
 use layout::LINE_SIZE;
 use layout::LONGEST_MESSAGE;
@@ -15,6 +15,7 @@ ghost use Rattle.model.specs.Codes.{smallSteps};
 ghost use Rattle.message_header.specs.Check.{right};
 ghost use Rattle.buffer_sizes.specs.Pieces.{wholePieces};
 
+// Exactly so many bytes.
 fn check_exactly(size: usize, exact: usize) -> Check
     ensures { λ r. ⌜ right r ≡ eqb size exact ⌝ }
 {
@@ -24,6 +25,7 @@ fn check_exactly(size: usize, exact: usize) -> Check
     Check::Right
 }
 
+// So many bytes at least.
 fn check_at_least(size: usize, least: usize) -> Check
     ensures { λ r. ⌜ right r ≡ not (ltb size least) ⌝ }
 {

@@ -11,7 +11,7 @@ use Rattle.model.specs.Layout.{kindAt, priorityFlagAt, dependencyCountAt, comma
 use Rattle.model.specs.Message.{commandsStart, totalLength}
 use Rattle.image_header.specs.Pieces.{pasted}
 use Rattle.image_header.specs.PieceLaws.{order-pasted}
-use Rattle.compose_header.specs.Numbers.{countsBytes, offsetsBytes, fieldsBytes}
+use Rattle.compose_header.specs.Numbers.{countsBytes, offsetsBytes, orderBytes}
 
 pub byte-pasted : (d : List ℕ) (at v : ℕ) → at < length d → set d at v ≡ pasted d at (v ∷ [])
 byte-pasted d at v h = set-split d at v h ∙ ap (λ (n : ℕ). take at d ++ v ∷ drop n d) (sym (add-one at)) ∙ sym (append-snoc (take at d) v (drop (at + 1) d))
@@ -28,5 +28,5 @@ module _ (d : List ℕ) (room : headerSize ≤ length d) where
 
   pub fields-pasted : (group block priority : ℕ)
       → paste (paste (paste (paste d groupAt (bytes 4 group) 4) blockAt (bytes 4 block) 4) priorityAt (bytes 4 priority) 4) lastZerosAt (bytes 4 0) 4
-      ≡ pasted d groupAt (fieldsBytes group block priority)
+      ≡ pasted d groupAt (orderBytes group block priority)
   fields-pasted group block priority = order-pasted d groupAt (bytes 4 group ∷ bytes 4 block ∷ bytes 4 priority ∷ bytes 4 0 ∷ []) room

@@ -16,5 +16,5 @@ countsBytes flag D C = 1 ∷ flag ∷ D ∷ C ∷ []
 abbrev pub offsetsBytes : ℕ → ℕ → List ℕ
 offsetsBytes D C = bytes 2 (totalLength D C) ++ bytes 2 headerSize ++ bytes 2 (commandsStart D) ++ bytes 2 0
 
-abbrev pub fieldsBytes : ℕ → ℕ → ℕ → List ℕ
-fieldsBytes group block priority = bytes 4 group ++ bytes 4 block ++ bytes 4 priority ++ bytes 4 0
+abbrev pub orderBytes : ℕ → ℕ → ℕ → List ℕ
+orderBytes group block priority = bytes 4 group ++ bytes 4 block ++ bytes 4 priority ++ bytes 4 0

@@ -22,7 +22,7 @@ ghost use Prim.Native.Nat.{_+_, _<_, _≤_};
 ghost use lib.ListN.{length};
 ghost use Rattle.model.specs.Layout.{kindAt, lengthAt, groupAt, headerSize};
 ghost use Rattle.image_header.specs.Pieces.{pasted};
-ghost use Rattle.compose_header.specs.Numbers.{FewParts, countsBytes, offsetsBytes, fieldsBytes};
+ghost use Rattle.compose_header.specs.Numbers.{FewParts, countsBytes, offsetsBytes, orderBytes};
 
 // Writes a byte.
 fn put_byte(s: &mut [u8], at: usize, v: u32)
@@ -59,7 +59,7 @@ pub fn put_offsets(message: &mut [u8], dependencies: usize, commands: usize)
 // Writes group, block and priority, and zeros.
 pub fn put_fields(message: &mut [u8], group: u32, block: u32, priority: u32)
     requires { ⌜ headerSize ≤ length (now message) ⌝ }
-    ensures { λ _. ⌜ now (message .exit) ≡ pasted (now (message .entry)) groupAt (fieldsBytes group block priority) ⌝ }
+    ensures { λ _. ⌜ now (message .exit) ≡ pasted (now (message .entry)) groupAt (orderBytes group block priority) ⌝ }
 {
     put_u32(message, GROUP_AT, group);
     put_u32(message, BLOCK_AT, block);

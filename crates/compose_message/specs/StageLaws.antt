@@ -14,6 +14,7 @@ use Rattle.model.specs.Compose.{messageOf, newSequence, newBlock, newDependenci
 use Rattle.model.specs.Codes.{commandsSized, heldOn, pastLimit, manyDependencies}
 use Rattle.model.specs.Calls.{Composed, written, composeAnswer}
 use Rattle.laws_order.specs.TestLaws.{and-l, and-r}
+use Rattle.laws_codes.specs.Ladder.{Answers, none, met, free}
 use Rattle.message_sequence.specs.declared.Sequence.{Sequence}
 use Rattle.message_sequence.specs.Sequence.{sequenceNumber}
 use Rattle.message_header.specs.declared.header.Priority.{Priority}
@@ -27,7 +28,7 @@ use Rattle.compose_dependencies.specs.declared.Dependencies.{Dependencies}
 use Rattle.compose_dependencies.specs.Unneeded.{placesFound, IsDependencies}
 use Rattle.compose_message.specs.declared.answer.Composition.the-variants as composition
 use Rattle.compose_message.specs.Answer.{refusal, composedBy}
-use Rattle.compose_message.specs.Stages.{lateAnswer, headerWith, namesOf, draftedMessage, draftedAnswer, draftAnswer}
+use Rattle.compose_message.specs.Stages.{lateConditions, lateAnswer, headerWith, namesOf, draftedMessage, draftedAnswer, draftAnswer}
 
 -- ---- commands by eights, and no more than eight
 pub record Eights (commands : List ℕ) : Type 0 where
@@ -84,16 +85,15 @@ module _ (S : State) (line flag priority : ℕ) (commands buffer : List ℕ) whe
   abbrev later : ℕ → Composed
   later code = composeAnswer code (composed S line commands (eqb flag 1) priority) buffer
 
-  late-by : {a b c : Bool} → heldOn S line ≡ a → pastLimit S line (eqb flag 1) ≡ b → manyDependencies S line ≡ c
-      → lateAnswer S line commands flag priority buffer ≡ later (cond a 9 (cond b 10 (cond c 11 0)))
+  late : {n : ℕ} → Answers (lateConditions S line flag) n → later n ≡ lateAnswer S line commands flag priority buffer
   unfolding lateAnswer
-  late-by {a} {b} {c} p q r = ap₂ (λ (x y : Bool). later (cond x 9 (cond y 10 (cond (manyDependencies S line) 11 0)))) p q ∙ ap (λ (x : Bool). later (cond a 9 (cond b 10 (cond x 11 0)))) r
+  late r = ap later (sym (r .is))
 
   pub held-case : heldOn S line ≡ true → refusal 9 buffer ≡ lateAnswer S line commands flag priority buffer
-  held-case e = sym (late-by e refl refl)
+  held-case e = late (met e)
 
   pub past-case : heldOn S line ≡ false → pastLimit S line (eqb flag 1) ≡ true → refusal 10 buffer ≡ lateAnswer S line commands flag priority buffer
-  past-case h e = sym (late-by h e refl)
+  past-case h e = late (free h (met e))
 
   module _ (d : Draft) (is : IsDraft S line flag priority d) (given : T (eqb flag 1 || eqb priority 0)) where
     names-are : namesOf S d ≡ newDependencies S (newSequence S line)
@@ -114,8 +114,9 @@ module _ (S : State) (line flag priority : ℕ) (commands buffer : List ℕ) whe
         many e = ap (λ (names : List ℕ). ltb mostDependencies (length names)) (sym names-are) ∙ e
 
         go : (t : Bool) → ltb mostDependencies (length (namesOf S d)) ≡ t → cond t (refusal 11 buffer) (draftedAnswer S d commands buffer) ≡ lateAnswer S line commands flag priority buffer
-        go true e = sym (late-by h (is .within) (many e))
-        go false e = ap (λ (m : Message). record { code = 0; size = length m; message = written m buffer }) drafted-message ∙ sym (late-by h (is .within) (many e))
+        go true e = late (free h (free (is .within) (met (many e))))
+        go false e = ap (λ (m : Message). record { code = 0; size = length m; message = written m buffer }) drafted-message
+            ∙ late (free h (free (is .within) (free (many e) none)))
 
 -- ---- what the checks told
 -- as many places as dependencies

@@ -15,11 +15,11 @@ use Rattle.message_header.specs.declared.header.Priority.{Priority}
 use Rattle.message_header.specs.declared.header.Priority.the-variants.{Absent, Given}
 use Rattle.set_table.specs.Places.{sequenceIn}
 use Rattle.image_sections.specs.LogPlaces.{TablePlaces}
-use Rattle.compose_header.specs.Numbers.{FewParts, countsBytes, offsetsBytes, fieldsBytes}
+use Rattle.compose_header.specs.Numbers.{FewParts, countsBytes, offsetsBytes, orderBytes}
 
 -- ---- the header
 abbrev pub headerBytes : ℕ → ℕ → ℕ → ℕ → ℕ → ℕ → ℕ → List ℕ
-headerBytes flag s group block priority D C = countsBytes flag D C ++ offsetsBytes D C ++ bytes sequenceSize s ++ fieldsBytes group block priority
+headerBytes flag s group block priority D C = countsBytes flag D C ++ offsetsBytes D C ++ bytes sequenceSize s ++ orderBytes group block priority
 
 -- with byte 1, block and priority zero where no priority is given
 abbrev pub headerWith : Header → Priority → List ℕ

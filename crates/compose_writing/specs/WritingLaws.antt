@@ -19,14 +19,14 @@ use Rattle.message_header.specs.declared.header.Priority.the-variants.{Absent, 
 use Rattle.buffer_writes.specs.PasteLaws.{front-written}
 use Rattle.image_header.specs.Pieces.{pasted}
 use Rattle.image_header.specs.PieceLaws.{pasted-pasted, order-pasted}
-use Rattle.compose_header.specs.Numbers.{countsBytes, offsetsBytes, fieldsBytes}
+use Rattle.compose_header.specs.Numbers.{countsBytes, offsetsBytes, orderBytes}
 use Rattle.compose_writing.specs.Writing.{headerBytes, headerWith, headerFor, sequencesBytes, messageWith, messageFor}
 
 -- ---- the header
 pub header-pasted : (d : List ℕ) → headerSize ≤ length d → (flag s group block priority D C : ℕ)
-    → pasted (pasted (pasted (pasted d kindAt (countsBytes flag D C)) lengthAt (offsetsBytes D C)) sequenceAt (bytes sequenceSize s)) groupAt (fieldsBytes group block priority)
+    → pasted (pasted (pasted (pasted d kindAt (countsBytes flag D C)) lengthAt (offsetsBytes D C)) sequenceAt (bytes sequenceSize s)) groupAt (orderBytes group block priority)
     ≡ pasted d 0 (headerBytes flag s group block priority D C)
-header-pasted d room flag s group block priority D C = order-pasted d 0 (countsBytes flag D C ∷ offsetsBytes D C ∷ bytes sequenceSize s ∷ fieldsBytes group block priority ∷ []) room
+header-pasted d room flag s group block priority D C = order-pasted d 0 (countsBytes flag D C ∷ offsetsBytes D C ∷ bytes sequenceSize s ∷ orderBytes group block priority ∷ []) room
 
 -- ---- sequences
 pub length-sequences : (names : List ℕ) → length (sequencesBytes names) ≡ sequenceSize * length names

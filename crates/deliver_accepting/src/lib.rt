@@ -3,7 +3,7 @@
 use buffer_writes::copy_at;
 use deliver_steps::write_steps;
 use image::write_used;
-use image_judged::judging::Station;
+use image_listed::Station;
 use layout::CAPACITY;
 use layout::IMAGE_SIZE;
 use log::listing::order;

@@ -5,7 +5,7 @@ use crate::answer::Delivery;
 use deliver_accepting::accept;
 use deliver_checks::check_repeat;
 use deliver_checks::check_room;
-use image_judged::judging::Station;
+use image_listed::Station;
 use layout::SEQUENCE_AT;
 use message_header::checks::Check;
 use message_sequence::read_sequence;

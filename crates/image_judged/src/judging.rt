@@ -1,5 +1,5 @@
 // An image read and judged: code 2.
-pub use image_listed::Station;
+use image_listed::Station;
 use image_listed::check_listed;
 use image_listed::comparing::equals_copy;
 use image_listed::list;

@@ -1,4 +1,4 @@
--- Places of a log: of all its deltas or of some.
+-- Places of a log: of all its deltas, which compose asks for, or of some, as a purge will of those that it drops.
 use mathlib.Core.List.{List}
 use Prim.Native.Nat.{ℕ}
 use Rattle.model.specs.Lists.{_∈_}

@@ -6,7 +6,7 @@ use Rattle.model.specs.Bytes.{bytes}
 use Rattle.model.specs.Layout.{lengthAt, sequenceAt, groupAt, sequenceSize}
 use Rattle.message_sequence.specs.Sequence.{sequenceNumber}
 use Rattle.image_header.specs.Pieces.{pasted}
-use Rattle.compose_header.specs.Numbers.{offsetsBytes, fieldsBytes}
+use Rattle.compose_header.specs.Numbers.{offsetsBytes, orderBytes}
 use Rattle.compose_writing.specs.WritingLaws.{header-pasted}
 use borrow.Author.Needs.{needs}
 use Rattle.compose_writing.proofs.header.put_parts.Statement.{statement}
@@ -21,7 +21,7 @@ returns c =
     let s = counts .before .before .before .before in
     let a = s .args in
     fields .put-fields .ensures
-    ∙ ap (λ (b : List ℕ). pasted b groupAt (fieldsBytes (a .h .group) (a .block) (a .priority)))
+    ∙ ap (λ (b : List ℕ). pasted b groupAt (orderBytes (a .h .group) (a .block) (a .priority)))
     (own .put-sequence .ensures
     ∙ ap (λ (b : List ℕ). pasted b sequenceAt (bytes sequenceSize (sequenceNumber (a .h .sequence))))
     (offsets .put-offsets .ensures ∙ ap (λ (b : List ℕ). pasted b lengthAt (offsetsBytes (a .h .dependencies) (a .h .commands))) (counts .put-counts .ensures)))
