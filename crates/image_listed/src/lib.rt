@@ -1,4 +1,4 @@
-// A buffer with its table, and its log as it lists it: checked against the log of the set, and rewritten. Nothing is judged here.
+// A buffer with its table, and its log as it lists it: checked against the log of the set, rewritten, and compared. Nothing is judged here.
 pub mod comparing;
 
 use buffer_reads::get_u16;
@@ -21,7 +21,8 @@ ghost use Rattle.image_header.specs.Pieces.{UsedWritten};
 ghost use Rattle.log_check.specs.Checking.{ChecksLog};
 ghost use Rattle.image_listed.specs.Listed.{FrontOffsets, ListsLog, Rewritable, placesIn};
 
-// A judged buffer: whether it is an image, where its messages lie, and of its log's messages the places in the table and the offsets.
+// A buffer whose messages were read: where they lie, of its log's messages the places in the table and the offsets, and whether it was
+// judged to be an image (`image_judged`).
 pub struct Station {
     pub check: Check,
     pub table: Table,

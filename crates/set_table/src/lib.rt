@@ -1,4 +1,4 @@
-// A set of messages in a run of bytes, the pool: where each starts, by ascending sequence; found, inserted.
+// A set of messages in a run of bytes, the pool: where each starts, by sequence; found, inserted; where an image's messages start.
 pub mod entry;
 pub mod inserting;
 pub mod places;

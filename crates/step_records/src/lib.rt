@@ -1,4 +1,4 @@
-// A delta's step of 80 bytes: its head, its pairs, zeros behind them.
+// A delta run, and its step of 80 bytes: its head, its pairs, zeros behind them.
 use buffer_reads::byte;
 use buffer_writes::copy_at;
 use buffer_writes::put_u32;
