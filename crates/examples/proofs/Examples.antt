@@ -10,9 +10,10 @@ use lib.IntN.{ℤ, pos, negsuc}
 use Rattle.model.specs.Bytes.{bytes, field}
 use Rattle.model.specs.Layout.{imageSize, stepRoom, messageRoom}
 use Rattle.model.specs.Message.{Message, layoutRight, numbersRight, dependenciesRight, contentRight, commandRight, passes}
-use Rattle.model.specs.Order.{sequencesOf, needs, executablesOf, logOf, heldOf}
+use Rattle.model.specs.Tops.{topsRight}
+use Rattle.model.specs.Order.{originRight, takeIn, sequencesOf, needs, executablesOf, logOf, heldOf}
 use Rattle.model.specs.Setpoints.{startValues, stop, raise, operate, changeOf, apply, runCommand, runDelta, changesOf, setpointsOf}
-use Rattle.model.specs.Image.{messagesStart, messagesOf, valuesOf, headerOf, sectionsOf, usedOf, imageOf, messagesStartIn, logIn, stateIn, isImage}
+use Rattle.model.specs.Image.{messagesStart, messagesOf, valuesOf, baseOf, floorsOf, headerOf, sectionsOf, usedOf, imageOf, messagesStartIn, floorsIn, baseIn, originIn, logIn, stateIn, isImage}
 use Rattle.model.specs.Steps.{Step, undo, execute, pairOf, StepRecord, executionOf, undoOf, recordsOf, recordBytes, readRecord, readRecords}
 use Rattle.model.specs.Compose.{messageOf, newDependencies, composed}
 use Rattle.model.specs.Calls.{empty, Delivered, deliver, deliverCode, compose, composeCode, setpoint}
@@ -87,38 +88,38 @@ examples =
           ∷ 0x00 ∷ 0x0A ∷ 0x00 ∷ 0x00 ∷ 0x00 ∷ 0x01 ∷ 0x00 ∷ 0x01 ∷ 0x00 ∷ 0x00 ∷ 0x00 ∷ 0x01 ∷ 0x00 ∷ 0x00 ∷ 0x00 ∷ 0x00
           ∷ 0x00 ∷ 0x00 ∷ 0x00 ∷ 0x00 ∷ 0x00 ∷ 0x00 ∷ 0x00 ∷ 0x00 ∷ 0x01 ∷ 0x03 ∷ 0x00 ∷ 0x00 ∷ 0x00 ∷ 0x00 ∷ 0x05 ∷ 0xDC ∷ []),
     )
-    -- No deltas: L 0, H 0, used 272.
-    ∷ (deliverAll [], station [] 0 0 272 [] [] (pos 0))
+    -- No deltas: L 0, H 0, used 544.
+    ∷ (deliverAll [], station [] 0 0 544 [] [] (pos 0))
     -- A1: log A1, tag 3 is 1500.
-    ∷ (deliverAll (a1 ∷ []), station (ok (run3 (A 1) (pos 1500) ∷ []) ∷ []) 1 0 320 (A 1 ∷ []) [] (pos 1500))
+    ∷ (deliverAll (a1 ∷ []), station (ok (run3 (A 1) (pos 1500) ∷ []) ∷ []) 1 0 592 (A 1 ∷ []) [] (pos 1500))
     -- A2 then A1: first no step, held; then execute A1, A2.
-    ∷ (deliverAll (a2 ∷ []), station (ok [] ∷ []) 0 1 320 [] (A 2 ∷ []) (pos 0))
-    ∷ (deliverAll (a2 ∷ a1 ∷ []), station (ok [] ∷ ok (run3 (A 1) (pos 1500) ∷ run3 (A 2) (pos 7) ∷ []) ∷ []) 2 0 368 (A 1 ∷ A 2 ∷ []) [] (pos 7))
+    ∷ (deliverAll (a2 ∷ []), station (ok [] ∷ []) 0 1 592 [] (A 2 ∷ []) (pos 0))
+    ∷ (deliverAll (a2 ∷ a1 ∷ []), station (ok [] ∷ ok (run3 (A 1) (pos 1500) ∷ run3 (A 2) (pos 7) ∷ []) ∷ []) 2 0 640 (A 1 ∷ A 2 ∷ []) [] (pos 7))
     -- B1 then A1: undo B1, execute A1, B1; tag 3 is 1480.
     ∷ (
       deliverAll (b1 ∷ a1 ∷ []),
-      station (ok (run3 (B 1) (negsuc 19) ∷ []) ∷ ok (undo3 (B 1) (pos 0) ∷ run3 (A 1) (pos 1500) ∷ run3 (B 1) (pos 1480) ∷ []) ∷ []) 2 0 368 (A 1 ∷ B 1 ∷ []) [] (pos 1480),
+      station (ok (run3 (B 1) (negsuc 19) ∷ []) ∷ ok (undo3 (B 1) (pos 0) ∷ run3 (A 1) (pos 1500) ∷ run3 (B 1) (pos 1480) ∷ []) ∷ []) 2 0 640 (A 1 ∷ B 1 ∷ []) [] (pos 1480),
     )
     -- Set 999990, add 20, add -20: 999980.
-    ∷ (deliverAll (stopped ∷ []), station (ok (at 3 (execute (A 1)) (pos 999990 ∷ pos 1000000 ∷ pos 999980 ∷ []) ∷ []) ∷ []) 1 0 336 (A 1 ∷ []) [] (pos 999980))
+    ∷ (deliverAll (stopped ∷ []), station (ok (at 3 (execute (A 1)) (pos 999990 ∷ pos 1000000 ∷ pos 999980 ∷ []) ∷ []) ∷ []) 1 0 608 (A 1 ∷ []) [] (pos 999980))
     -- B1 block 1 priority 5, C1 block 1 priority 7, plain A1: log A1, C1, B1.
     ∷ (
       deliverAll (b1-5 ∷ c1-7 ∷ a1 ∷ []),
       station (ok (run3 (B 1) (negsuc 19) ∷ []) ∷ ok (undo3 (B 1) (pos 0) ∷ runC1 ∷ run3 (B 1) (negsuc 19) ∷ [])
           ∷ ok (undo3 (B 1) (pos 0) ∷ at 4 (undo (C 1)) (pos 0 ∷ []) ∷ run3 (A 1) (pos 1500) ∷ runC1 ∷ run3 (B 1) (pos 1480) ∷ []) ∷ [])
-          3 0 416 (A 1 ∷ C 1 ∷ B 1 ∷ []) [] (pos 1480),
+          3 0 688 (A 1 ∷ C 1 ∷ B 1 ∷ []) [] (pos 1480),
     )
     -- With plain C2 too: A1, C1, B1, C2.
     ∷ (
       deliverAll (c2 ∷ a1 ∷ b1-5 ∷ c1-7 ∷ []),
       station (ok [] ∷ ok (run3 (A 1) (pos 1500) ∷ []) ∷ ok (run3 (B 1) (pos 1480) ∷ [])
           ∷ ok (undo3 (B 1) (pos 1500) ∷ runC1 ∷ run3 (B 1) (pos 1480) ∷ at 4 (execute (C 2)) (pos 21 ∷ []) ∷ []) ∷ [])
-          4 0 464 (A 1 ∷ C 1 ∷ B 1 ∷ C 2 ∷ []) [] (pos 1480),
+          4 0 736 (A 1 ∷ C 1 ∷ B 1 ∷ C 2 ∷ []) [] (pos 1480),
     )
     -- A1 and B1 each naming the other: L 0, H 2.
-    ∷ (deliverAll (b1-naming-a1 ∷ a1-naming-b1 ∷ []), station (ok [] ∷ ok [] ∷ []) 0 2 392 [] (A 1 ∷ B 1 ∷ []) (pos 0))
+    ∷ (deliverAll (b1-naming-a1 ∷ a1-naming-b1 ∷ []), station (ok [] ∷ ok [] ∷ []) 0 2 664 [] (A 1 ∷ B 1 ∷ []) (pos 0))
     -- A1 again: no step.
-    ∷ (deliverAll (a1 ∷ a1 ∷ []), station (ok (run3 (A 1) (pos 1500) ∷ []) ∷ ok [] ∷ []) 1 0 320 (A 1 ∷ []) [] (pos 1500))
+    ∷ (deliverAll (a1 ∷ a1 ∷ []), station (ok (run3 (A 1) (pos 1500) ∷ []) ∷ ok [] ∷ []) 1 0 592 (A 1 ∷ []) [] (pos 1500))
     -- Compose on A, log B1: A1, group 2, names B1.
     ∷ (composeOn (lineNumber 0xA) (b1 ∷ []), message 0 (messageOf false (A 1) 2 0 0 (B 1 ∷ []) (command 1 3 (pos 5))))
     -- Compose on B, log A1: B1, group 1, names A1.
@@ -126,15 +127,15 @@ examples =
     -- Beside the starred ones. A1 of group 2 and B1 of group 1: log B1, A1.
     ∷ (
       deliverAll (a1-group-2 ∷ b1 ∷ []),
-      station (ok (run3 (A 1) (pos 1500) ∷ []) ∷ ok (undo3 (A 1) (pos 0) ∷ run3 (B 1) (negsuc 19) ∷ run3 (A 1) (pos 1500) ∷ []) ∷ []) 2 0 368 (B 1 ∷ A 1 ∷ []) [] (pos 1500),
+      station (ok (run3 (A 1) (pos 1500) ∷ []) ∷ ok (undo3 (A 1) (pos 0) ∷ run3 (B 1) (negsuc 19) ∷ run3 (A 1) (pos 1500) ∷ []) ∷ []) 2 0 640 (B 1 ∷ A 1 ∷ []) [] (pos 1500),
     )
     -- Set 5, raise to 3, to 9, to -1: 9.
-    ∷ (deliverAll (raised ∷ []), station (ok (at 3 (execute (A 1)) (pos 5 ∷ pos 5 ∷ pos 9 ∷ pos 9 ∷ []) ∷ []) ∷ []) 1 0 344 (A 1 ∷ []) [] (pos 9))
+    ∷ (deliverAll (raised ∷ []), station (ok (at 3 (execute (A 1)) (pos 5 ∷ pos 5 ∷ pos 9 ∷ pos 9 ∷ []) ∷ []) ∷ []) 1 0 616 (A 1 ∷ []) [] (pos 9))
     -- Compose on A, log A1: A2, group 1, which names nothing.
     ∷ (composeOn (lineNumber 0xA) (a1 ∷ []), message 0 (messageOf false (A 2) 1 0 0 [] (command 1 3 (pos 5))))
     ∷ []
 
 -- Every example has the outcome that stands beside it.
 examples-hold : map (λ e. outcomeOf (e .0)) examples ≡ map (λ e. e .1) examples
-unfolding examples empty deliver deliverCode compose composeCode setpoint composed newDependencies isImage imageOf usedOf sectionsOf headerOf valuesOf messagesOf messagesStart messagesStartIn setpointsOf startValues logOf heldOf executablesOf needs readRecord recordBytes recordsOf executionOf undoOf changesOf runDelta runCommand apply changeOf operate raise stop passes layoutRight numbersRight dependenciesRight contentRight commandRight
+unfolding examples empty deliver deliverCode takeIn compose composeCode setpoint composed newDependencies isImage imageOf usedOf sectionsOf headerOf valuesOf baseOf floorsOf messagesOf messagesStart messagesStartIn floorsIn baseIn originIn originRight topsRight setpointsOf startValues logOf heldOf executablesOf needs readRecord recordBytes recordsOf executionOf undoOf changesOf runDelta runCommand apply changeOf operate raise stop passes layoutRight numbersRight dependenciesRight contentRight commandRight
 examples-hold = refl

@@ -11,20 +11,22 @@ use Rattle.model.specs.Lists.{same}
 use Rattle.model.specs.Bytes.{bytes}
 use Rattle.model.specs.Layout.{imageSize, stepSize, stepRoom, messageRoom, lineSize, fieldLimit}
 use Rattle.model.specs.Message.{Message, layoutRight, numbersRight, dependenciesRight, contentRight, commandRight, passes}
-use Rattle.model.specs.Order.{stateOf, needs, executablesOf, logOf, heldOf}
+use Rattle.model.specs.Tops.{topsRight}
+use Rattle.model.specs.Order.{originRight, takeIn, stateOf, needs, executablesOf, logOf, heldOf}
 use Rattle.model.specs.Setpoints.{startValues, stop, raise, operate, changeOf, apply, runCommand, runDelta, changesOf, setpointsOf}
-use Rattle.model.specs.Image.{messagesStart, messagesOf, valuesOf, headerOf, sectionsOf, usedOf, imageOf, messagesStartIn, offsetOf, setOf, isImage}
+use Rattle.model.specs.Image.{messagesStart, messagesOf, valuesOf, baseOf, floorsOf, headerOf, sectionsOf, usedOf, imageOf, messagesStartIn, floorsIn, baseIn, originIn, offsetOf, setOf, isImage}
 use Rattle.model.specs.Steps.{Step, undo, execute, executionOf, undoOf, recordsOf, recordBytes, readRecord, readSteps}
 use Rattle.model.specs.Text.{characterOf}
 use Rattle.model.specs.Compose.{messageOf, newDependencies, composed}
 use Rattle.model.specs.Calls.{emptyState, Emptied, empty, Delivered, deliver, deliverCode, Composed, compose, composeCode, logMessage, logMessageCode, Setpoint, setpoint, Reader, start, next}
 use Rattle.model.specs.Program.{printedLine, lastLine, badCut, linesFrom, listing, printedValue, printedCommand, logLine, printedLog}
-use Rattle.model.proofs.ExampleMessages.{A, B, C, command, plain, urgent, rightCommands, a1, a2, b1, c2, b1-5, a1-value, lines, lineA, lineC}
+use Rattle.model.proofs.ExampleMessages.{A, B, C, command, plain, urgent, rightCommands, a1, a2, b1, c2, b1-5, a1-value, lines, origin, after, lineA, lineC}
 
 -- ---- a buffer that is lent as an image
 data Buffer : Type 0 where
-  -- the image of these deltas
+  -- the image of these deltas; of a station that purged up to this floor
   holding : List Message → Buffer
+  purgedTo : ℕ → List Message → Buffer
   -- "image of 16,383"; "L = 1, no message"; the image of no deltas, but with a last byte of 1
   short noMessage endNotZero : Buffer
 
@@ -33,6 +35,7 @@ none = holding []
 
 abbrev bytesOf : Buffer → List ℕ
 bytesOf (holding l) = imageOf (stateOf (setOf l))
+bytesOf (purgedTo floor l) = imageOf (after (origin (floor ∷ []) 0 1) l)
 bytesOf short = take (imageSize - 1) (imageOf emptyState)
 bytesOf noMessage = bytes 2 1 ++ drop 2 (imageOf emptyState)
 bytesOf endNotZero = take (imageSize - 1) (imageOf emptyState) ++ 1 ∷ []
@@ -151,6 +154,9 @@ examples =
     ∷ (logMessageOf noMessage 0, part [] 2)
     ∷ (setpointOf noMessage 3, value 2 (pos 0))
     ∷ (setpointOf endNotZero 3, value 2 (pos 0))
+    -- A1, and the floor of its line at A1; with the floor at A1, A2 runs
+    ∷ (setpointOf (purgedTo (A 1) (a1 ∷ [])) 3, value 2 (pos 0))
+    ∷ (setpointOf (purgedTo (A 1) (a2 ∷ [])) 3, value 0 (pos 7))
     -- 3: 47-byte message; to compose, commands of 15 bytes and of none
     ∷ (deliverTo none (take 47 a1) stepRoom, refusedDelivery 3)
     ∷ (composePlain none lineA (take 15 (rightCommands ++ rightCommands)), refusedCompose 3)
@@ -172,6 +178,8 @@ examples =
     ∷ (composePlain (holding (plain (A 3) [] rightCommands ∷ [])) lineA rightCommands, refusedCompose 9)
     -- 10: with priority, after block 2147483647
     ∷ (composeUrgent (holding (urgent (B 1) fieldLimit 5 rightCommands ∷ [])) lineC 7, refusedCompose 10)
+    -- the floor of the line at AFFFF
+    ∷ (composePlain (purgedTo (A 0xFFFF) []) lineA rightCommands, refusedCompose 10)
     -- 11: nine lone lines, a tenth composes
     ∷ (composePlain (holding (lines 1 9)) lineA rightCommands, refusedCompose 11)
     -- 12: place 0 of an empty log; tag 64
@@ -179,6 +187,9 @@ examples =
     ∷ (setpointOf none 64, value 12 (pos 0))
     -- ---- deliver: undos and executions apart, and every byte past the steps as it was, the 10,161st too
     ∷ (deliverTo (holding (b1 ∷ [])) a1 10161, delivered 0 1 2 (some (undo (B 1) ∷ execute (A 1) ∷ execute (B 1) ∷ [])) false true)
+    -- at a floor: 0, no step, nothing written; but tag 64 there is 6
+    ∷ (deliverTo (purgedTo (A 1) (b1 ∷ [])) a1 stepRoom, delivered 0 0 0 (some []) true true)
+    ∷ (deliverTo (purgedTo (A 1) []) (plain (A 1) [] (command 1 64 (pos 5))) stepRoom, refusedDelivery 6)
     -- ---- compose with the flag: block 1 on an empty log, 2 after block 1
     ∷ (composeUrgent none lineA 0, composes 0 48 (messageOf true (A 1) 1 1 0 [] rightCommands) true)
     ∷ (composeUrgent (holding (b1-5 ∷ [])) lineC 7, composes 0 60 (messageOf true (C 1) 1 2 7 (B 1 ∷ []) rightCommands) true)
@@ -187,9 +198,9 @@ examples =
     -- ---- setpoint: 1500 - 20 at tag 3
     ∷ (setpointOf station 3, value 0 (pos 1480))
     -- ---- the reader: its start, two nexts and one past the end; then on buffers that answer 1 and 2
-    ∷ (readLog station 3, parts 272 ((a1, 320) ∷ (b1, 368) ∷ ([], 368) ∷ []))
-    ∷ (readLog short 1, parts 272 (([], 272) ∷ []))
-    ∷ (readLog noMessage 1, parts 272 (([], 272) ∷ []))
+    ∷ (readLog station 3, parts 544 ((a1, 592) ∷ (b1, 640) ∷ ([], 640) ∷ []))
+    ∷ (readLog short 1, parts 0 (([], 0) ∷ []))
+    ∷ (readLog noMessage 1, parts 544 (([], 544) ∷ []))
     -- ---- the listing. B1, A1: "1 0 0 1", "2 0 1 2", "log 2 held 0".
     ∷ (
       list (b1 ++ a1),
@@ -203,11 +214,11 @@ examples =
       printed (49 ∷ 32 ∷ 51 ∷ 32 ∷ 48 ∷ 32 ∷ 48 ∷ 10
           ∷ 108 ∷ 111 ∷ 103 ∷ 32 ∷ 48 ∷ 32 ∷ 104 ∷ 101 ∷ 108 ∷ 100 ∷ 32 ∷ 48 ∷ 10 ∷ []),
     )
-    -- ---- `print_log`. "0 272 48 00000000000A000000010001 3 1500", "1 320 48 00000000000B000000010001 3 -20", and C2, held, is not printed.
+    -- ---- `print_log`. "0 544 48 00000000000A000000010001 3 1500", "1 592 48 00000000000B000000010001 3 -20", and C2, held, is not printed.
     ∷ (
       printLog station,
-      printed (48 ∷ 32 ∷ 50 ∷ 55 ∷ 50 ∷ 32 ∷ 52 ∷ 56 ∷ 32 ∷ replicate 11 48 ++ 65 ∷ replicate 7 48 ++ 49 ∷ 48 ∷ 48 ∷ 48 ∷ 49 ∷ 32 ∷ 51 ∷ 32 ∷ 49 ∷ 53 ∷ 48 ∷ 48 ∷ 10
-          ∷ 49 ∷ 32 ∷ 51 ∷ 50 ∷ 48 ∷ 32 ∷ 52 ∷ 56 ∷ 32 ∷ replicate 11 48 ++ 66 ∷ replicate 7 48 ++ 49 ∷ 48 ∷ 48 ∷ 48 ∷ 49 ∷ 32 ∷ 51 ∷ 32 ∷ 45 ∷ 50 ∷ 48 ∷ 10 ∷ []),
+      printed (48 ∷ 32 ∷ 53 ∷ 52 ∷ 52 ∷ 32 ∷ 52 ∷ 56 ∷ 32 ∷ replicate 11 48 ++ 65 ∷ replicate 7 48 ++ 49 ∷ 48 ∷ 48 ∷ 48 ∷ 49 ∷ 32 ∷ 51 ∷ 32 ∷ 49 ∷ 53 ∷ 48 ∷ 48 ∷ 10
+          ∷ 49 ∷ 32 ∷ 53 ∷ 57 ∷ 50 ∷ 32 ∷ 52 ∷ 56 ∷ 32 ∷ replicate 11 48 ++ 66 ∷ replicate 7 48 ++ 49 ∷ 48 ∷ 48 ∷ 48 ∷ 49 ∷ 32 ∷ 51 ∷ 32 ∷ 45 ∷ 50 ∷ 48 ∷ 10 ∷ []),
     )
     -- an empty log, and the two refusals
     ∷ (printLog none, printed [])
@@ -217,5 +228,5 @@ examples =
 
 -- Every example has the outcome that stands beside it.
 examples-hold : map (λ e. outcomeOf (e .0)) examples ≡ map (λ e. e .1) examples
-unfolding examples empty deliver deliverCode compose composeCode logMessage logMessageCode setpoint start next listing linesFrom badCut printedLine lastLine printedLog logLine printedCommand printedValue characterOf offsetOf composed newDependencies isImage imageOf usedOf sectionsOf headerOf valuesOf messagesOf messagesStart messagesStartIn setpointsOf startValues logOf heldOf executablesOf needs readRecord recordBytes recordsOf executionOf undoOf changesOf runDelta runCommand apply changeOf operate raise stop passes layoutRight numbersRight dependenciesRight contentRight commandRight
+unfolding examples empty deliver deliverCode takeIn compose composeCode logMessage logMessageCode setpoint start next listing linesFrom badCut printedLine lastLine printedLog logLine printedCommand printedValue characterOf offsetOf composed newDependencies isImage imageOf usedOf sectionsOf headerOf valuesOf baseOf floorsOf messagesOf messagesStart messagesStartIn floorsIn baseIn originIn originRight topsRight setpointsOf startValues logOf heldOf executablesOf needs readRecord recordBytes recordsOf executionOf undoOf changesOf runDelta runCommand apply changeOf operate raise stop passes layoutRight numbersRight dependenciesRight contentRight commandRight
 examples-hold = refl

@@ -6,9 +6,9 @@ use Prim.Native.Nat.{ℕ}
 use lib.ListN.{replicate}
 use lib.IntN.{ℤ, pos}
 use Rattle.model.specs.Message.{Message}
-use Rattle.model.specs.Order.{needs, executablesOf, logOf, heldOf}
+use Rattle.model.specs.Order.{takeIn, needs, executablesOf, logOf, heldOf}
 use Rattle.model.specs.Setpoints.{startValues, stop, raise, operate, changeOf, apply, runCommand, runDelta, changesOf, setpointsOf}
-use Rattle.model.specs.Image.{messagesStart, messagesOf, valuesOf, headerOf, sectionsOf, usedOf, messagesStartIn}
+use Rattle.model.specs.Image.{messagesStart, messagesOf, valuesOf, baseOf, floorsOf, headerOf, sectionsOf, usedOf, imageOf, messagesStartIn, floorsIn, baseIn, originIn}
 use Rattle.model.specs.Steps.{Step, undo, execute, executionOf, undoOf, recordsOf, recordBytes}
 use Rattle.model.specs.Calls.{written, emptyAnswer, Delivered, deliverAnswer, composeAnswer, setpointAnswer, start, nextMessage}
 use Rattle.model.proofs.ExampleMessages.{A, B, a1, a2, b1, c2, holding}
@@ -52,7 +52,7 @@ accepted =
     ∷ []
 
 accepted-holds : map (λ e. counts (deliverAnswer 0 (holding (e .0 .0)) [] (e .0 .1) lent)) accepted ≡ map (λ e. e .1) accepted
-unfolding accepted recordBytes recordsOf executionOf undoOf changesOf startValues runDelta runCommand apply changeOf operate raise stop logOf needs
+unfolding accepted takeIn recordBytes recordsOf executionOf undoOf changesOf startValues runDelta runCommand apply changeOf operate raise stop logOf needs
 accepted-holds = refl
 
 -- ---- refusals: deliver by 7, compose by 9, empty by 1, setpoint by 12
@@ -80,22 +80,25 @@ abbrev valueIn : List ℕ → ℕ → ℤ
 valueIn b tag = setpointAnswer 0 b tag .value
 
 values-hold : map (λ e. valueIn used (e .0)) values ≡ map (λ e. e .1) values
-unfolding values messagesStartIn usedOf sectionsOf headerOf valuesOf messagesOf messagesStart setpointsOf startValues runDelta runCommand apply changeOf operate raise stop logOf heldOf executablesOf needs
+unfolding values messagesStartIn floorsIn baseIn originIn usedOf sectionsOf headerOf valuesOf baseOf floorsOf messagesOf messagesStart setpointsOf startValues runDelta runCommand apply changeOf operate raise stop logOf heldOf executablesOf needs
 values-hold = refl
 
--- ---- the reader: where it starts
-starts : start used .offset ≡ 272
-unfolding start messagesStartIn
-starts = refl
+-- ---- the reader: where it starts, on the image of A1, B1 and C2; on its used bytes alone, which answer 1
+begun : List (List ℕ × ℕ)
+begun = (imageOf (holding (a1 ∷ b1 ∷ c2 ∷ [])), 544) ∷ (used, 0) ∷ []
+
+begun-holds : map (λ e. start (e .0) .offset) begun ≡ map (λ e. e .1) begun
+unfolding begun start imageOf messagesStartIn usedOf sectionsOf headerOf valuesOf baseOf floorsOf messagesOf messagesStart setpointsOf startValues runDelta runCommand apply changeOf operate raise stop logOf heldOf executablesOf needs
+begun-holds = refl
 
 -- an offset, and the part there: A1, B1; past the log nothing, though C2 lies there, nor between two messages
 parts : List (ℕ × Message)
-parts = (272, a1) ∷ (320, b1) ∷ (368, []) ∷ (271, []) ∷ (300, []) ∷ []
+parts = (544, a1) ∷ (592, b1) ∷ (640, []) ∷ (543, []) ∷ (572, []) ∷ []
 
 parts-hold : map (λ e. nextMessage 0 used (e .0)) parts ≡ map (λ e. e .1) parts
-unfolding parts messagesStartIn usedOf sectionsOf headerOf valuesOf messagesOf messagesStart setpointsOf startValues runDelta runCommand apply changeOf operate raise stop logOf heldOf executablesOf needs
+unfolding parts messagesStartIn usedOf sectionsOf headerOf valuesOf baseOf floorsOf messagesOf messagesStart setpointsOf startValues runDelta runCommand apply changeOf operate raise stop logOf heldOf executablesOf needs
 parts-hold = refl
 
 -- "on a buffer that answers 1 or 2, it gives an empty part"
-refused-part : nextMessage 1 used 272 ∷ nextMessage 2 used 272 ∷ [] ≡ [] ∷ [] ∷ []
+refused-part : nextMessage 1 used 544 ∷ nextMessage 2 used 544 ∷ [] ≡ [] ∷ [] ∷ []
 refused-part = refl

@@ -4,27 +4,29 @@ use mathlib.Core.Bool.{Bool, true, false}
 use mathlib.Core.List.{List, [], _∷_, map}
 use Prim.Native.Nat.{ℕ}
 use Rattle.model.specs.Message.{Message}
-use Rattle.model.specs.Order.{needs, logOf}
-use Rattle.model.specs.Compose.{messageOf, numberAfter, newDependencies, groupAfter, newBlock, composed}
-use Rattle.model.proofs.ExampleMessages.{A, B, C, plain, urgent, rightCommands, a1, a2, b1, c2, b1-5, a1-group-2, a1-naming-b1, b1-naming-a1, holding, lineA, lineB, lineC}
+use Rattle.model.specs.Order.{State, needs, logOf}
+use Rattle.model.specs.Compose.{messageOf, newNumber, newDependencies, groupAfter, newBlock, composed}
+use Rattle.model.proofs.ExampleMessages.{A, B, C, plain, urgent, rightCommands, a1, a2, b1, c2, b1-5, a1-group-2, a1-naming-b1, b1-naming-a1, holding, origin, after, lineA, lineB, lineC}
 
--- ---- "Number is one more than the line's greatest in the log, or 0001": a log and a line
-numbers : List ((List Message × ℕ) × ℕ)
+-- ---- "Number is one more than the line's greatest in the log, or 0001": a station and a line
+numbers : List ((State × ℕ) × ℕ)
 numbers =
-    (([], lineA), 1)
-    ∷ ((b1 ∷ [], lineA), 1)
-    ∷ ((a1 ∷ b1 ∷ a2 ∷ [], lineA), 3)
-    ∷ ((a1 ∷ b1 ∷ a2 ∷ [], lineB), 2)
-    -- the number past the limit
-    ∷ ((plain (A 0xFFFF) [] rightCommands ∷ [], lineA), 65536)
+    ((holding [], lineA), 1)
+    ∷ ((holding (b1 ∷ []), lineA), 1)
+    ∷ ((holding (a1 ∷ b1 ∷ a2 ∷ []), lineA), 3)
+    ∷ ((holding (a1 ∷ b1 ∷ a2 ∷ []), lineB), 2)
+    -- a held one does not count
+    ∷ ((holding (a2 ∷ []), lineA), 1)
+    -- the number past the limit: AFFFF in the log, and all before it purged
+    ∷ ((after (origin (A 0xFFFE ∷ []) 0 1) (plain (A 0xFFFF) [] rightCommands ∷ []), lineA), 65536)
     ∷ []
 
-numbers-hold : map (λ e. numberAfter (e .0 .0) (e .0 .1)) numbers ≡ map (λ e. e .1) numbers
-unfolding numbers
+numbers-hold : map (λ e. newNumber (e .0 .0) (e .0 .1)) numbers ≡ map (λ e. e .1) numbers
+unfolding numbers logOf needs
 numbers-hold = refl
 
 -- ---- "Group is 1 on an empty log; the highest in the log plus one if the last delta's sequence is above the new one; else the
--- highest": a log and the new sequence
+-- highest": a log and the new sequence, nothing purged
 groups : List ((List Message × ℕ) × ℕ)
 groups =
     (([], A 1), 1)
@@ -38,7 +40,7 @@ groups =
     ∷ ((c2 ∷ a1 ∷ [], B 1), 1)
     ∷ []
 
-groups-hold : map (λ e. groupAfter (e .0 .0) (e .0 .1)) groups ≡ map (λ e. e .1) groups
+groups-hold : map (λ e. groupAfter 0 (e .0 .0) (e .0 .1)) groups ≡ map (λ e. e .1) groups
 unfolding groups
 groups-hold = refl
 

@@ -161,7 +161,7 @@ unneededBy-holds = refl
 
 -- ---- 12: the header of an image, A1 and B1 in the log and C2 held, and of one of no deltas
 abbrev header : List ℕ
-header = 0 ∷ 2 ∷ 0 ∷ 1 ∷ 0 ∷ 16 ∷ 0x01 ∷ 0x10 ∷ 0x01 ∷ 0xA0 ∷ 0 ∷ 0 ∷ 0 ∷ 0 ∷ 0 ∷ 0 ∷ []
+header = 0 ∷ 2 ∷ 0 ∷ 1 ∷ 0 ∷ 32 ∷ 0x02 ∷ 0x20 ∷ 0x02 ∷ 0xB0 ∷ 0 ∷ 0 ∷ 0x02 ∷ 0x20 ∷ 0x01 ∷ 0x20 ∷ replicate 16 0
 
 places : List ((List ℕ × ℕ) × Bool)
 places =
@@ -169,7 +169,7 @@ places =
     ((header, 1), false)
     ∷ ((header, 2), true)
     -- "place 0 of an empty log"
-    ∷ ((replicate 16 0, 0), true)
+    ∷ ((replicate 32 0, 0), true)
     ∷ []
 
 places-hold : map (λ e. applies 12 (logMessageConditions (e .0 .0) (e .0 .1))) places ≡ map (λ e. e .1) places

@@ -2,10 +2,11 @@
 use mathlib.Core.Bool.{true, false}
 use mathlib.Core.List.{List, [], _∷_, _++_}
 use Prim.Native.Nat.{ℕ, zero, suc, _+_, _*_, _-_, _^_}
+use lib.ListN.{replicate}
 use lib.IntN.{ℤ, pos, negsuc}
 use Rattle.model.specs.Bytes.{bytes, word}
 use Rattle.model.specs.Message.{Message}
-use Rattle.model.specs.Order.{State, stateOf}
+use Rattle.model.specs.Order.{Origin, State, stateOf}
 use Rattle.model.specs.Image.{setOf}
 use Rattle.model.specs.Compose.{messageOf}
 
@@ -95,3 +96,10 @@ lines number (suc n) = plain (lineNumber (100 - n) * 65536 + number) [] rightCom
 -- ---- the station that received these, in whichever order
 abbrev pub holding : List Message → State
 holding l = stateOf (setOf l)
+
+-- ---- the station that purged, and received these since: floors, purged block and group, all base values zero; and of any origin
+abbrev pub origin : List ℕ → ℕ → ℕ → Origin
+origin floors block group = record { floors = floors; base = replicate 64 (pos 0); block = block; group = group }
+
+abbrev pub after : Origin → List Message → State
+after O l = record { deltas = setOf l; origin = O }

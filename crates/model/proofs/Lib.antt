@@ -17,5 +17,7 @@ pub mod CodeLists
 pub mod ConditionExamples
 pub mod AnswerExamples
 pub mod PlainStationExamples
+pub mod FloorExamples
+pub mod FloorImageExamples
 pub mod PairExamples
 pub mod ProgramExamples

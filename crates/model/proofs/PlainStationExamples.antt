@@ -6,9 +6,9 @@ use Prim.Native.Nat.{ℕ}
 use lib.ListN.{length, take}
 use lib.IntN.{pos}
 use Rattle.model.specs.Message.{Message, layoutRight, numbersRight, dependenciesRight, contentRight, commandRight, passes}
-use Rattle.model.specs.Order.{State, stateOf}
+use Rattle.model.specs.Order.{State, stateOf, takeIn}
 use Rattle.model.specs.PlainStation.{accepts, receive}
-use Rattle.model.proofs.ExampleMessages.{A, command, plain, rightCommands, a1, a2, a1-value, lines, holding}
+use Rattle.model.proofs.ExampleMessages.{A, command, plain, rightCommands, a1, a2, a1-value, lines, holding, origin, after}
 
 pub record Delivery : Type 0 where
   pub set : State
@@ -33,11 +33,17 @@ deliveries =
     -- "else if the set has 64 messages and not this sequence"
     ∷ (to (stateOf (lines 2 63)) a2 10160, (true, 64))
     ∷ (to (stateOf (lines 2 64)) a2 10160, (false, 64))
+    -- at a floor: accepted, with 64 messages too, and "its message joins no set"; refused by 1 and by 6 as any other; above it
+    ∷ (to (after (origin (A 1 ∷ []) 0 1) (lines 2 64)) a1 10160, (true, 64))
+    ∷ (to (after (origin (A 1 ∷ []) 0 1) []) a1 10160, (true, 0))
+    ∷ (to (after (origin (A 1 ∷ []) 0 1) []) a1 10159, (false, 0))
+    ∷ (to (after (origin (A 1 ∷ []) 0 1) []) (plain (A 1) [] (command 1 64 (pos 5))) 10160, (false, 0))
+    ∷ (to (after (origin (A 1 ∷ []) 0 1) []) a2 10160, (true, 1))
     ∷ []
 
 abbrev outcome : Delivery → Bool × ℕ
 outcome d = (accepts (d .set) (d .message) (d .room), length (receive (d .set) (d .message) (d .room) .deltas))
 
 deliveries-hold : map (λ e. outcome (e .0)) deliveries ≡ map (λ e. e .1) deliveries
-unfolding deliveries accepts receive passes layoutRight numbersRight dependenciesRight contentRight commandRight
+unfolding deliveries accepts receive takeIn passes layoutRight numbersRight dependenciesRight contentRight commandRight
 deliveries-hold = refl

@@ -6,9 +6,10 @@ use Prim.Native.Nat.{ℕ, _-_}
 use lib.ListN.{set}
 use Rattle.model.specs.Layout.{imageSize}
 use Rattle.model.specs.Message.{layoutRight, numbersRight, dependenciesRight, contentRight, commandRight, passes}
-use Rattle.model.specs.Order.{stateOf, needs, executablesOf, logOf, heldOf}
+use Rattle.model.specs.Tops.{topsRight}
+use Rattle.model.specs.Order.{originRight, stateOf, needs, executablesOf, logOf, heldOf}
 use Rattle.model.specs.Setpoints.{startValues, stop, raise, operate, changeOf, apply, runCommand, runDelta, setpointsOf}
-use Rattle.model.specs.Image.{messagesStart, messagesOf, valuesOf, headerOf, sectionsOf, usedOf, imageOf, messagesStartIn, isImage}
+use Rattle.model.specs.Image.{messagesStart, messagesOf, valuesOf, baseOf, floorsOf, headerOf, sectionsOf, usedOf, imageOf, messagesStartIn, floorsIn, baseIn, originIn, isImage}
 use Rattle.model.specs.Calls.{emptyState, logMessage, logMessageCode}
 use Rattle.model.proofs.ExampleMessages.{a1, b1, c2}
 
@@ -25,7 +26,7 @@ buffers =
     ∷ []
 
 buffers-hold : map (λ e. isImage (e .0)) buffers ≡ map (λ e. e .1) buffers
-unfolding buffers isImage imageOf messagesStartIn usedOf sectionsOf headerOf valuesOf messagesOf messagesStart setpointsOf startValues runDelta runCommand apply changeOf operate raise stop logOf heldOf executablesOf needs passes layoutRight numbersRight dependenciesRight contentRight commandRight
+unfolding buffers isImage imageOf messagesStartIn floorsIn baseIn originIn originRight topsRight usedOf sectionsOf headerOf valuesOf baseOf floorsOf messagesOf messagesStart setpointsOf startValues runDelta runCommand apply changeOf operate raise stop logOf heldOf executablesOf needs passes layoutRight numbersRight dependenciesRight contentRight commandRight
 buffers-hold = refl
 
 -- ---- log message: a place of the log A1, B1, with C2 held; and its second call
@@ -33,9 +34,9 @@ abbrev station : List ℕ
 station = imageOf (stateOf (a1 ∷ b1 ∷ c2 ∷ []))
 
 second-place : logMessage station 1 ≡ b1
-unfolding logMessage logMessageCode isImage imageOf messagesStartIn usedOf sectionsOf headerOf valuesOf messagesOf messagesStart setpointsOf startValues runDelta runCommand apply changeOf operate raise stop logOf heldOf executablesOf needs passes layoutRight numbersRight dependenciesRight contentRight commandRight
+unfolding logMessage logMessageCode isImage imageOf messagesStartIn floorsIn baseIn originIn originRight topsRight usedOf sectionsOf headerOf valuesOf baseOf floorsOf messagesOf messagesStart setpointsOf startValues runDelta runCommand apply changeOf operate raise stop logOf heldOf executablesOf needs passes layoutRight numbersRight dependenciesRight contentRight commandRight
 second-place = refl
 
 third-place : logMessageCode station 2 ≡ 12
-unfolding logMessageCode isImage imageOf messagesStartIn usedOf sectionsOf headerOf valuesOf messagesOf messagesStart setpointsOf startValues runDelta runCommand apply changeOf operate raise stop logOf heldOf executablesOf needs passes layoutRight numbersRight dependenciesRight contentRight commandRight
+unfolding logMessageCode isImage imageOf messagesStartIn floorsIn baseIn originIn originRight topsRight usedOf sectionsOf headerOf valuesOf baseOf floorsOf messagesOf messagesStart setpointsOf startValues runDelta runCommand apply changeOf operate raise stop logOf heldOf executablesOf needs passes layoutRight numbersRight dependenciesRight contentRight commandRight
 third-place = refl

@@ -8,13 +8,13 @@ use lib.Dec.{eqb}
 use lib.IntN.{ℤ, pos}
 use Rattle.model.specs.Bytes.{number}
 use Rattle.model.specs.Message.{Message}
-use Rattle.model.specs.Order.{State, stateOf, add, sequencesOf, logOf}
+use Rattle.model.specs.Order.{State, stateOf, takeIn, sequencesOf, logOf}
 use Rattle.model.specs.Setpoints.{setpointsOf}
 use Rattle.model.specs.Image.{imageOf, messagesStartIn, stateIn, logIn}
 use Rattle.model.specs.Steps.{undosOf, executionsOf, recordsBetween, recordsBytes}
 use Rattle.model.specs.Compose.{composed}
 use Rattle.model.specs.Text.{textOf, sequenceBytesIn}
-use Rattle.model.specs.Codes.{lowestCode, emptyConditions, deliverConditions, composeConditions, readConditions, logMessageConditions, setpointConditions, readSequencesConditions, writeSequencesConditions}
+use Rattle.model.specs.Codes.{lowestCode, wrongSize, emptyConditions, deliverConditions, composeConditions, readConditions, logMessageConditions, setpointConditions, readSequencesConditions, writeSequencesConditions}
 
 -- New bytes at the front of a buffer, the rest unchanged.
 abbrev pub written : List ℕ → List ℕ → List ℕ
@@ -57,7 +57,7 @@ acceptedAnswer S next steps =
     }
 
 abbrev pub deliverAnswer : ℕ → State → List ℕ → Message → List ℕ → Delivered
-deliverAnswer zero S b m steps = acceptedAnswer S (add m S) steps
+deliverAnswer zero S b m steps = acceptedAnswer S (takeIn m S) steps
 deliverAnswer (suc n) S b m steps = record { code = suc n; undos = 0; executions = 0; image = b; steps = steps }
 
 unfoldable pub deliverCode : List ℕ → Message → ℕ → ℕ
@@ -111,9 +111,10 @@ pub record Read : Type 0 where
   pub part : List ℕ
   pub reader : Reader
 
--- "It starts at the first message of the log."
+-- "It starts at the first message of the log." On a buffer that is no image the papers leave the offset free: of another size it is 0, else
+-- where the messages would start by the number of floors; the reader stays there.
 unfoldable pub start : List ℕ → Reader
-start b = record { image = b; offset = messagesStartIn b }
+start b = record { image = b; offset = cond (wrongSize b) 0 (messagesStartIn b) }
 
 -- The message of a list that lies at an offset, the first of them at `at`; empty where none does.
 abbrev pub messageAt : ℕ → List Message → ℕ → Message

@@ -8,7 +8,7 @@ use Rattle.model.specs.Lists.{has, every, some?, same}
 use Rattle.model.specs.Bytes.{isBytes, number, parts}
 use Rattle.model.specs.Layout.{imageSize, stepRoom, messageRoom, lineSize, capacity, tagCount, commandSize, mostCommands, fieldLimit, numbersOfLine, mostDependencies, sequencesRoom, textRoom}
 use Rattle.model.specs.Message.{Message, layoutRight, numbersRight, dependenciesRight, contentRight, commandRight, sequenceOf, lineOf}
-use Rattle.model.specs.Order.{State, sequencesOf, find, heldOf}
+use Rattle.model.specs.Order.{State, purged, sequencesOf, find, heldOf}
 use Rattle.model.specs.Image.{isImage, stateIn, logCount}
 use Rattle.model.specs.Compose.{newNumber, newSequence, newGroup, newBlock, newDependencies}
 use Rattle.model.specs.Text.{textRight, sequencesRight, sequenceBytesIn, allNumbered}
@@ -32,15 +32,15 @@ smallSteps room = ltb room stepRoom
 abbrev pub messageConditions : Message → Conditions
 messageConditions m = (3, not (layoutRight m)) ∷ (4, not (numbersRight m)) ∷ (5, not (dependenciesRight m)) ∷ (6, not (contentRight m)) ∷ []
 
--- ---- 7: "sequence present with other bytes"; 8: "64 present and this sequence new"
+-- ---- 7: "sequence present with other bytes"; 8: "64 present and this sequence new". At or below a floor "7 and 8 are not looked for".
 abbrev pub present : State → ℕ → Bool
 present S s = has s (sequencesOf (S .deltas))
 
 abbrev pub conflicts : State → Message → Bool
-conflicts S m = present S (sequenceOf m) && not (same (find (S .deltas) (sequenceOf m)) m)
+conflicts S m = not (purged S (sequenceOf m)) && present S (sequenceOf m) && not (same (find (S .deltas) (sequenceOf m)) m)
 
 abbrev pub full : State → Message → Bool
-full S m = leb capacity (length (S .deltas)) && not (present S (sequenceOf m))
+full S m = not (purged S (sequenceOf m)) && leb capacity (length (S .deltas)) && not (present S (sequenceOf m))
 
 abbrev pub deliverConditions : List ℕ → Message → ℕ → Conditions
 deliverConditions b m room =

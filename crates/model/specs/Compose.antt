@@ -1,7 +1,7 @@
 -- Compose: the message that it writes, as a function of the state.
 use mathlib.Core.Bool.{Bool, cond, not, _&&_}
 use mathlib.Core.List.{List, [], _∷_, _++_, map}
-use Prim.Native.Nat.{ℕ, suc, _+_, _*_, _/_}
+use Prim.Native.Nat.{ℕ, suc, _+_, _*_, _/_, max}
 use lib.ListN.{length}
 use lib.Dec.{eqb, ltb}
 use Rattle.model.specs.Lists.{has, some?, keep, greatest}
@@ -23,12 +23,17 @@ messageOf flag s group block priority dependencies commands =
 abbrev pub numberOn : ℕ → ℕ → ℕ
 numberOn line s = cond (eqb (lineOf s) line) (numberOf s) 0
 
--- "Number is one more than the line's greatest in the log, or 0001."
-abbrev pub numberAfter : List Message → ℕ → ℕ
-numberAfter log line = suc (greatest (λ m. numberOn line (sequenceOf m)) log)
+-- The greatest number on a line among some deltas.
+abbrev pub highestNumber : ℕ → List Message → ℕ
+highestNumber line l = greatest (λ m. numberOn line (sequenceOf m)) l
 
+-- The number of a line's floor; 0 where it has none.
+abbrev pub floorNumber : State → ℕ → ℕ
+floorNumber S line = greatest (numberOn line) (S .origin .floors)
+
+-- "Number is one more than the line's greatest in the log, or 0001." "Compose counts floors .. too"
 abbrev pub newNumber : State → ℕ → ℕ
-newNumber S line = numberAfter (logOf S) line
+newNumber S line = suc (max (floorNumber S line) (highestNumber line (logOf S)))
 
 abbrev pub newSequence : State → ℕ → ℕ
 newSequence S line = line * numbersOfLine + newNumber S line
@@ -53,16 +58,19 @@ abbrev pub highestBlock : State → List Message → ℕ
 highestBlock S l = greatest (effectiveBlock S) l
 
 -- "Group is 1 on an empty log; the highest in the log plus one if the last delta's sequence is above the new one; else the highest."
-abbrev pub groupAfter : List Message → ℕ → ℕ
-groupAfter [] s = 1
-groupAfter (m ∷ l) s = let highest = highestGroup (m ∷ l) in cond (ltb s (lastSequence (m ∷ l))) (suc highest) highest
+-- "Compose counts .. purged group .. too; on a log emptied by purging the group is the greatest purged group plus one"
+abbrev pub groupAfter : ℕ → List Message → ℕ → ℕ
+groupAfter purgedGroup [] s = suc purgedGroup
+groupAfter purgedGroup (m ∷ l) s =
+    let highest = max purgedGroup (highestGroup (m ∷ l)) in cond (ltb s (lastSequence (m ∷ l))) (suc highest) highest
 
 abbrev pub newGroup : State → ℕ → ℕ
-newGroup S s = groupAfter (logOf S) s
+newGroup S s = groupAfter (S .origin .group) (logOf S) s
 
--- "With priority, block is the highest effective block plus one (1 on an empty log)."
+-- "With priority, block is the highest effective block plus one (1 on an empty log)." "Compose counts .. purged block too"; on a log emptied
+-- by purging it is "the greatest purged block plus one"
 abbrev pub newBlock : State → Bool → ℕ
-newBlock S flag = cond flag (suc (highestBlock S (logOf S))) 0
+newBlock S flag = cond flag (suc (max (S .origin .block) (highestBlock S (logOf S)))) 0
 
 -- "the message carries the commands, the flag and the priority as handed over"
 unfoldable pub composed : State → ℕ → List ℕ → Bool → ℕ → Message

@@ -1,4 +1,4 @@
--- The offsets, sizes and limits of document 01 and of Papers 1 and 2 of document 02, in bytes unless said otherwise.
+-- The offsets, sizes and limits of document 01 and of Papers 1, 2 and 4 of document 02, in bytes unless said otherwise.
 use mathlib.Core.List.{List, [], _∷_}
 use Prim.Native.Nat.{ℕ, _+_, _*_, _-_}
 use lib.IntN.{ℤ, pos, negsuc}
@@ -121,18 +121,47 @@ messagesOffsetAt = 6
 abbrev pub usedAt : ℕ
 usedAt = 8
 
--- bytes 10-15, zero
-abbrev pub zerosAt : ℕ
-zerosAt = 10
+-- how many floors there are, and where floors and base values start
+abbrev pub floorCountAt : ℕ
+floorCountAt = 10
 
--- the setpoints, past the header. Where the messages start is said in `Image`, by `messagesStart` of a state and `messagesStartIn` of a buffer.
+abbrev pub floorsOffsetAt : ℕ
+floorsOffsetAt = 12
+
+abbrev pub baseOffsetAt : ℕ
+baseOffsetAt = 14
+
+-- the greatest purged effective block, and the greatest purged group
+abbrev pub purgedBlockAt : ℕ
+purgedBlockAt = 16
+
+abbrev pub purgedGroupAt : ℕ
+purgedGroupAt = 20
+
+-- bytes 24-31, zero
+abbrev pub zerosAt : ℕ
+zerosAt = 24
+
+-- "Setpoints start at 32, base values at 288, floors at 544, messages after them": by `Image.messagesStart` of a state, and
+-- `messagesStartIn` of a buffer
 abbrev pub setpointsStart : ℕ
-setpointsStart = 16
+setpointsStart = 32
+
+abbrev pub baseStart : ℕ
+baseStart = setpointsStart + valuesSize
+
+abbrev pub floorsStart : ℕ
+floorsStart = baseStart + valuesSize
+
+-- "at most 32"
+abbrev pub mostFloors : ℕ
+mostFloors = 32
 
 -- the header's fields, each by its place and its size
 abbrev pub imageFields : List (ℕ × ℕ)
 imageFields =
-    (logCountAt, 2) ∷ (heldCountAt, 2) ∷ (setpointsOffsetAt, 2) ∷ (messagesOffsetAt, 2) ∷ (usedAt, 2) ∷ (zerosAt, setpointsStart - zerosAt) ∷ []
+    (logCountAt, 2) ∷ (heldCountAt, 2) ∷ (setpointsOffsetAt, 2) ∷ (messagesOffsetAt, 2) ∷ (usedAt, 2) ∷ (floorCountAt, 2) ∷ (floorsOffsetAt, 2)
+    ∷ (baseOffsetAt, 2) ∷ (purgedBlockAt, 4) ∷ (purgedGroupAt, 4) ∷ (zerosAt, setpointsStart - zerosAt) ∷ []
 
 -- the most deltas that an image holds
 abbrev pub capacity : ℕ

@@ -2,6 +2,7 @@ pub mod Lists
 pub mod Bytes
 pub mod Layout
 pub mod Message
+pub mod Tops
 pub mod Listing
 pub mod Order
 pub mod Setpoints

@@ -4,22 +4,52 @@ use mathlib.Core.Bool.{Bool, true, false, cond, not, _&&_, _||_}
 use mathlib.Core.Option.{Option, some, none}
 use mathlib.Core.List.{List, [], _∷_, map}
 use Prim.Native.Nat.{ℕ, zero, suc, _-_, _≤_, _<_, max}
-use lib.ListN.{length}
-use lib.Dec.{T, eqb, ltb}
-use Rattle.model.specs.Lists.{_∈_, has, keep, greatest}
-use Rattle.model.specs.Layout.{fieldLimit, capacity}
+use lib.ListN.{length, replicate}
+use lib.Dec.{T, eqb, ltb, leb}
+use lib.IntN.{ℤ, pos}
+use lib.Signed.{leZ}
+use Rattle.model.specs.Lists.{_∈_, has, every, keep, greatest}
+use Rattle.model.specs.Layout.{fieldLimit, capacity, tagCount, mostFloors, lowestValue, highestValue}
+use Rattle.model.specs.Tops.{covered, topsRight}
 use Rattle.model.specs.Message.{Message, sequenceOf, hasPriority, groupOf, blockOf, priorityOf, needsOf, passes}
 use Rattle.model.specs.Listing as L
 
--- What a station begins with, before any delta: nothing, and the same for all.
-pub data Origin : Type 0 where
-  first : Origin
+-- What a log starts from, a term of ours: what is left of the deltas that were purged (document 02, Paper 4). They were executed before all
+-- that is in a log now, and nothing places a delta before them.
+pub record Origin : Type 0 where
+  -- "A floor is a line and its highest purged number": as one sequence
+  pub floors : List ℕ
+  -- "the base values, from which the rest is run"
+  pub base : List ℤ
+  -- the greatest purged effective block, and the greatest purged group
+  pub block : ℕ
+  pub group : ℕ
 
+-- Nothing was purged: "64 setpoints, all zero at first".
 abbrev pub firstOrigin : Origin
-firstOrigin = Origin.first
+firstOrigin = record { floors = []; base = replicate tagCount (pos 0); block = 0; group = 0 }
 
--- The state of a station: the deltas that it received, a set, and its origin. A set is kept as a list that ascends strictly by sequence
--- (see `RightSet`).
+-- "base values .. in range"
+abbrev pub inRange : ℤ → Bool
+inRange v = leZ lowestValue v && leZ v highestValue
+
+-- "with no floor, base values, block and group are zero"
+abbrev pub isZero : ℤ → Bool
+isZero v = leZ v (pos 0) && leZ (pos 0) v
+
+abbrev pub allZero : Origin → Bool
+allZero O = every isZero (O .base) && eqb (O .block) 0 && eqb (O .group) 0
+
+-- "A valid image has base values, purged block and group in range, floor numbers of at least 1"; floors are "ascending, at most 32"
+unfoldable pub originRight : Origin → Bool
+originRight O =
+    leb (length (O .floors)) mostFloors && topsRight (O .floors)
+    && eqb (length (O .base)) tagCount && every inRange (O .base)
+    && leb (O .block) fieldLimit && leb (O .group) fieldLimit
+    && (ltb 0 (length (O .floors)) || allZero O)
+
+-- The state of a station: the deltas that it received and that were not purged, a set, and what their log starts from. A set is kept as a
+-- list that ascends strictly by sequence (see `RightSet`).
 pub record State : Type 0 where
   pub deltas : List Message
   pub origin : Origin
@@ -27,18 +57,25 @@ pub record State : Type 0 where
 abbrev pub holding : Origin → List Message → State
 holding O l = record { deltas = l; origin = O }
 
+-- The state of deltas before any purge.
 abbrev pub stateOf : List Message → State
 stateOf l = holding firstOrigin l
+
+-- "at or below a floor"
+abbrev pub purged : State → ℕ → Bool
+purged S s = covered (S .origin .floors) s
 
 abbrev pub Ascending : List Message → Type 0
 Ascending [] = Unit {0}
 Ascending (m ∷ l) = ((x : Message) → x ∈ l → sequenceOf m < sequenceOf x) × Ascending l
 
--- "a set of at most 64 deltas that pass 3 to 6, no sequence twice"
+-- "a set of at most 64 deltas that pass 3 to 6, no sequence twice"; "no message at or below a floor"; and the origin is right
 pub record RightSet (S : State) : Type 0 where
   pub ascends : Ascending (S .deltas)
   pub fits : length (S .deltas) ≤ capacity
   pub pass : (m : Message) → m ∈ S .deltas → T (passes m)
+  pub above : (m : Message) → m ∈ S .deltas → T (not (purged S (sequenceOf m)))
+  pub right : T (originRight (S .origin))
 
 -- A message joins the set. One of the same sequence stays as it is.
 abbrev pub insert : Message → List Message → List Message
@@ -49,6 +86,11 @@ insert m (x ∷ l) =
 abbrev pub add : Message → State → State
 add m S = holding (S .origin) (insert m (S .deltas))
 
+-- What an accepted delivery makes of a state: its message joins the set. "A delivery at or below a floor answers 0 with no step, and its
+-- message joins no set": from a state to itself there is no step.
+unfoldable pub takeIn : Message → State → State
+takeIn m S = cond (purged S (sequenceOf m)) S (add m S)
+
 abbrev pub sequencesOf : List Message → List ℕ
 sequencesOf l = map sequenceOf l
 
@@ -57,9 +99,9 @@ abbrev pub find : List Message → ℕ → Message
 find [] s = []
 find (m ∷ l) s = cond (eqb (sequenceOf m) s) m (find l s)
 
--- ---- what a delta waits for, at a station of this state: all that it needs
+-- ---- what a delta waits for, at a station of this state: "A need at or below its floor counts as placed"
 unfoldable pub needs : State → Message → List ℕ
-needs S m = needsOf m
+needs S m = keep (λ s. not (purged S s)) (needsOf m)
 
 -- The sequences that are placed when these deltas are, the last one first.
 abbrev pub placedBy : List Message → List ℕ
@@ -76,7 +118,8 @@ Listing S = L.Listing sequenceOf (needs S)
 abbrev pub Executable : State → Message → Type 0
 Executable S m = L.Executable sequenceOf (needs S) (S .deltas) m
 
--- The sequences that it reaches, step by step back: those that it needs, and those that a received delta which it needs reaches.
+-- The sequences above the floors that it reaches, step by step back: those that it needs, and those that a received delta which it needs
+-- reaches.
 abbrev pub Reaches : State → Message → ℕ → Type 0
 Reaches S m s = L.Reaches sequenceOf (needs S) (S .deltas) m s
 
@@ -84,7 +127,7 @@ Reaches S m s = L.Reaches sequenceOf (needs S) (S .deltas) m s
 abbrev pub MeetsRing : State → Message → Type 0
 MeetsRing S m = Reaches S m (sequenceOf m) ⊎ ((r : Message) × (r ∈ S .deltas) × Reaches S m (sequenceOf r) × Reaches S r (sequenceOf r))
 
--- Demand 2: all that it needs, step by step back, was received and contains no ring.
+-- Demand 2: all that it needs above the floors, step by step back, was received and contains no ring.
 abbrev pub Grounded : State → Message → Type 0
 Grounded S m = L.Grounded sequenceOf (needs S) (S .deltas) m
 
@@ -97,10 +140,10 @@ unfoldable pub heldOf : State → List Message
 heldOf S = let executable = sequencesOf (executablesOf S) in keep (λ m. not (has (sequenceOf m) executable)) (S .deltas)
 
 -- ---- the key
--- A delta's own block, as it counts at a station: "its own block (0 without priority)", its message's block, whatever the state (6 asks
--- that it is 0 without priority).
+-- A delta's own block, as it counts at a station: "its own block (0 without priority)", its message's (6 asks that it is 0 without
+-- priority); "no effective block counts below the greatest purged one".
 abbrev pub ownBlock : State → Message → ℕ
-ownBlock S m = blockOf m
+ownBlock S m = max (blockOf m) (S .origin .block)
 
 -- "The effective block is the greater of its own block (0 without priority) and the effective blocks of its needs":
 -- along needs of needs, 64 deep, which is as far as the needs of an executable delta reach among 64. `laws_state` shows that

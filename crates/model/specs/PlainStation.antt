@@ -1,8 +1,8 @@
--- The plain station: it is fed each delivery's message and the length of its step buffer, and keeps a set of messages.
+-- The plain station: it is fed each delivery's message and the length of its step buffer, and keeps a set of messages with its origin.
 use mathlib.Core.Bool.{Bool, cond, not, _&&_}
 use Prim.Native.Nat.{ℕ}
 use Rattle.model.specs.Message.{Message, passes}
-use Rattle.model.specs.Order.{State, add}
+use Rattle.model.specs.Order.{State, takeIn}
 use Rattle.model.specs.Codes.{smallSteps, conflicts, full}
 
 -- "A delivery is refused if its step buffer is refused by 1, else if the message fails 3 to 6, else if the set has its sequence
@@ -10,6 +10,7 @@ use Rattle.model.specs.Codes.{smallSteps, conflicts, full}
 unfoldable pub accepts : State → Message → ℕ → Bool
 accepts S m room = not (smallSteps room) && passes m && not (conflicts S m) && not (full S m)
 
--- "A refused one changes nothing. Any other is accepted, and its message joins the set, where it may be already."
+-- "A refused one changes nothing. Any other is accepted, and its message joins the set, where it may be already"; one at or below a floor
+-- joins no set.
 unfoldable pub receive : State → Message → ℕ → State
-receive S m room = cond (accepts S m room) (add m S) S
+receive S m room = cond (accepts S m room) (takeIn m S) S

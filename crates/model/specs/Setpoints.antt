@@ -2,18 +2,18 @@
 use mathlib.Core.Bool.{cond}
 use mathlib.Core.List.{List, [], _∷_}
 use Prim.Native.Nat.{ℕ}
-use lib.ListN.{getD, set, replicate}
+use lib.ListN.{getD, set}
 use lib.Dec.{eqb}
 use lib.IntN.{ℤ, pos, _+ℤ_}
 use lib.Signed.{ltZ}
 use Rattle.model.specs.Bytes.{field}
-use Rattle.model.specs.Layout.{operationAt, tagAt, tagCount, lowestValue, highestValue}
+use Rattle.model.specs.Layout.{operationAt, tagAt, lowestValue, highestValue}
 use Rattle.model.specs.Message.{Message, commandsOf, valueOf}
 use Rattle.model.specs.Order.{State, logOf}
 
--- "64 setpoints, all zero at first", whatever the state
+-- What the log is run from: the base values, which are "all zero at first"
 unfoldable pub startValues : State → List ℤ
-startValues S = replicate tagCount (pos 0)
+startValues S = S .origin .base
 
 -- "The sum is stopped at -1000000 and at 1000000": at the low and at the high that `operate` hands over.
 unfoldable pub stop : ℤ → ℤ → ℤ → ℤ

@@ -7,9 +7,9 @@ use lib.ListN.{getD}
 use lib.IntN.{ℤ, pos}
 use Rattle.model.specs.Bytes.{word}
 use Rattle.model.specs.Message.{Message, layoutRight, numbersRight, dependenciesRight, contentRight, commandRight, passes}
-use Rattle.model.specs.Order.{needs, logOf, heldOf}
+use Rattle.model.specs.Order.{takeIn, needs, logOf, heldOf}
 use Rattle.model.specs.Setpoints.{startValues, operate, changeOf, apply, runCommand, runDelta, changesOf, setpointsOf}
-use Rattle.model.specs.Image.{messagesOf, valuesOf, headerOf, sectionsOf, usedOf, imageOf, logCount, valuesIn}
+use Rattle.model.specs.Image.{messagesOf, valuesOf, baseOf, floorsOf, headerOf, sectionsOf, usedOf, imageOf, logCount, valuesIn}
 use Rattle.model.specs.Steps.{undo, execute, pairOf, executionOf, recordsOf, recordBytes, readRecord}
 use Rattle.model.specs.Calls.{Delivered, deliverCode}
 use Rattle.model.specs.PlainStation.{accepts, receive}
@@ -38,7 +38,7 @@ module _ (begins : Given → List ℕ → Type 0) (answers : List ℕ → Call �
   }
 
   answers-higher : Run answers start (higher ∷ []) → ⊥
-  unfolding deliverCode imageOf usedOf sectionsOf headerOf valuesOf setpointsOf startValues messagesOf logOf heldOf
+  unfolding deliverCode imageOf usedOf sectionsOf headerOf valuesOf baseOf floorsOf setpointsOf startValues messagesOf logOf heldOf
   answers-higher run = let lowest : higher .answer .code ≡ 1 = agreement .call given start begun higher [] run .code in omega arith
 
   -- ---- an execution is counted as an undo
@@ -47,7 +47,7 @@ module _ (begins : Given → List ℕ → Type 0) (answers : List ℕ → Call �
       event a1 0 2 1 (setting (undo (B 1)) (pos 0) ∷ setting (execute (A 1)) (pos 1500) ∷ setting (execute (B 1)) (pos 1480) ∷ []) (image (a1 ∷ b1 ∷ []))
 
   counts-undos : Run answers start (counting ∷ first-b1 ∷ []) → ⊥
-  unfolding accepts receive passes layoutRight numbersRight dependenciesRight contentRight commandRight logOf needs
+  unfolding accepts receive takeIn passes layoutRight numbersRight dependenciesRight contentRight commandRight logOf needs
   counts-undos run = let one : counting .answer .undos ≡ 1 = agreement .call given start begun counting (first-b1 ∷ []) run .undos in omega arith
 
   -- ---- "Played on the setpoints, the pairs must lead to the image's values": A1 sets tag 3 to 1500, and its pair says 1501
@@ -73,7 +73,7 @@ module _ (begins : Given → List ℕ → Type 0) (answers : List ℕ → Call �
   hiding = event twice-a1 0 0 1 (carrying (execute (A 1)) (pairOf 3 (pos 0) ∷ pairOf 3 (pos 7) ∷ []) ∷ []) (image (twice-a1 ∷ []))
 
   hides-a-pair : Run answers start (hiding ∷ []) → ⊥
-  unfolding accepts receive passes layoutRight numbersRight dependenciesRight contentRight commandRight logOf needs readRecord recordBytes recordsOf executionOf changesOf startValues runDelta runCommand apply changeOf operate
+  unfolding accepts receive takeIn passes layoutRight numbersRight dependenciesRight contentRight commandRight logOf needs readRecord recordBytes recordsOf executionOf changesOf startValues runDelta runCommand apply changeOf operate
   hides-a-pair run = let first : 0 ≡ word (pos 5) = ap firstValue (agreement .call given start begun hiding [] run .records) in omega arith
 
   -- ---- "equal accepted sets give byte-equal images": B1 is answered with 0, but is not in the image

@@ -9,7 +9,7 @@ use lib.ListN.{length, getD}
 use lib.IntN.{pos}
 use Rattle.model.specs.Bytes.{word}
 use Rattle.model.specs.Message.{Message, layoutRight, numbersRight, dependenciesRight, contentRight, commandRight, passes}
-use Rattle.model.specs.Order.{needs, logOf}
+use Rattle.model.specs.Order.{takeIn, needs, logOf}
 use Rattle.model.specs.Setpoints.{startValues, stop, raise, operate, changeOf, apply, runCommand, runDelta, changesOf}
 use Rattle.model.specs.Image.{logCount, imageOf, usedOf, sectionsOf, headerOf}
 use Rattle.model.specs.Steps.{undo, execute, executionOf, undoOf, recordsOf, recordBytes, readRecord, Plays}
@@ -26,7 +26,7 @@ module _ (begins : Given → List ℕ → Type 0) (answers : List ℕ → Call �
   counting = event a1 0 0 2 (setting (execute (A 1)) (pos 1500) ∷ []) (image (a1 ∷ []))
 
   counts-freely : Run answers start (counting ∷ []) → ⊥
-  unfolding accepts receive passes layoutRight numbersRight dependenciesRight contentRight commandRight logOf needs
+  unfolding accepts receive takeIn passes layoutRight numbersRight dependenciesRight contentRight commandRight logOf needs
   counts-freely run = let one : counting .answer .executions ≡ 1 = agreement .call given start begun counting [] run .executions in omega arith
 
   -- ---- "One that undoes everything each time": A1, though B1 follows it. A rival executes B1 alone.
@@ -38,7 +38,7 @@ module _ (begins : Given → List ℕ → Type 0) (answers : List ℕ → Call �
   rival = refl
 
   undoes-everything : Run answers start (undoing ∷ first-a1 ∷ []) → ⊥
-  unfolding accepts receive passes layoutRight numbersRight dependenciesRight contentRight commandRight logOf needs
+  unfolding accepts receive takeIn passes layoutRight numbersRight dependenciesRight contentRight commandRight logOf needs
   undoes-everything run =
       let three-at-most-one : 3 ≤ 1 = agreement .call given start begun undoing (first-a1 ∷ []) run .fewest (execute (B 1) ∷ []) rival in
       omega arith
@@ -48,7 +48,7 @@ module _ (begins : Given → List ℕ → Type 0) (answers : List ℕ → Call �
   echoing = event b1 0 0 0 [] (image (a1 ∷ []))
 
   echoes : Run answers start (echoing ∷ first-a1 ∷ []) → ⊥
-  unfolding accepts receive passes layoutRight numbersRight dependenciesRight contentRight commandRight logOf needs imageOf usedOf sectionsOf headerOf
+  unfolding accepts receive takeIn passes layoutRight numbersRight dependenciesRight contentRight commandRight logOf needs imageOf usedOf sectionsOf headerOf
   echoes run =
       let log : 1 ≡ logCount (image (a1 ∷ b1 ∷ [])) = ap logCount (agreement .list given start begun (echoing ∷ first-a1 ∷ []) run .image) in
       omega arith
@@ -58,14 +58,14 @@ module _ (begins : Given → List ℕ → Type 0) (answers : List ℕ → Call �
   keeping = event a1 0 0 0 [] (image (a1 ∷ []))
 
   holds-all : Run answers start (keeping ∷ []) → ⊥
-  unfolding accepts receive passes layoutRight numbersRight dependenciesRight contentRight commandRight logOf needs
+  unfolding accepts receive takeIn passes layoutRight numbersRight dependenciesRight contentRight commandRight logOf needs
   holds-all run = let none : keeping .answer .executions ≡ 1 = agreement .call given start begun keeping [] run .executions in omega arith
 
   abbrev leaving : Event
   leaving = event a1 0 0 1 (setting (execute (A 1)) (pos 1500) ∷ []) start
 
   leaves-the-image : Run answers start (leaving ∷ []) → ⊥
-  unfolding accepts receive passes layoutRight numbersRight dependenciesRight contentRight commandRight logOf needs imageOf usedOf sectionsOf headerOf
+  unfolding accepts receive takeIn passes layoutRight numbersRight dependenciesRight contentRight commandRight logOf needs imageOf usedOf sectionsOf headerOf
   leaves-the-image run = let log : 0 ≡ length (A 1 ∷ []) = ap length (agreement .list given start begun (leaving ∷ []) run .imageLog) in omega arith
 
   -- ---- "or refuses all": with 8, on an empty station
@@ -73,7 +73,7 @@ module _ (begins : Given → List ℕ → Type 0) (answers : List ℕ → Call �
   refusing = event a1 8 0 0 [] start
 
   refuses-all : Run answers start (refusing ∷ []) → ⊥
-  unfolding accepts receive passes layoutRight numbersRight dependenciesRight contentRight commandRight
+  unfolding accepts receive takeIn passes layoutRight numbersRight dependenciesRight contentRight commandRight
   refuses-all run = let accepted : refusing .answer .code ≡ 0 = agreement .call given start begun refusing [] run .accepted .1 tt in omega arith
 
   -- ---- "One with the same log always": B1, whatever follows
@@ -85,7 +85,7 @@ module _ (begins : Given → List ℕ → Type 0) (answers : List ℕ → Call �
   b1-stays = (B 1 ∷ [], [], [], ([], [], B 1 ∷ [], refl, record { read = refl; undos = refl; executions = refl }, refl), record { read = refl; undos = refl; executions = refl }, refl)
 
   same-log-always : Run answers start (staying ∷ first-b1 ∷ []) → ⊥
-  unfolding accepts receive passes layoutRight numbersRight dependenciesRight contentRight commandRight logOf needs
+  unfolding accepts receive takeIn passes layoutRight numbersRight dependenciesRight contentRight commandRight logOf needs
   same-log-always run =
       let log : B 1 ∷ [] ≡ A 1 ∷ B 1 ∷ [] = agreement .list given start begun (staying ∷ first-b1 ∷ []) run .played (B 1 ∷ []) .0 b1-stays in
       let lengths : 1 ≡ length (A 1 ∷ B 1 ∷ []) = ap length log in
@@ -103,7 +103,7 @@ module _ (begins : Given → List ℕ → Type 0) (answers : List ℕ → Call �
   user-first = ([], [], A 1 ∷ B 1 ∷ [], ([], [], [], refl, record { read = refl; undos = refl; executions = refl }, refl), record { read = refl; undos = refl; executions = refl }, refl)
 
   sorts-by-key-alone : Run answers start (sorting ∷ holding-a1 ∷ []) → ⊥
-  unfolding accepts receive passes layoutRight numbersRight dependenciesRight contentRight commandRight logOf needs
+  unfolding accepts receive takeIn passes layoutRight numbersRight dependenciesRight contentRight commandRight logOf needs
   sorts-by-key-alone run =
       let log : A 1 ∷ B 1 ∷ [] ≡ B 1 ∷ A 1 ∷ [] = agreement .list given start begun (sorting ∷ holding-a1 ∷ []) run .played (A 1 ∷ B 1 ∷ []) .0 user-first in
       let first : A 1 ≡ B 1 = ap (λ (l : List ℕ). getD l 0 0) log in
@@ -117,7 +117,7 @@ module _ (begins : Given → List ℕ → Type 0) (answers : List ℕ → Call �
   waiting = event b1 0 0 0 [] (image (a2 ∷ b1 ∷ []))
 
   waits : Run answers start (waiting ∷ first-a2 ∷ []) → ⊥
-  unfolding accepts receive passes layoutRight numbersRight dependenciesRight contentRight commandRight logOf needs
+  unfolding accepts receive takeIn passes layoutRight numbersRight dependenciesRight contentRight commandRight logOf needs
   waits run = let none : waiting .answer .executions ≡ 1 = agreement .call given start begun waiting (first-a2 ∷ []) run .executions in omega arith
 
   -- ---- "Undoing an addition by subtracting, wrong once the sum was stopped": A1 sets 999990, B1 adds 20, which gives 1000000; A2 comes between
@@ -139,5 +139,5 @@ module _ (begins : Given → List ℕ → Type 0) (answers : List ℕ → Call �
       (image (high-a1 ∷ a2 ∷ stopped-b1 ∷ []))
 
   subtracts : Run answers start (subtracting ∷ before) → ⊥
-  unfolding accepts receive passes layoutRight numbersRight dependenciesRight contentRight commandRight logOf needs readRecord recordBytes recordsOf executionOf undoOf changesOf startValues runDelta runCommand apply changeOf operate raise stop
+  unfolding accepts receive takeIn passes layoutRight numbersRight dependenciesRight contentRight commandRight logOf needs readRecord recordBytes recordsOf executionOf undoOf changesOf startValues runDelta runCommand apply changeOf operate raise stop
   subtracts run = let restored : 999980 ≡ word (pos 999990) = ap firstValue (agreement .call given start begun subtracting before run .records) in omega arith

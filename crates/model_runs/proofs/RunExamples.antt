@@ -9,7 +9,7 @@ use lib.ListN.{length, replicate}
 use lib.IntN.{pos, negsuc}
 use Rattle.model.specs.Layout.{setpointsStart, valuesSize}
 use Rattle.model.specs.Message.{Message, layoutRight, numbersRight, dependenciesRight, contentRight, commandRight, passes}
-use Rattle.model.specs.Order.{State, sequencesOf, needs, logOf}
+use Rattle.model.specs.Order.{State, takeIn, sequencesOf, needs, logOf}
 use Rattle.model.specs.Image.{imageOf, valuesIn}
 use Rattle.model.specs.Steps.{undo, execute, pairOf, recordBytes, readRecord}
 use Rattle.model.specs.Calls.{Delivered, emptyState}
@@ -65,7 +65,7 @@ abbrev Moves : List ℕ → Call → Delivered → Type 0
 Moves b c a = (S : State) × (b ≡ imageOf S) × (a .image ≡ imageOf (stateNext S c))
 
 run : Run Moves start whole
-unfolding accepts receive passes layoutRight numbersRight dependenciesRight contentRight commandRight recordBytes
+unfolding accepts receive takeIn passes layoutRight numbersRight dependenciesRight contentRight commandRight recordBytes
 run =
     let both = holding (a1 ∷ b1 ∷ []) in (
       (holding (a1 ∷ b1 ∷ c2 ∷ []), refl, refl),
@@ -102,7 +102,7 @@ inTurn earlier (e ∷ l) =
     ∷ inTurn (e ∷ earlier) l
 
 calls-hold : inTurn [] (map (λ c. c .0) calls) ≡ map (λ c. c .1) calls
-unfolding calls accepts receive passes layoutRight numbersRight dependenciesRight contentRight commandRight logOf needs recordBytes
+unfolding calls accepts receive takeIn passes layoutRight numbersRight dependenciesRight contentRight commandRight logOf needs recordBytes
 calls-hold = refl
 
 -- ---- the played log after each call: the log before it, the deltas that it undid and executed, and what its steps lead to
