@@ -1,21 +1,24 @@
--- The parts of a composed message: its sequence is new and follows the line's last one, and its dependencies are logged, in order,
--- and neither its own sequence nor its predecessor.
+-- The parts of a composed message: its sequence is new, above its line's floor, and follows the line's last one, and its dependencies are
+-- logged, in order, and neither its own sequence nor its predecessor.
 use mathlib.Core.Path.{_≡_, refl, sym, _∙_, ap, subst}
 use mathlib.Core.Logic.{_⊎_, inl, inr, ⊎-elim}
 use mathlib.Core.Bool.{Bool, true, false, cond, not, _&&_}
 use mathlib.Core.List.{List, [], _∷_, List·Memᴰ·head, List·Memᴰ·tail, List·Memᴰ·not-nil, List·Memᴰ·append-cases, List·Memᴰ·eq-of-singleton, Memᴰ·cast, Memᴰ·map, Memᴰ·of-map}
-use Prim.Native.Nat.{ℕ, suc, _-_, _/_, _≤_, _<_, max}
+use Prim.Native.Nat.{ℕ, suc, _-_, _/_, _%_, _≤_, _<_, max}
 use native.Mathlib.Omega.{arith}
 use native.Mathlib.Nat.{not-suc-le-zero}
 use lib.Dec.{T, eqb, ltb, eqb→eq, eqb-refl, ltb→lt, lt→ltb, nltb→le, T-not, not-T}
+use borrow.Author.Tests.{eq-eqb}
 use Rattle.model.specs.Lists.{_∈_, has, every, some?, keep, greatest, ascending}
 use Rattle.model.specs.Layout.{numbersOfLine}
 use Rattle.model.specs.Message.{Message, sequenceOf, lineOf, numberOf, predecessorOf, numbered, numbersRight, dependenciesOf}
-use Rattle.model.specs.Order.{State, Ascending, sequencesOf, needs, logOf, heldOf}
+use Rattle.model.specs.Tops.{atOrBelow}
+use Rattle.model.specs.Order.{State, purged, Ascending, sequencesOf, needs, logOf, heldOf}
 use Rattle.model.specs.Image.{Valid}
-use Rattle.model.specs.Compose.{numberOn, newNumber, newSequence, unneeded, newDependencies}
+use Rattle.model.specs.Compose.{numberOn, highestNumber, floorNumber, newNumber, newSequence, unneeded, newDependencies}
 use Rattle.model.specs.Codes.{heldOn}
-use Rattle.laws_order.specs.TestLaws.{and-l, and-r, and-i, decide, has→∈, ∈→has, keep-∈, ∈-keep, ∈-every, ∈-some, greatest-≥}
+use Rattle.laws_order.specs.TestLaws.{and-l, and-r, and-i, decide, has→∈, ∈→has, keep-∈, ∈-keep, ∈-every, some-∈, ∈-some, greatest-≥}
+use Rattle.laws_origin.specs.TopLaws.{below-out, below-in}
 use Rattle.laws_state.specs.LogLaws.{Logged, log-received, log-held}
 use Rattle.laws_state.specs.ImageLaws.{log-passes}
 use Rattle.laws_wire.specs.MessageLaws.{passes-numbers}
@@ -60,6 +63,17 @@ predecessor-∈ s p k = go (ltb 1 (numberOf s)) (ltb→lt 1 (numberOf s)) k
     go true f j = (f tt, List·Memᴰ·eq-of-singleton j)
     go false f j = absurd (List·Memᴰ·not-nil j)
 
+-- the number of a sequence on its own line; and a number above zero is that of a sequence on the line
+counted : (line s : ℕ) → lineOf s ≡ line → numberOn line s ≡ numberOf s
+counted line s e = ap (λ (b : Bool). cond b (numberOf s) 0) (eq-eqb (lineOf s) line e)
+
+numbered-on : (line s : ℕ) → 1 ≤ numberOn line s → (lineOf s ≡ line) × (numberOf s ≡ numberOn line s)
+numbered-on line s h = go (eqb (lineOf s) line) (eqb→eq (lineOf s) line) h
+  where
+    go : (b : Bool) → (T b → lineOf s ≡ line) → 1 ≤ cond b (numberOf s) 0 → (lineOf s ≡ line) × (numberOf s ≡ cond b (numberOf s) 0)
+    go true f h = (f tt, refl)
+    go false f h = absurd (not-suc-le-zero h)
+
 module _ (S : State) (valid : Valid S) (line : ℕ) (free : T (not (heldOn S line))) (small : newNumber S line < numbersOfLine) where
   abbrev own : ℕ
   own = newSequence S line
@@ -81,34 +95,51 @@ module _ (S : State) (valid : Valid S) (line : ℕ) (free : T (not (heldOn S lin
       on-line : T (eqb (lineOf (sequenceOf a)) line)
       on-line = subst (λ (s : ℕ). T (eqb (lineOf s) line)) e (subst (λ (n : ℕ). T (eqb n line)) (sym own-line) (eqb-refl line))
 
-      counted : (b : Bool) → T b → cond b (numberOf (sequenceOf a)) 0 ≡ numberOf (sequenceOf a)
-      counted true t = refl
-      counted false t = absurd t
-
       logged : a ∈ logOf S → ⊥
       logged j =
           let f : Message → ℕ = λ m. numberOn line (sequenceOf m) in
           let h : f a ≤ greatest f (logOf S) = greatest-≥ f (logOf S) a j in
-          let c : f a ≡ numberOf (sequenceOf a) = counted (eqb (lineOf (sequenceOf a)) line) on-line in
+          let c : f a ≡ numberOf (sequenceOf a) = counted line (sequenceOf a) (eqb→eq (lineOf (sequenceOf a)) line on-line) in
           let d : numberOf own ≡ numberOf (sequenceOf a) = ap numberOf e in
-          let z : suc (greatest f (logOf S)) ≡ numberOf own = sym own-number in
+          let z : suc (max (floorNumber S line) (greatest f (logOf S))) ≡ numberOf own = sym own-number in
           omega arith
 
       held : a ∈ heldOf S → ⊥
       held j = T-not (heldOn S line) free (∈-some (λ m. eqb (lineOf (sequenceOf m)) line) (heldOf S) a j on-line)
 
-  -- its predecessor is logged
-  pub predecessor-logged : (p : ℕ) → p ∈ predecessorOf own → Logged S p
-  predecessor-logged p k =
-      let f : Message → ℕ = λ m. numberOn line (sequenceOf m) in
-      let h : (1 < numberOf own) × (p ≡ own - 1) = predecessor-∈ own p k in
-      let r = greatest-reached f (logOf S) (omega (arith, own-number)) in
-      (r .0, r .1, same (r .0) (eqb (lineOf (sequenceOf (r .0))) line) (eqb→eq (lineOf (sequenceOf (r .0))) line) (r .2) (omega (arith, own-number)) ∙ sym (h .1))
+  -- it is above its line's floor
+  pub own-above : T (not (purged S own))
+  own-above = not-T (purged S own) (λ t.
+      let r = some-∈ (λ top. atOrBelow top own) (S .origin .floors) t in
+      let o = below-out (r .0) own (r .2) in
+      let h : numberOn line (r .0) ≤ floorNumber S line = greatest-≥ (numberOn line) (S .origin .floors) (r .0) (r .1) in
+      let c : numberOn line (r .0) ≡ numberOf (r .0) = counted line (r .0) (sym (o .0) ∙ own-line) in
+      let z : ⊥ = omega (arith, own-number, o .1) in z)
+
+  -- its predecessor is logged, or at or below its line's floor
+  pub predecessor-logged : (p : ℕ) → p ∈ predecessorOf own → T (not (purged S p)) → Logged S p
+  predecessor-logged p k high = ⊎-elim by-floor by-log (decide (ltb (highestNumber line (logOf S)) (floorNumber S line)))
     where
-      same : (a : Message) (b : Bool) → (T b → lineOf (sequenceOf a) ≡ line) → cond b (numberOf (sequenceOf a)) 0 ≡ greatest (λ m. numberOn line (sequenceOf m)) (logOf S)
-          → 1 ≤ greatest (λ m. numberOn line (sequenceOf m)) (logOf S) → sequenceOf a ≡ own - 1
-      same a true f e g = let l : sequenceOf a / 65536 ≡ line = f tt in omega arith
-      same a false f e g = absurd (let z : ⊥ = omega arith in z)
+      h : (1 < numberOf own) × (p ≡ own - 1)
+      h = predecessor-∈ own p k
+
+      by-floor : T (ltb (highestNumber line (logOf S)) (floorNumber S line)) → Logged S p
+      by-floor t =
+          let c : highestNumber line (logOf S) < floorNumber S line = ltb→lt (highestNumber line (logOf S)) (floorNumber S line) t in
+          let r = greatest-reached (numberOn line) (S .origin .floors) (omega arith) in
+          let n = numbered-on line (r .0) (omega (arith, r .2)) in
+          let e : p / 65536 ≡ line = omega (arith, h .0, h .1, own-number, small) in
+          let u : p % 65536 ≤ numberOf (r .0) = omega (arith, h .0, h .1, own-number, small, r .2, n .1) in
+          absurd (T-not (purged S p) high (∈-some (λ top. atOrBelow top p) (S .origin .floors) (r .0) (r .1) (below-in (r .0) p (e ∙ sym (n .0)) u)))
+
+      by-log : T (not (ltb (highestNumber line (logOf S)) (floorNumber S line))) → Logged S p
+      by-log t =
+          let f : Message → ℕ = λ m. numberOn line (sequenceOf m) in
+          let c : floorNumber S line ≤ greatest f (logOf S) = nltb→le (greatest f (logOf S)) (floorNumber S line) t in
+          let r = greatest-reached f (logOf S) (omega (arith, h .0, own-number)) in
+          let n = numbered-on line (sequenceOf (r .0)) (omega (arith, r .2, h .0, own-number)) in
+          let l : sequenceOf (r .0) / 65536 ≡ line = n .0 in
+          (r .0, r .1, omega (arith, h .0, h .1, own-number, small, r .2, n .1))
 
   -- ---- its dependencies
   abbrev dependencies : List ℕ

@@ -11,11 +11,11 @@ use native.Mathlib.Nat.{suc-ne-zero}
 use lib.ListN.{length, take, drop}
 use lib.Seq.{take-at}
 use lib.Dec.{T, eqb, ltb, leb, eqb→eq, ltb→lt, leb→le, nleb→lt, nltb→le, le→leb, not-T}
-use Rattle.model.specs.Lists.{_∈_, has, every, some?}
+use Rattle.model.specs.Lists.{_∈_, has, every, some?, keep}
 use Rattle.model.specs.Bytes.{isBytes, number, parts}
 use Rattle.model.specs.Layout.{imageSize, stepRoom, messageRoom, lineSize, sequenceSize, numbersOfLine, commandSize, mostDependencies, fieldLimit, capacity}
 use Rattle.model.specs.Message.{Message, sequenceOf, predecessorOf, commandRight, blockRight, passes}
-use Rattle.model.specs.Order.{State, add, insert, Ascending, sequencesOf, needs, placedBy, keyOf, less, logOf}
+use Rattle.model.specs.Order.{State, purged, add, insert, Ascending, sequencesOf, needs, placedBy, keyOf, less, logOf}
 use Rattle.model.specs.Image.{imageOf, Valid, stateIn, isImage}
 use Rattle.model.specs.Steps.{Step, execute, common, stepsOf, undosOf, readSteps}
 use Rattle.model.specs.Compose.{newNumber, newSequence, unneeded, newDependencies, newGroup, newBlock, composed}
@@ -23,7 +23,7 @@ use Rattle.model.specs.Codes.{composeConditions, commandsSized, composeContent,
 use Rattle.model.specs.Calls.{Composed, composeAnswer, composeCode, compose, deliver}
 use Rattle.model.specs.PlainStation.{accepts, receive}
 use Rattle.model_runs.specs.Run.{delivery, CallAgrees}
-use Rattle.laws_order.specs.TestLaws.{and-l, and-r, and-i, nor-l, nor-r, decide, has→∈, ∈→has, some-∈}
+use Rattle.laws_order.specs.TestLaws.{and-l, and-r, and-i, nor-l, nor-r, decide, has→∈, ∈→has, keep-∈, ∈-keep, some-∈}
 use Rattle.laws_order.specs.KeyOrder.{less-total}
 use Rattle.laws_order.specs.ListingLaws.{after-has}
 use Rattle.laws_order.specs.Extension.{extends}
@@ -35,11 +35,11 @@ use Rattle.laws_wire.specs.MessageLaws.{sequence-range}
 use Rattle.laws_wire.specs.BytesLaws.{number-range}
 use Rattle.laws_state.specs.ImageLaws.{log-passes, image-own, own-valid}
 use Rattle.laws_state.specs.CodeLaws.{compose-code}
-use Rattle.laws_state.specs.DeliverLaws.{code-zero, receive-accepted}
+use Rattle.laws_state.specs.DeliverLaws.{code-zero, receive-accepted, take-in-above}
 use Rattle.laws_run.specs.RunLaws.{steps-read, call-facts}
 use Rattle.laws_codes.specs.Ladder.{all-free, not-not}
 use Rattle.laws_compose.specs.ComposedMessage.{HasParts, Parts, made-parts, made-passes}
-use Rattle.laws_compose.specs.ComposeFacts.{own-numbered, own-new, predecessor-logged, dependency-logged, dependencies-ascend, dependencies-numbered, dependencies-other, dependencies-not-predecessor, unneeded-named}
+use Rattle.laws_compose.specs.ComposeFacts.{own-numbered, own-new, own-above, predecessor-logged, dependency-logged, dependencies-ascend, dependencies-numbered, dependencies-other, dependencies-not-predecessor, unneeded-named}
 
 -- ---- a delta that needs every logged delta that none needs, and nothing that is not logged: the log goes on with it
 module _ (S : State) (ascends : Ascending (S .deltas)) (m : Message) (fresh : (a : Message) → a ∈ S .deltas → sequenceOf m ≡ sequenceOf a → ⊥) where
@@ -156,9 +156,14 @@ module _ (b line commands : List ℕ) (flag priority room : ℕ) (g : Granted b 
   unfolding composed
   composed-parts = made-parts (eqb flag 1) own (newGroup S own) (newBlock S (eqb flag 1)) priority (newDependencies S own) commands parts-right
 
-  composed-needs : needs S message ≡ predecessorOf own ++ newDependencies S own
+  -- it needs its predecessor and its dependencies, as far as they are above their floors
+  composed-needs : needs S message ≡ keep (λ s. not (purged S s)) (predecessorOf own ++ newDependencies S own)
   unfolding needs
-  composed-needs = ap₂ (λ (s : ℕ) (d : List ℕ). predecessorOf s ++ d) (composed-parts .sequence) (composed-parts .dependencies)
+  composed-needs = ap₂ (λ (s : ℕ) (d : List ℕ). keep (λ x. not (purged S x)) (predecessorOf s ++ d)) (composed-parts .sequence) (composed-parts .dependencies)
+
+  -- it is above its line's floor
+  pub composed-above : T (not (purged S (sequenceOf message)))
+  composed-above = subst (λ (s : ℕ). T (not (purged S s))) (sym (composed-parts .sequence)) (own-above S valid (number line) (g .free) (g .number-small))
 
   composed-new : (a : Message) → a ∈ S .deltas → sequenceOf message ≡ sequenceOf a → ⊥
   composed-new a k e = own-new S valid (number line) (g .free) (g .number-small) a k (sym (composed-parts .sequence) ∙ e)
@@ -169,12 +174,20 @@ module _ (b line commands : List ℕ) (flag priority room : ℕ) (g : Granted b 
     where
       needed : (s : ℕ) → s ∈ needs S message → Logged S s
       needed s k =
-          ⊎-elim (predecessor-logged S valid (number line) (g .free) (g .number-small) s) (dependency-logged S valid (number line) (g .free) (g .number-small) s)
-          (List·Memᴰ·append-cases (predecessorOf own) (subst (λ (l : List ℕ). s ∈ l) composed-needs k))
+          let h = keep-∈ (λ x. not (purged S x)) (predecessorOf own ++ newDependencies S own) (subst (λ (l : List ℕ). s ∈ l) composed-needs k) in
+          ⊎-elim (λ j. predecessor-logged S valid (number line) (g .free) (g .number-small) s j (h .1)) (dependency-logged S valid (number line) (g .free) (g .number-small) s)
+          (List·Memᴰ·append-cases (predecessorOf own) (h .0))
+
+      -- what is logged is above its floor
+      high : (s : ℕ) → T (unneeded S s) → T (not (purged S s))
+      high s t =
+          let h : T (has s (sequencesOf (logOf S))) = and-l (has s (sequencesOf (logOf S))) (not (some? (λ m. has s (needs S m)) (logOf S))) t in
+          let r = Memᴰ·of-map sequenceOf (logOf S) (has→∈ s (sequencesOf (logOf S)) h) in
+          subst (λ (x : ℕ). T (not (purged S x))) (r .2) (valid .above (r .0) (log-received S (valid .ascends) (r .0) (r .1)))
 
       all : (s : ℕ) → T (unneeded S s) → s ∈ needs S message
       all s t = subst (λ (l : List ℕ). s ∈ l) (sym composed-needs)
-          (⊎-elim (λ k. Memᴰ·append-left (newDependencies S own) k) (λ k. Memᴰ·append-right (predecessorOf own) k) (unneeded-named S valid (number line) (g .free) (g .number-small) s t))
+          (∈-keep (λ x. not (purged S x)) (⊎-elim (λ k. Memᴰ·append-left (newDependencies S own) k) (λ k. Memᴰ·append-right (predecessorOf own) k) (unneeded-named S valid (number line) (g .free) (g .number-small) s t)) (high s t))
 
   -- delivered where fewer than 64 are, it is accepted
   pub composed-accepted : length (S .deltas) < capacity → (room′ : ℕ) → stepRoom ≤ room′ → T (accepts S message room′)
@@ -182,8 +195,8 @@ module _ (b line commands : List ℕ) (flag priority room : ℕ) (g : Granted b 
   composed-accepted h room′ r =
       let a : T (not (smallSteps room′)) = not-T (smallSteps room′) (λ t. let k : room′ < stepRoom = ltb→lt room′ stepRoom t in let z : ⊥ = omega arith in absurd z) in
       let c : T (passes message) = composed-passes in
-      let d : T (not (conflicts S message)) = not-T (conflicts S message) (λ t. new (and-l (present S (sequenceOf message)) _ t)) in
-      let e : T (not (full S message)) = not-T (full S message) (λ t. let k : capacity ≤ length (S .deltas) = leb→le capacity (length (S .deltas)) (and-l (leb capacity (length (S .deltas))) (not (present S (sequenceOf message))) t) in let z : ⊥ = omega arith in absurd z) in
+      let d : T (not (conflicts S message)) = not-T (conflicts S message) (λ t. new (and-r (not (purged S (sequenceOf message))) (present S (sequenceOf message)) (and-l (not (purged S (sequenceOf message)) && present S (sequenceOf message)) _ t))) in
+      let e : T (not (full S message)) = not-T (full S message) (λ t. let k : capacity ≤ length (S .deltas) = leb→le capacity (length (S .deltas)) (and-r (not (purged S (sequenceOf message))) (leb capacity (length (S .deltas))) (and-l (not (purged S (sequenceOf message)) && leb capacity (length (S .deltas))) (not (present S (sequenceOf message))) t)) in let z : ⊥ = omega arith in absurd z) in
       search and-i depth 6
     where
       new : T (present S (sequenceOf message)) → ⊥
@@ -267,7 +280,9 @@ granted-promise b line commands flag priority room g = record {
     takes h steps r = composed-accepted b line commands flag priority room g h (length steps) r
 
     added : length (S′ .deltas) < capacity → (steps : List ℕ) → stepRoom ≤ length steps → receive S′ m (length steps) ≡ add m S′
-    added h steps r = receive-accepted S′ m (length steps) (code-zero S′ m (length steps) .1 (takes h steps r))
+    added h steps r =
+        receive-accepted S′ m (length steps) (code-zero S′ m (length steps) .1 (takes h steps r))
+        ∙ take-in-above m S′ (composed-above b line commands flag priority room g)
 
 pub compose-promise : (b line commands : List ℕ) (flag priority : ℕ) (buffer : List ℕ) → compose b line commands flag priority buffer .code ≡ 0
     → Promised b (messageBy (compose b line commands flag priority buffer))

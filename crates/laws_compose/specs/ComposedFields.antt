@@ -3,7 +3,7 @@ use mathlib.Core.Path.{_≡_, refl, sym, _∙_, ap, subst}
 use mathlib.Core.Logic.{⊎-elim, _↔_}
 use mathlib.Core.Bool.{Bool, true, false, cond, not, _&&_}
 use mathlib.Core.List.{List, [], _∷_, Memᴰ·cast}
-use Prim.Native.Nat.{ℕ, suc, _≤_, _<_}
+use Prim.Native.Nat.{ℕ, suc, _≤_, _<_, max}
 use native.Mathlib.Omega.{arith}
 use lib.ListN.{length, drop}
 use lib.Dec.{T, eqb, ltb, leb, eqb→eq, ltb→lt, leb→le, lt→ltb, T-not, not-T}
@@ -12,7 +12,7 @@ use Rattle.model.specs.Bytes.{number, field}
 use Rattle.model.specs.Layout.{priorityFlagAt}
 use Rattle.model.specs.Message.{Message, dependencyCount, commandsStart, sequenceOf, groupOf, blockOf, priorityOf, dependenciesOf, lineOf, numberOf, predecessorOf}
 use Rattle.model.specs.Listing as L
-use Rattle.model.specs.Order.{State, sequencesOf, needs, effectiveBlock, logOf}
+use Rattle.model.specs.Order.{State, purged, sequencesOf, needs, effectiveBlock, logOf}
 use Rattle.model.specs.Image.{Valid, stateIn}
 use Rattle.model.specs.Compose.{newNumber, newSequence, unneeded, newDependencies, lastSequence, groupAfter, newGroup, newBlock, composed}
 use Rattle.model.specs.Codes.{composeContent}
@@ -21,7 +21,7 @@ use Rattle.laws_order.specs.TestLaws.{and-l, and-r, and-i, decide, not-eqb, has
 use Rattle.laws_state.specs.LogLaws.{log-received, log-grounded}
 use Rattle.laws_compose.specs.ComposedMessage.{HasParts}
 use Rattle.laws_compose.specs.ComposeFacts.{own-line, own-number, dependency-is, dependencies-ascend, unneeded-named}
-use Rattle.laws_compose.specs.ComposeLaws.{Granted, valid, composed-parts, messageBy, compose-written, message-written, compose-granted}
+use Rattle.laws_compose.specs.ComposeLaws.{Granted, valid, composed-parts, composed-above, messageBy, compose-written, message-written, compose-granted}
 
 -- "the log deltas that no other log delta needs"
 pub record NeededByNone (S : State) (d : ℕ) : Type 0 where
@@ -30,18 +30,20 @@ pub record NeededByNone (S : State) (d : ℕ) : Type 0 where
 
 -- A message that was composed on a state, on this line, with these commands, flag and priority.
 pub record Carries (S : State) (line commands : List ℕ) (flag priority : ℕ) (m : Message) : Type 0 where
-  -- "Number is one more than the line's greatest in the log, or 0001."
+  -- "Number is one more than the line's greatest in the log, or 0001." "Compose counts floors .. too": it is above its line's floor.
   pub on-line : lineOf (sequenceOf m) ≡ number line
   pub next-number : numberOf (sequenceOf m) ≡ newNumber S (number line)
+  pub above-floor : T (not (purged S (sequenceOf m)))
   -- "Dependencies are the log deltas that no other log delta needs, less the predecessor", and they ascend.
   pub dependencies : (d : ℕ) → (d ∈ dependenciesOf m) ↔ (NeededByNone S d × ¬ (d ∈ predecessorOf (sequenceOf m)))
   pub dependencies-ascend : T (ascending (dependenciesOf m))
   -- "Group is 1 on an empty log; the highest in the log plus one if the last delta's sequence is above the new one; else the highest."
-  pub group-first : logOf S ≡ [] → groupOf m ≡ 1
-  pub group-raised : ¬ (logOf S ≡ []) → sequenceOf m < lastSequence (logOf S) → groupOf m ≡ suc (greatest groupOf (logOf S))
-  pub group-kept : ¬ (logOf S ≡ []) → ¬ (sequenceOf m < lastSequence (logOf S)) → groupOf m ≡ greatest groupOf (logOf S)
-  -- "With priority, block is the highest effective block plus one (1 on an empty log)."
-  pub block : flag ≡ 1 → blockOf m ≡ suc (greatest (effectiveBlock S) (logOf S))
+  -- The purged group counts too (it is 0 before any purge).
+  pub group-first : logOf S ≡ [] → groupOf m ≡ suc (S .origin .group)
+  pub group-raised : ¬ (logOf S ≡ []) → sequenceOf m < lastSequence (logOf S) → groupOf m ≡ suc (max (S .origin .group) (greatest groupOf (logOf S)))
+  pub group-kept : ¬ (logOf S ≡ []) → ¬ (sequenceOf m < lastSequence (logOf S)) → groupOf m ≡ max (S .origin .group) (greatest groupOf (logOf S))
+  -- "With priority, block is the highest effective block plus one (1 on an empty log)." The purged block counts too.
+  pub block : flag ≡ 1 → blockOf m ≡ suc (max (S .origin .block) (greatest (effectiveBlock S) (logOf S)))
   pub no-block : flag ≡ 0 → blockOf m ≡ 0
   -- "the message carries the commands, the flag and the priority as handed over"
   pub flag-carried : field m priorityFlagAt 1 ≡ flag
@@ -57,13 +59,13 @@ other : {A : Type 0} (b : Bool) (x y : A) → ¬ T b → cond b x y ≡ y
 other true x y h = absurd (h tt)
 other false x y h = refl
 
-last-above : (log : List Message) (s : ℕ) → ¬ (log ≡ []) → s < lastSequence log → groupAfter log s ≡ suc (greatest groupOf log)
-last-above [] s h k = absurd (h refl)
-last-above (m ∷ l) s h k = chosen (ltb s (lastSequence (m ∷ l))) _ _ (lt→ltb s (lastSequence (m ∷ l)) k)
+last-above : (group : ℕ) (log : List Message) (s : ℕ) → ¬ (log ≡ []) → s < lastSequence log → groupAfter group log s ≡ suc (max group (greatest groupOf log))
+last-above group [] s h k = absurd (h refl)
+last-above group (m ∷ l) s h k = chosen (ltb s (lastSequence (m ∷ l))) _ _ (lt→ltb s (lastSequence (m ∷ l)) k)
 
-last-not-above : (log : List Message) (s : ℕ) → ¬ (log ≡ []) → ¬ (s < lastSequence log) → groupAfter log s ≡ greatest groupOf log
-last-not-above [] s h k = absurd (h refl)
-last-not-above (m ∷ l) s h k = other (ltb s (lastSequence (m ∷ l))) _ _ (λ t. k (ltb→lt s (lastSequence (m ∷ l)) t))
+last-not-above : (group : ℕ) (log : List Message) (s : ℕ) → ¬ (log ≡ []) → ¬ (s < lastSequence log) → groupAfter group log s ≡ max group (greatest groupOf log)
+last-not-above group [] s h k = absurd (h refl)
+last-not-above group (m ∷ l) s h k = other (ltb s (lastSequence (m ∷ l))) _ _ (λ t. k (ltb→lt s (lastSequence (m ∷ l)) t))
 
 -- ---- the flag is 0 or 1
 flag-is : (flag : ℕ) → flag ≤ 1 → cond (eqb flag 1) 1 0 ≡ flag
@@ -119,12 +121,13 @@ module _ (b line commands : List ℕ) (flag priority room : ℕ) (g : Granted b 
   carries = record {
     on-line = ap lineOf (made .sequence) ∙ own-line S right (number line) (g .free) (g .number-small);
     next-number = ap numberOf (made .sequence) ∙ own-number S right (number line) (g .free) (g .number-small);
+    above-floor = composed-above b line commands flag priority room g;
     dependencies = λ d. subst (λ (l : List ℕ). (d ∈ l) ↔ (NeededByNone S d × ¬ (d ∈ predecessorOf (sequenceOf message)))) (sym (made .dependencies))
         (subst (λ (s : ℕ). (d ∈ newDependencies S own) ↔ (NeededByNone S d × ¬ (d ∈ predecessorOf s))) (sym (made .sequence)) (dependencies-are d));
     dependencies-ascend = subst (λ (l : List ℕ). T (ascending l)) (sym (made .dependencies)) (dependencies-ascend S right (number line) (g .free) (g .number-small));
-    group-first = λ e. made .group-is ∙ ap (λ (l : List Message). groupAfter l own) e;
-    group-raised = λ n h. made .group-is ∙ last-above (logOf S) own n (subst (λ (s : ℕ). s < lastSequence (logOf S)) (made .sequence) h);
-    group-kept = λ n h. made .group-is ∙ last-not-above (logOf S) own n (λ k. h (subst (λ (s : ℕ). s < lastSequence (logOf S)) (sym (made .sequence)) k));
+    group-first = λ e. made .group-is ∙ ap (λ (l : List Message). groupAfter (S .origin .group) l own) e;
+    group-raised = λ n h. made .group-is ∙ last-above (S .origin .group) (logOf S) own n (subst (λ (s : ℕ). s < lastSequence (logOf S)) (made .sequence) h);
+    group-kept = λ n h. made .group-is ∙ last-not-above (S .origin .group) (logOf S) own n (λ k. h (subst (λ (s : ℕ). s < lastSequence (logOf S)) (sym (made .sequence)) k));
     block = λ e. made .block-is ∙ ap (λ (n : ℕ). newBlock S (eqb n 1)) e;
     no-block = λ e. made .block-is ∙ ap (λ (n : ℕ). newBlock S (eqb n 1)) e;
     flag-carried = made .flag-byte ∙ flag-is flag flag-small;

@@ -1,7 +1,7 @@
 -- A message made of its parts: its fields are the parts, and it passes 3 to 6 where its parts are right.
 use mathlib.Core.Path.{_≡_, refl, sym, _∙_, ap, ap₂, subst}
 use mathlib.Core.Bool.{Bool, true, false, cond, not, _&&_}
-use mathlib.Core.List.{List, [], _∷_, _++_, map, List·Memᴰ·head, List·Memᴰ·tail, Memᴰ·of-map}
+use mathlib.Core.List.{List, [], _∷_, _++_, map}
 use Prim.Native.Nat.{ℕ, _+_, _*_, _/_, _%_, _^_, _≤_, _<_}
 use native.Mathlib.Omega.{arith}
 use lib.ListN.{length, length-append, length-map, drop}
@@ -14,20 +14,14 @@ use Rattle.model.specs.Message.{Message, hasPriority, dependencyCount, commandC
 use Rattle.model.specs.Compose.{messageOf}
 use Rattle.model.specs.Codes.{commandsSized}
 use Rattle.laws_order.specs.TestLaws.{eq→eqb, and-l, and-r, and-i}
-use Rattle.laws_wire.specs.BytesLaws.{length-bytes, number-bytes, bytes-isBytes, isBytes-append, parts-join, length-join}
+use Rattle.laws_wire.specs.BytesLaws.{number-bytes, bytes-isBytes, isBytes-append, parts-join, length-join}
 use Rattle.laws_wire.specs.MessageLaws.{passes-all}
+use Rattle.laws_state.specs.NumberLaws.{all-sized, numbers-back}
 
 one-byte : (x : ℕ) → number (x ∷ []) ≡ x
 one-byte x = omega arith
 
 -- ---- numbers of one size, end to end
-numbers-back : (size : ℕ) (l : List ℕ) → ((n : ℕ) → n ∈ l → n < 256 ^ size) → map number (map (bytes size) l) ≡ l
-numbers-back size [] h = refl
-numbers-back size (n ∷ l) h = ap₂ _∷_ (number-bytes size n (h n (List·Memᴰ·head refl))) (numbers-back size l (λ k j. h k (List·Memᴰ·tail j)))
-
-all-sized : (size : ℕ) (l : List ℕ) (b : List ℕ) → b ∈ map (bytes size) l → length b ≡ size
-all-sized size l b k = let r = Memᴰ·of-map (bytes size) l k in ap length (sym (r .2)) ∙ length-bytes size (r .0)
-
 join-isBytes : (size : ℕ) (l : List ℕ) → T (isBytes (join (map (bytes size) l)))
 join-isBytes size [] = tt
 join-isBytes size (n ∷ l) = isBytes-append (bytes size n) (join (map (bytes size) l)) (bytes-isBytes size n) (join-isBytes size l)

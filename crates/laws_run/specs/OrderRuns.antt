@@ -13,10 +13,10 @@ use Rattle.model_runs.specs.RunOrder.{receivedIn, InOrder, OrderKept}
 use Rattle.laws_order.specs.TestLaws.{Same}
 use Rattle.laws_state.specs.LogLaws.{log-is, log-executable, log-grounded, held-executable, held-ascends, ring-stays, ring-held}
 use Rattle.laws_state.specs.ImageLaws.{log-back, held-back}
-use Rattle.laws_run.specs.RunLaws.{state-valid, accepted-set, next-keeps, agreement}
+use Rattle.laws_run.specs.RunLaws.{state-valid, state-origin, accepted-set, next-keeps, agreement}
 
 -- ---- the image of a valid state is in order
-image-in-order : (S : State) → Valid S → (received : List Message) → Same (S .deltas) received → InOrder received S (imageOf S)
+pub image-in-order : (S : State) → Valid S → (received : List Message) → Same (S .deltas) received → InOrder received S (imageOf S)
 image-in-order S valid received same = record {
   deltas = same;
   first = subst (IsLog S) (sym log) (log-is S (valid .ascends));
@@ -54,6 +54,6 @@ order-kept = record {
       let all : List Event = later ++ events in
       let here : m ∈ stateAfter given events .deltas = accepted-set given b begun events (run-before Answers b later events run) m .1 k in
       let there : m ∈ heldOf (stateAfter given all) = ring-held (stateAfter given all) (state-valid given all .ascends) m (state-keeps given later events m here)
-      (ring-stays (stateAfter given events) (stateAfter given all) (state-keeps given later events) m ring) in
+      (ring-stays (stateAfter given events) (stateAfter given all) (state-origin given events ∙ sym (state-origin given all)) (state-keeps given later events) m ring) in
       subst (λ (l : List Message). m ∈ l) (sym (ap heldIn (agreement .list given b begun all run .image) ∙ held-back (stateAfter given all) (state-valid given all))) there;
 }

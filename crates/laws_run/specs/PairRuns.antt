@@ -13,7 +13,7 @@ use Rattle.model.specs.Image.{imageOf, valuesIn, Valid}
 use Rattle.model.specs.Steps.{StepRecord, recordsBetween, Standing, PlaysPairs}
 use Rattle.model.specs.Calls.{emptyState}
 use Rattle.model_runs.specs.Run.{Event, recordsRead, PairsPlayed}
-use Rattle.laws_state.specs.ValueLaws.{values-back}
+use Rattle.laws_state.specs.ImageValueLaws.{values-back}
 use Rattle.laws_state.specs.PairLaws.{standingIn, state-pairs-play, pairs-unique}
 
 -- They can be played to the setpoints of a state, where its log stands on executions of the past, and lead to no other values.
@@ -26,10 +26,10 @@ pub pairs-begun : (b : List ℕ) → valuesIn b ≡ setpointsOf emptyState → P
 unfolding logOf
 pairs-begun b e = record { past = []; played = (refl, sym e); only = λ standing values p. p .1 ∙ e }
 
-pub pairs-next : (b : List ℕ) (e : Event) (earlier : List Event) (S R : State) → Valid S → Valid R → ((m : Message) → m ∈ S .deltas → m ∈ R .deltas)
+pub pairs-next : (b : List ℕ) (e : Event) (earlier : List Event) (S R : State) → S .origin ≡ R .origin → Valid S → Valid R → ((m : Message) → m ∈ S .deltas → m ∈ R .deltas)
     → recordsRead (e .answer) ≡ some (recordsBetween S R)
     → PairsLead b earlier S → PairsLead b (e ∷ earlier) R
-pairs-next b e earlier S R p q all read before = record {
+pairs-next b e earlier S R same p q all read before = record {
   past = before .past;
   played = (standingIn (before .past) S, setpointsOf S, made, before .played, read, plays);
   only = λ standing values h.
@@ -43,7 +43,7 @@ pairs-next b e earlier S R p q all read before = record {
     made = recordsBetween S R
 
     plays : PlaysPairs (standingIn (before .past) S) (setpointsOf S) made (standingIn (before .past) R) (setpointsOf R)
-    plays = state-pairs-play (before .past) S R (p .ascends) (q .ascends) all
+    plays = state-pairs-play (before .past) S R same (p .ascends) (q .ascends) all
 
 -- the image's values are these setpoints
 pub pairs-values : (b : List ℕ) (events : List Event) (S : State) → Valid S → (image : List ℕ) → image ≡ imageOf S → PairsLead b events S

@@ -1,7 +1,7 @@
 -- Demand 3 of the definitions' own calls: `Agreement` holds of them.
 use mathlib.Core.Path.{_≡_, refl, sym, _∙_, ap, ap₂, subst}
 use mathlib.Core.Logic.{⊎-elim, _↔_}
-use mathlib.Core.Bool.{Bool, true, false, cond}
+use mathlib.Core.Bool.{Bool, true, false, cond, not}
 use mathlib.Core.Option.{some, Option·some-injective}
 use mathlib.Core.List.{List, [], _∷_, _++_, map, reverse, List·Memᴰ·head, List·Memᴰ·tail, List·Memᴰ·not-nil, List·Memᴰ·cases-cons, List·Memᴰ·append-cases, Memᴰ·append-left, Memᴰ·append-right, Memᴰ·cast}
 use Prim.Native.Nat.{ℕ, zero, suc, _+_, _≤_}
@@ -9,12 +9,13 @@ use native.Mathlib.Omega.{arith}
 use native.Mathlib.Nat.{suc-ne-zero}
 use lib.ListN.{length, length-reverse, length-drop, drop}
 use lib.Dec.{T, eqb, eqb→eq}
+use lib.IntN.{ℤ}
 use Rattle.model.specs.Lists.{_∈_}
-use Rattle.model.specs.Message.{Message}
-use Rattle.model.specs.Order.{Origin, State, holding, add, sequencesOf, logOf}
+use Rattle.model.specs.Message.{Message, sequenceOf}
+use Rattle.model.specs.Order.{Origin, firstOrigin, State, holding, purged, add, takeIn, sequencesOf, logOf}
 use Rattle.model.specs.Setpoints.{startValues}
 use Rattle.model.specs.Image.{imageOf, Valid, valuesIn, logIn}
-use Rattle.model.specs.Steps.{Step, undo, execute, common, stepsOf, StepRecord, recordsBetween, recordsBytes, readRecords, stepsIn, readSteps, Plays}
+use Rattle.model.specs.Steps.{Step, undo, execute, common, stepsOf, StepRecord, recordsOf, recordsBetween, recordsBytes, readRecords, stepsIn, readSteps, Plays}
 use Rattle.model.specs.Codes.{lowestCode, emptyConditions}
 use Rattle.model.specs.Calls.{Delivered, deliverAnswer, emptyState, emptyAnswer, empty}
 use Rattle.model.specs.PlainStation.{accepts, receive}
@@ -23,11 +24,11 @@ use Rattle.laws_order.specs.StepLaws.{steps-play, steps-fewest, steps-counted, 
 use Rattle.laws_order.specs.TestLaws.{Same}
 use Rattle.laws_state.specs.SetLaws.{insert-from, insert-keeps, insert-has, ascending-unique}
 use Rattle.laws_wire.specs.RecordLaws.{records-steps, records-counted, records-self}
-use Rattle.laws_state.specs.OriginLaws.{one-origin}
+use Rattle.laws_origin.specs.OriginLaws.{start-same, first-right}
 use Rattle.laws_state.specs.ImageLaws.{log-back}
-use Rattle.laws_state.specs.ValueLaws.{values-back}
+use Rattle.laws_state.specs.ImageValueLaws.{values-back}
 use Rattle.laws_state.specs.RecordRange.{records-back}
-use Rattle.laws_state.specs.DeliverLaws.{stateCode, deliver-code-is, deliver-is, code-zero, receive-refused, receive-accepted, accepts-same, receive-valid}
+use Rattle.laws_state.specs.DeliverLaws.{stateCode, deliver-code-is, deliver-is, code-zero, receive-refused, receive-accepted, take-in-above, take-in-origin, take-in-keeps, take-in-valid, accepts-same, receive-valid}
 use Rattle.laws_run.specs.PairRuns.{PairsLead, pairs-begun, pairs-next, pairs-values}
 
 -- ---- one call on the image of a valid state, after which the plain station's state is `next`
@@ -44,8 +45,7 @@ module _ (S : State) (valid : Valid S) (m : Message) (steps : List ℕ) where
   code-is : (n : ℕ) → stateCode S m (length steps) ≡ n → n ≡ codeFor (imageOf S) (delivery m steps)
   code-is n e = sym e ∙ sym (deliver-code-is S valid m (length steps))
 
-  accepted-facts : stateCode S m (length steps) ≡ 0 → CallFacts S (add m S) (delivery m steps) (deliverAnswer 0 S (imageOf S) m steps)
-  unfolding startValues
+  accepted-facts : stateCode S m (length steps) ≡ 0 → CallFacts S (takeIn m S) (delivery m steps) (deliverAnswer 0 S (imageOf S) m steps)
   accepted-facts e = record {
     agrees = record {
       accepted = (λ z. code-zero S m (length steps) .0 e, λ t. refl);
@@ -53,22 +53,20 @@ module _ (S : State) (valid : Valid S) (m : Message) (steps : List ℕ) where
       undos = refl;
       executions = refl;
       fewest = λ rival plays.
-          let old = sequencesOf (logOf S) in let new = sequencesOf (logOf (add m S)) in
+          let old = sequencesOf (logOf S) in let new = sequencesOf (logOf (takeIn m S)) in
           subst (λ (n : ℕ). n ≤ length rival) (steps-counted old new) (steps-fewest old new rival plays);
-      records = subst (λ (n : ℕ). readRecords n (recordsBytes made ++ behind) ≡ some made) (records-counted (startValues S) (logOf S) (logOf (add m S)))
-          (records-back S (add m S) valid valid-next behind);
+      records = subst (λ (n : ℕ). readRecords n (recordsBytes made ++ behind) ≡ some made) (records-counted (startValues S) (logOf S) (logOf (takeIn m S)))
+          (records-back S (takeIn m S) valid (take-in-valid S valid m (length steps) (code-zero S m (length steps) .0 e)) behind)
+          ∙ ap (λ (v : List ℤ). some (recordsOf v (logOf S) (logOf (takeIn m S)))) (start-same S (takeIn m S) (sym (take-in-origin m S)));
     };
     image = refl;
   }
     where
       made : List StepRecord
-      made = recordsBetween S (add m S)
+      made = recordsBetween S (takeIn m S)
 
       behind : List ℕ
       behind = drop (length (recordsBytes made)) steps
-
-      valid-next : Valid (add m S)
-      valid-next = subst Valid (receive-accepted S m (length steps) e) (receive-valid S valid m (length steps))
 
   refused-facts : (n : ℕ) → stateCode S m (length steps) ≡ suc n → CallFacts S S (delivery m steps) (deliverAnswer (suc n) S (imageOf S) m steps)
   refused-facts n e = record {
@@ -97,7 +95,7 @@ call-facts S valid (delivery m steps) a h =
 
 -- ---- whole lists
 empty-valid : Valid emptyState
-empty-valid = record { ascends = tt; fits = omega arith; pass = λ m k. absurd (List·Memᴰ·not-nil k) }
+empty-valid = record { ascends = tt; fits = omega arith; pass = λ m k. absurd (List·Memᴰ·not-nil k); above = λ m k. absurd (List·Memᴰ·not-nil k); right = first-right }
 
 next-valid : (S : State) → Valid S → (c : Call) → Valid (stateNext S c)
 next-valid S valid (delivery m steps) = receive-valid S valid m (length steps)
@@ -105,6 +103,23 @@ next-valid S valid (delivery m steps) = receive-valid S valid m (length steps)
 pub state-valid : (given : Given) (events : List Event) → Valid (stateAfter given events)
 state-valid given [] = empty-valid
 state-valid given (e ∷ earlier) = next-valid (stateAfter given earlier) (state-valid given earlier) (e .call)
+
+-- no delivery moves the origin
+pub next-origin : (S : State) (c : Call) → stateNext S c .origin ≡ S .origin
+unfolding receive
+next-origin S (delivery m steps) = go (accepts S m (length steps))
+  where
+    go : (t : Bool) → cond t (takeIn m S) S .origin ≡ S .origin
+    go true = take-in-origin m S
+    go false = refl
+
+-- so that along a list of deliveries there is no floor, and nothing is at or below one
+pub state-origin : (given : Given) (events : List Event) → stateAfter given events .origin ≡ firstOrigin
+state-origin given [] = refl
+state-origin given (e ∷ earlier) = next-origin (stateAfter given earlier) (e .call) ∙ state-origin given earlier
+
+first-above : (S : State) → S .origin ≡ firstOrigin → (s : ℕ) → T (not (purged S s))
+first-above S e s = subst (λ (O : Origin). T (not (purged (holding O []) s))) (sym e) tt
 
 begins-image : (given : Given) (b : List ℕ) → Begins given b → b ≡ imageOf (stateBegun given)
 unfolding empty
@@ -129,11 +144,14 @@ module _ (given : Given) (b : List ℕ) (begun : Begins given b) where
   event-facts e earlier run = facts-after e earlier (run-image earlier (run .1)) (run .0)
 
 -- ---- the accepted messages are the set
-keeps-set : (S : State) → Valid S → (c : Call) → T (accepts? S c) → Same (stateNext S c .deltas) (messagesOfCall c ++ S .deltas)
-keeps-set S valid (delivery m steps) t = subst (λ (R : State). Same (R .deltas) (m ∷ S .deltas)) (sym (receive-accepted S m (length steps) (code-zero S m (length steps) .1 t))) (λ x. (
+keeps-set : (S : State) → Valid S → S .origin ≡ firstOrigin → (c : Call) → T (accepts? S c) → Same (stateNext S c .deltas) (messagesOfCall c ++ S .deltas)
+keeps-set S valid first (delivery m steps) t = subst (λ (R : State). Same (R .deltas) (m ∷ S .deltas)) (sym next) (λ x. (
   λ k. ⊎-elim (λ e. List·Memᴰ·head e) (λ j. List·Memᴰ·tail j) (insert-from m (S .deltas) x k),
   λ k. ⊎-elim (λ e. Memᴰ·cast e (insert-has m (S .deltas) (accepts-same S valid m (length steps) t))) (λ j. insert-keeps m (S .deltas) x j) (List·Memᴰ·cases-cons k),
 ))
+  where
+    next : receive S m (length steps) ≡ add m S
+    next = receive-accepted S m (length steps) (code-zero S m (length steps) .1 t) ∙ take-in-above m S (first-above S first (sequenceOf m))
 
 keeps-refused : (S : State) → (c : Call) → ¬ T (accepts? S c) → stateNext S c ≡ S
 keeps-refused S (delivery m steps) h = receive-refused S m (length steps) (λ e. h (code-zero S m (length steps) .0 e))
@@ -148,7 +166,7 @@ accepted-set given b begun (e ∷ earlier) run = go (eqb (e .answer .code) 0) (e
     go : (t : Bool) → (T t → e .answer .code ≡ 0) → (e .answer .code ≡ 0 → T t) → Same (stateAfter given earlier .deltas) (acceptedIn earlier)
         → Same (stateNext (stateAfter given earlier) (e .call) .deltas) (cond t (messagesOfCall (e .call) ++ acceptedIn earlier) (acceptedIn earlier))
     go true f g ih = λ m.
-        let s = keeps-set (stateAfter given earlier) (state-valid given earlier) (e .call) (facts .agrees .accepted .0 (f tt)) m in
+        let s = keeps-set (stateAfter given earlier) (state-valid given earlier) (state-origin given earlier) (e .call) (facts .agrees .accepted .0 (f tt)) m in
         let new = messagesOfCall (e .call) in (
           λ k. ⊎-elim (Memᴰ·append-left _) (λ j. Memᴰ·append-right new (ih m .0 j)) (List·Memᴰ·append-cases new (s .0 k)),
           λ k. s .1 (⊎-elim (Memᴰ·append-left _) (λ j. Memᴰ·append-right new (ih m .1 j)) (List·Memᴰ·append-cases new k)),
@@ -159,7 +177,7 @@ accepted-set given b begun (e ∷ earlier) run = go (eqb (e .answer .code) 0) (e
 same-images : (given other : Given) (b c : List ℕ) → Begins given b → Begins other c → (events others : List Event)
     → Run Answers b events → Run Answers c others → SameStation given events other others → imageAfter b events ≡ imageAfter c others
 same-images given other b c p q events others r t f =
-    run-image given b p events r ∙ ap₂ (λ (O : Origin) (l : List Message). imageOf (holding O l)) (one-origin (stateAfter given events .origin) (stateAfter other others .origin)) sets ∙ sym (run-image other c q others t)
+    run-image given b p events r ∙ ap₂ (λ (O : Origin) (l : List Message). imageOf (holding O l)) (state-origin given events ∙ sym (state-origin other others)) sets ∙ sym (run-image other c q others t)
   where
     sets : stateAfter given events .deltas ≡ stateAfter other others .deltas
     sets = ascending-unique (stateAfter given events .deltas) (stateAfter other others .deltas) (state-valid given events .ascends) (state-valid other others .ascends) (λ m. (
@@ -220,20 +238,28 @@ pub next-keeps : (S : State) (c : Call) (x : Message) → x ∈ S .deltas → x 
 unfolding receive
 next-keeps S (delivery m steps) x k = go (accepts S m (length steps))
   where
-    go : (t : Bool) → x ∈ cond t (add m S) S .deltas
-    go true = insert-keeps m (S .deltas) x k
+    go : (t : Bool) → x ∈ cond t (takeIn m S) S .deltas
+    go true = take-in-keeps m S x k
     go false = k
 
 -- a delivery's steps are played from the log as it was left
-records-between : (S R : State) (c : Call) (a : Delivered) → CallFacts S R c a → recordsRead a ≡ some (recordsBetween S R)
-unfolding startValues
-records-between S R (delivery m steps) a facts = facts .agrees .records
+records-between : (S R : State) (c : Call) (a : Delivered) → S .origin ≡ R .origin → CallFacts S R c a → recordsRead a ≡ some (recordsBetween S R)
+records-between S R (delivery m steps) a e facts = facts .agrees .records ∙ ap (λ (v : List ℤ). some (recordsOf v (logOf S) (logOf R))) (sym (start-same S R e))
 
 pairs-lead : (given : Given) (b : List ℕ) → Begins given b → (events : List Event) → Run Answers b events → PairsLead b events (stateAfter given events)
 pairs-lead given b begun [] run = pairs-begun b (ap valuesIn (begins-image given b begun) ∙ values-back emptyState empty-valid)
 pairs-lead given b begun (e ∷ earlier) run =
-    pairs-next b e earlier (stateAfter given earlier) (stateAfter given (e ∷ earlier)) (state-valid given earlier) (state-valid given (e ∷ earlier))
-    (next-keeps (stateAfter given earlier) (e .call)) (records-between (stateAfter given earlier) (stateAfter given (e ∷ earlier)) (e .call) (e .answer) (event-facts given b begun e earlier run)) (pairs-lead given b begun earlier (run .1))
+    pairs-next b e earlier S R same (state-valid given earlier) (state-valid given (e ∷ earlier))
+    (next-keeps S (e .call)) (records-between S R (e .call) (e .answer) same (event-facts given b begun e earlier run)) (pairs-lead given b begun earlier (run .1))
+  where
+    S : State
+    S = stateAfter given earlier
+
+    R : State
+    R = stateAfter given (e ∷ earlier)
+
+    same : S .origin ≡ R .origin
+    same = sym (next-origin S (e .call))
 
 -- ---- the theorem
 pub agreement : Agreement Begins Answers

@@ -1,6 +1,7 @@
--- The messages of an image: at most 64, each passes 3 to 6, no sequence twice.
+-- The messages of an image: at most 64, each passes 3 to 6 and is above its floor, no sequence twice.
 use mathlib.Core.Path.{_≡_, refl, sym, _∙_, ap, subst}
 use mathlib.Core.Logic.{⊎-elim}
+use mathlib.Core.Bool.{not}
 use mathlib.Core.List.{List, [], _∷_, _++_, List·Memᴰ·head, List·Memᴰ·tail, List·Memᴰ·not-nil, List·Memᴰ·cases-cons, Memᴰ·cast, Memᴰ·map, Memᴰ·append-right}
 use Prim.Native.Nat.{ℕ, zero, suc, _+_, _≤_}
 use native.Mathlib.Omega.{arith}
@@ -10,11 +11,11 @@ use Rattle.model.specs.Lists.{_∈_}
 use Rattle.model.specs.Bytes.{field}
 use Rattle.model.specs.Layout.{lengthAt, capacity}
 use Rattle.model.specs.Message.{Message, sequenceOf, passes}
-use Rattle.model.specs.Order.{State, insert, logOf, heldOf}
-use Rattle.model.specs.Image.{IsImage, cut, logCount, heldCount, messagesStartIn, messagesIn, setOf, isImage}
+use Rattle.model.specs.Order.{State, purged, insert, logOf, heldOf}
+use Rattle.model.specs.Image.{IsImage, cut, logCount, heldCount, messagesStartIn, messagesIn, setOf, stateIn, isImage}
 use Rattle.laws_state.specs.SetLaws.{ascending-names, insert-length, insert-there, setOf-ascending, setOf-into, setOf-same}
 use Rattle.laws_state.specs.LogLaws.{log-held, places}
-use Rattle.laws_state.specs.ImageLaws.{image-declared, messages-back}
+use Rattle.laws_state.specs.ImageLaws.{image-declared, image-state, messages-back}
 
 -- no sequence twice
 abbrev pub Distinct : List Message → Type 0
@@ -51,12 +52,14 @@ length-cut (suc n) b = ap suc (length-cut n (drop (field b lengthAt 2) b))
 pub record SetOfImage (b : List ℕ) : Type 0 where
   pub fits : logCount b + heldCount b ≤ capacity
   pub pass : (m : Message) → m ∈ messagesIn b → T (passes m)
+  pub above : (m : Message) → m ∈ messagesIn b → T (not (purged (stateIn b) (sequenceOf m)))
   pub distinct : Distinct (messagesIn b)
 
 declared-messages : (b : List ℕ) → IsImage b → SetOfImage b
 declared-messages b i = record {
   fits = omega (arith, length-cut (logCount b + heldCount b) (drop (messagesStartIn b) b), ap length back, room, i .valid .fits);
-  pass = λ m k. i .valid .pass m (log-held S (i .valid .ascends) m .0 (subst (λ (l : List Message). m ∈ l) back k));
+  pass = λ m k. i .valid .pass m (there m k);
+  above = λ m k. subst (λ (R : State). T (not (purged R (sequenceOf m)))) (image-state b i) (i .valid .above m (there m k));
   distinct = subst Distinct (sym back) (distinct-whole M names (omega (arith, ap length (setOf-same (S .deltas) M (i .valid .ascends) (log-held S (i .valid .ascends))), room)));
 }
   where
@@ -68,6 +71,9 @@ declared-messages b i = record {
 
     back : messagesIn b ≡ M
     back = ap messagesIn (i .image) ∙ messages-back S (i .valid)
+
+    there : (m : Message) → m ∈ messagesIn b → m ∈ S .deltas
+    there m k = log-held S (i .valid .ascends) m .0 (subst (λ (l : List Message). m ∈ l) back k)
 
     room : length M ≤ length (S .deltas)
     room = places S (i .valid .ascends)

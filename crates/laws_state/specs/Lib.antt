@@ -1,13 +1,15 @@
+pub mod NumberLaws
 pub mod SetLaws
 pub mod LogLaws
 pub mod EffectiveLaws
+pub mod FloorLaws
+pub mod ValueLaws
 pub mod ImageLaws
 pub mod ImageSetLaws
+pub mod ImageValueLaws
 pub mod OffsetLaws
 pub mod CodeLaws
 pub mod DeliverLaws
 pub mod UsedLaws
-pub mod ValueLaws
 pub mod RecordRange
 pub mod PairLaws
-pub mod OriginLaws

@@ -46,13 +46,19 @@ pub executables-complete : (S : State) → Ascending (S .deltas) → L.Complete 
 unfolding executablesOf
 executables-complete S h = grow-complete sequenceOf (needs S) L.anyOf any-chooses (S .deltas) (ascending-names (S .deltas) h)
 
--- a ring stays one, whatever is received besides
-pub ring-stays : (S R : State) → ((x : Message) → x ∈ S .deltas → x ∈ R .deltas) → (m : Message) → MeetsRing S m → MeetsRing R m
+-- what a delta waits for depends on the origin alone
+needs-same : (S R : State) → S .origin ≡ R .origin → needs S ≡ needs R
 unfolding needs
-ring-stays S R all m = ⊎-elim (λ r. inl (more r)) (λ r. inr (r .0, all (r .0) (r .1), more (r .2), more (r .3)))
+needs-same S R e = ap (λ (O : Origin). needs (holding O [])) e
+
+-- a ring stays one, whatever is received besides
+pub ring-stays : (S R : State) → S .origin ≡ R .origin → ((x : Message) → x ∈ S .deltas → x ∈ R .deltas) → (m : Message) → MeetsRing S m → MeetsRing R m
+ring-stays S R e all m = ⊎-elim (λ r. inl (more r)) (λ r. inr (r .0, all (r .0) (r .1), more (r .2), more (r .3)))
   where
     more : {a : Message} {s : ℕ} → Reaches S a s → Reaches R a s
-    more r = reach-more sequenceOf (needs S) (S .deltas) (R .deltas) all r
+    more {a} {s} r =
+        subst (λ (waits : Message → List ℕ). L.Reaches sequenceOf waits (R .deltas) a s) (needs-same S R e)
+        (reach-more sequenceOf (needs S) (S .deltas) (R .deltas) all r)
 
 -- a delta of this sequence is in the log
 abbrev pub Logged : State → ℕ → Type 0

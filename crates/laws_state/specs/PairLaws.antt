@@ -14,6 +14,7 @@ use Rattle.model.specs.Setpoints.{startValues, Change, changeOf, apply, runComm
 use Rattle.model.specs.Steps.{common, Pair, pairOf, valuesAfter, valuesRestored, StepRecord, executionOf, undoOf, along, recordsOf, recordsBetween, setPairs, foundBy, Standing, PlaysPairs}
 use Rattle.laws_order.specs.CommonLaws.{common-start}
 use Rattle.laws_wire.specs.RecordLaws.{along-drop}
+use Rattle.laws_origin.specs.OriginLaws.{start-same}
 use Rattle.laws_state.specs.SetLaws.{ascending-names}
 use Rattle.laws_state.specs.LogLaws.{log-received}
 
@@ -148,16 +149,18 @@ records-play past start old new agree =
         ∙ ap₂ (λ (a b : List StepRecord). reverse a ++ b) (sym (along-drop undoOf kept old start))
         (ap (λ (l : List Message). along executionOf (drop kept new) (runLog l start)) same ∙ sym (along-drop executionOf kept new start))
 
--- ---- between two states, the first one's deltas among the second one's
+-- ---- between two states of one origin, the first one's deltas among the second one's
 -- The executions of a state's log, on top of those of the past.
 abbrev pub standingIn : List Standing → State → List Standing
 standingIn past S = standingBy past (logOf S) (startValues S)
 
-pub state-pairs-play : (past : List Standing) (S R : State) → Ascending (S .deltas) → Ascending (R .deltas) → ((m : Message) → m ∈ S .deltas → m ∈ R .deltas)
+pub state-pairs-play : (past : List Standing) (S R : State) → S .origin ≡ R .origin → Ascending (S .deltas) → Ascending (R .deltas)
+    → ((m : Message) → m ∈ S .deltas → m ∈ R .deltas)
     → PlaysPairs (standingIn past S) (setpointsOf S) (recordsBetween S R) (standingIn past R) (setpointsOf R)
-unfolding setpointsOf startValues
-state-pairs-play past S R p q all =
-    records-play past (startValues S) (logOf S) (logOf R) (λ a b j k. ascending-names (R .deltas) q a b (all a (log-received S p a j)) (log-received R q b k))
+unfolding setpointsOf
+state-pairs-play past S R e p q all =
+    subst (λ (v : List ℤ). PlaysPairs (standingIn past S) (setpointsOf S) (recordsBetween S R) (standingBy past (logOf R) v) (runLog (logOf R) v)) (start-same S R e)
+    (records-play past (startValues S) (logOf S) (logOf R) (λ a b j k. ascending-names (R .deltas) q a b (all a (log-received S p a j)) (log-received R q b k)))
 
 -- ---- pairs lead to one list of values at the most, whatever stands
 pub pairs-unique : (l : List StepRecord) (s t end other : List Standing) (values final last : List ℤ)

@@ -58,4 +58,4 @@ pub records-back : (S R : State) → Valid S → Valid R → (rest : List ℕ)
     → let l = recordsBetween S R in readRecords (length l) (recordsBytes l ++ rest) ≡ some l
 records-back S R p q rest =
     read-records (recordsBetween S R) rest
-    (records-readable (startValues S) (logOf S) (logOf R) (start-range S) (log-passes S p) (log-passes R q))
+    (records-readable (startValues S) (logOf S) (logOf R) (start-range S p) (log-passes S p) (log-passes R q))

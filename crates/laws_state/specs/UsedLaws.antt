@@ -16,12 +16,12 @@ use Rattle.model.specs.Layout.{imageSize}
 use Rattle.model.specs.Message.{Message, sequenceOf}
 use Rattle.model.specs.Listing as L
 use Rattle.model.specs.Order.{State, Ascending, insert, add, needs, Listing, logOf, heldOf}
-use Rattle.model.specs.Image.{messagesStart, messagesOf, usedOf, imageOf}
+use Rattle.model.specs.Image.{messagesOf, usedOf, imageOf}
 use Rattle.laws_order.specs.TestLaws.{is-true, keep-cong}
 use Rattle.laws_order.specs.ListingLaws.{fresh, ready-fresh}
 use Rattle.laws_state.specs.SetLaws.{insert-ascending}
 use Rattle.laws_state.specs.LogLaws.{log-complete, log-received, held-fresh}
-use Rattle.laws_state.specs.ImageLaws.{used-length}
+use Rattle.laws_state.specs.ImageLaws.{front-size, used-size}
 
 -- the bytes of some messages
 weight : List Message → ℕ
@@ -100,12 +100,14 @@ insert-weight m (x ∷ l) h = go (ltb (sequenceOf m) (sequenceOf x)) (eqb (seque
     go false true e ih = absurd (subst T e tt)
     go false false e ih = omega (arith, ih)
 
+-- the sections before the messages take as many bytes as before
 pub used-grows : (S : State) → Ascending (S .deltas) → (m : Message) → ((x : Message) → x ∈ S .deltas → sequenceOf m ≡ sequenceOf x → ⊥) → length (usedOf S) ≤ length (usedOf (add m S))
-unfolding messagesStart
 used-grows S ascends m new = omega (
   arith,
-  used-length S,
-  used-length (add m S),
+  used-size S,
+  used-size (add m S),
+  front-size S,
+  front-size (add m S),
   messages-weight S ascends,
   messages-weight (add m S) (insert-ascending m (S .deltas) ascends),
   insert-weight m (S .deltas) new,

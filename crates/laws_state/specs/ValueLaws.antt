@@ -1,27 +1,26 @@
--- Every setpoint is between -1000000 and 1000000, and so is what a change finds and leaves; an image's values read back to the
--- setpoints, each by its four bytes.
+-- Every setpoint is between -1000000 and 1000000, and so is what a change finds and leaves; values in that range that are written are
+-- read back, each by its four bytes.
 use mathlib.Core.Path.{_≡_, refl, sym, _∙_, ap, ap₂, subst}
 use mathlib.Core.Logic.{⊎-elim}
 use mathlib.Core.Bool.{Bool, true, false, cond, not}
-use mathlib.Core.List.{List, [], _∷_, _++_, map, List·Memᴰ·head, List·Memᴰ·tail, List·Memᴰ·not-nil, List·Memᴰ·cases-cons, Memᴰ·of-map, append-nil}
-use Prim.Native.Nat.{ℕ, zero, suc, _+_, _*_, _-_, _≤_, _<_}
+use mathlib.Core.List.{List, [], _∷_, _++_, map, List·Memᴰ·head, List·Memᴰ·tail, List·Memᴰ·not-nil, List·Memᴰ·cases-cons, Memᴰ·of-map}
+use Prim.Native.Nat.{ℕ, zero, suc, _*_, _≤_, _<_}
 use native.Mathlib.Omega.{arith}
-use lib.ListN.{length, take, drop, getD, set, replicate, length-map}
-use lib.Seq.{drop-drop}
+use lib.ListN.{length, drop, getD, set, length-map}
 use lib.Dec.{T, eqb, ltb, leb→le, ltb→lt}
 use lib.IntN.{ℤ, pos, negsuc, _+ℤ_}
 use lib.Signed.{mag, ltZ, leZ, ltZ-no}
 use Rattle.model.specs.Lists.{_∈_, every}
 use Rattle.model.specs.Bytes.{number, bytes, field, parts, integer, word}
-use Rattle.model.specs.Layout.{operationAt, tagAt, valueSize, tagCount, setpointsStart, imageSize, lowestValue, highestValue}
+use Rattle.model.specs.Layout.{operationAt, tagAt, valueSize, tagCount, lowestValue, highestValue}
 use Rattle.model.specs.Message.{Message, valueOf, commandsOf, commandRight, contentRight, passes}
-use Rattle.model.specs.Order.{State, logOf}
+use Rattle.model.specs.Order.{State, inRange, logOf}
 use Rattle.model.specs.Setpoints.{startValues, stop, raise, operate, Change, changeOf, apply, runCommand, runCommands, changesBy, runDelta, changesOf, runLog, setpointsOf}
-use Rattle.model.specs.Image.{headerOf, valuesOf, sectionsOf, usedOf, imageOf, Valid, valuesIn, stateIn, isImage}
+use Rattle.model.specs.Image.{valuesBytes, valuesAt, Valid}
 use Rattle.laws_order.specs.TestLaws.{and-l, and-r, every-∈}
-use Rattle.laws_order.specs.ListLaws.{getD-map}
-use Rattle.laws_wire.specs.BytesLaws.{length-bytes, number-bytes, section-at, length-parts, parts-at, parts-join, integer-word}
-use Rattle.laws_state.specs.ImageLaws.{length-setpoints, log-passes, length-header, image-own, own-valid}
+use Rattle.laws_wire.specs.BytesLaws.{length-bytes, number-bytes, length-join, parts-join, integer-word}
+use Rattle.laws_origin.specs.OriginLaws.{base-range}
+use Rattle.laws_state.specs.LogLaws.{log-received}
 
 -- ---- the range: 1000000 and -1000000 are its ends
 abbrev pub InRange : ℤ → Type 0
@@ -123,54 +122,42 @@ log-range : (l : List Message) (t : List ℤ) → ((m : Message) → m ∈ l →
 log-range [] t pass h = h
 log-range (m ∷ l) t pass h = log-range l (runDelta m t) (λ x k. pass x (List·Memᴰ·tail k)) (delta-range m t (pass m (List·Memᴰ·head refl)) h)
 
-zeros-range : (n : ℕ) → AllInRange (replicate n (pos 0))
-zeros-range zero = λ i. (tt, tt)
-zeros-range (suc n) = λ (i : ℕ). go i (zeros-range n)
+-- ---- the base values are in range, and so is what the log leaves
+base-values-range : (t : List ℤ) → T (every inRange t) → AllInRange t
+base-values-range [] h = λ i. (tt, tt)
+base-values-range (v ∷ t) h = λ (i : ℕ). go i (and-l (inRange v) (every inRange t) h) (base-values-range t (and-r (inRange v) (every inRange t) h))
   where
-    go : (i : ℕ) → AllInRange (replicate n (pos 0)) → InRange (getD (pos 0 ∷ replicate n (pos 0)) i (pos 0))
-    go zero f = (tt, tt)
-    go (suc i) f = f i
+    go : (i : ℕ) → T (inRange v) → AllInRange t → InRange (getD (v ∷ t) i (pos 0))
+    go zero r f = (and-l (leZ lowestValue v) (leZ v highestValue) r, and-r (leZ lowestValue v) (leZ v highestValue) r)
+    go (suc i) r f = f i
 
-pub start-range : (S : State) → AllInRange (startValues S)
+pub start-range : (S : State) → Valid S → AllInRange (startValues S)
 unfolding startValues
-start-range S = zeros-range tagCount
+start-range S valid = base-values-range (S .origin .base) (base-range (S .origin) (valid .right))
 
 pub setpoints-range : (S : State) → Valid S → AllInRange (setpointsOf S)
 unfolding setpointsOf
-setpoints-range S valid = log-range (logOf S) (startValues S) (log-passes S valid) (start-range S)
+setpoints-range S valid = log-range (logOf S) (startValues S) (λ m k. valid .pass m (log-received S (valid .ascends) m k)) (start-range S valid)
 
--- ---- the values of an image
--- past the header stand the values
-values-at : (S : State) → (rest : List ℕ) × (drop setpointsStart (imageOf S) ≡ valuesOf S ++ rest)
-unfolding imageOf usedOf sectionsOf
-values-at S =
-    let zeros : List ℕ = replicate (imageSize - length (usedOf S)) 0 in (
-      _,
-      ap (λ (n : ℕ). drop n (imageOf S)) (sym (length-header S) ∙ ap length (sym (append-nil (headerOf S)))) ∙ section-at (sectionsOf S) 1 zeros (omega arith),
-    )
+-- ---- values that are written are read back
+-- a value's four bytes
+abbrev wordBytes : ℤ → List ℕ
+wordBytes v = bytes valueSize (word v)
 
-each-back : (t : List ℤ) → AllInRange t → map (λ p. integer (number p)) (map (λ v. bytes valueSize (word v)) t) ≡ t
+words-sized : (t : List ℤ) (b : List ℕ) → b ∈ map wordBytes t → length b ≡ valueSize
+words-sized t b k = let r = Memᴰ·of-map wordBytes t k in ap length (sym (r .2)) ∙ length-bytes valueSize (word (r .0))
+
+pub length-values-bytes : (t : List ℤ) → length (valuesBytes t) ≡ valueSize * length t
+length-values-bytes t = length-join valueSize (map wordBytes t) (words-sized t) ∙ omega (arith, length-map t wordBytes)
+
+each-back : (t : List ℤ) → AllInRange t → map (λ p. integer (number p)) (map wordBytes t) ≡ t
 each-back [] h = refl
 each-back (v ∷ t) h =
     let small = integer-word v (omega (arith, in-range-mag v (h 0))) in
     ap₂ _∷_ (ap integer (number-bytes valueSize (word v) (small .0)) ∙ small .1) (each-back t (λ i. h (suc i)))
 
--- they read back to the setpoints
-pub values-back : (S : State) → Valid S → valuesIn (imageOf S) ≡ setpointsOf S
-unfolding valuesIn valuesOf
-values-back S valid =
-    let words : List (List ℕ) = map (λ v. bytes valueSize (word v)) (setpointsOf S) in
+pub values-read : (t : List ℤ) → length t ≡ tagCount → AllInRange t → (at : ℕ) (b rest : List ℕ) → drop at b ≡ valuesBytes t ++ rest → valuesAt at b ≡ t
+values-read t e h at b rest here =
     ap (map (λ p. integer (number p)))
-    (ap₂ (λ (n : ℕ) (b : List ℕ). parts n valueSize b) (sym (length-map (setpointsOf S) (λ v. bytes valueSize (word v)) ∙ length-setpoints S)) (values-at S .1)
-    ∙ parts-join valueSize words (values-at S .0) (λ b k. let r = Memᴰ·of-map (λ v. bytes valueSize (word v)) (setpointsOf S) k in ap length (sym (r .2)) ∙ length-bytes valueSize (word (r .0))))
-    ∙ each-back (setpointsOf S) (setpoints-range S valid)
-
--- a tag's value, by its four bytes
-pub value-at : (b : List ℕ) → T (isImage b) → (tag : ℕ) → tag < tagCount
-    → integer (field b (setpointsStart + valueSize * tag) valueSize) ≡ getD (setpointsOf (stateIn b)) tag (pos 0)
-unfolding valuesIn
-value-at b image tag h =
-    let words : List (List ℕ) = parts tagCount valueSize (drop setpointsStart b) in
-    ap (λ (w : List ℕ). integer (number w)) (sym (parts-at tagCount valueSize (drop setpointsStart b) tag h ∙ ap (take valueSize) (drop-drop (valueSize * tag) setpointsStart b)))
-    ∙ sym (getD-map (λ p. integer (number p)) words tag [] (pos 0) (omega (arith, length-parts tagCount valueSize (drop setpointsStart b))))
-    ∙ ap (λ (t : List ℤ). getD t tag (pos 0)) (ap valuesIn (image-own b image) ∙ values-back (stateIn b) (own-valid b image))
+    (ap₂ (λ (n : ℕ) (d : List ℕ). parts n valueSize d) (sym (length-map t wordBytes ∙ e)) here ∙ parts-join valueSize (map wordBytes t) rest (words-sized t))
+    ∙ each-back t h

@@ -2,19 +2,19 @@
 use mathlib.Core.Path.{_≡_, refl, sym, _∙_, ap, ap₂, subst}
 use mathlib.Core.Bool.{Bool, true, false, cond, not}
 use mathlib.Core.Logic.{⊎-elim}
-use mathlib.Core.List.{List, [], _∷_, _++_, List·Memᴰ·head, List·Memᴰ·tail, List·Memᴰ·not-nil, List·Memᴰ·cases-cons, append-assoc}
+use mathlib.Core.List.{List, [], _∷_, _++_, List·Memᴰ·head, List·Memᴰ·tail, List·Memᴰ·not-nil, List·Memᴰ·cases-cons, append-assoc, map}
 use Prim.Native.Nat.{ℕ, zero, suc, _+_, _*_, _-_, _/_, _%_, _^_, _≤_, _<_}
 use native.Mathlib.Omega.{arith}
-use native.Mathlib.Nat.{mod-eq-of-lt, pow-suc, mul-zero, mul-suc, mul-assoc, mul-comm, le-of-suc-le-suc, one-le-pow, pow-le-pow-right, lt-of-lt-of-le}
+use native.Mathlib.Nat.{mod-eq-of-lt, pow-suc, mul-zero, mul-suc, mul-assoc, mul-comm, le-of-suc-le-suc, one-le-pow, pow-le-pow-right, lt-of-lt-of-le, div-eq-of-lt, mul-add-div-right}
 use lib.Dec.{T, ltb, lit<, lit≤, ltb→lt, lt→ltb, nltb→le}
 use lib.Arith.{mod-mul}
 use lib.ListN.{length, take, drop, getD, length-append, length-drop, length-take, take-append-drop}
-use lib.Seq.{length-take-le, take-at, drop-at, take-append-le, drop-append-le, drop-append-add, take-take, drop-drop}
+use lib.Seq.{length-take-le, take-at, drop-at, take-append-le, drop-append-le, drop-append-add, take-take, take-add, drop-drop}
 use lib.IntN.{ℤ, pos, negsuc}
 use lib.Signed.{mag}
 use mir.Syntax.{w32}
 use mir.Val.{toZ, ofZ, sel}
-use mir.Facts.{toZ-ofZ}
+use mir.Facts.{toZ-ofZ, ofZ-toZ}
 use Rattle.model.specs.Lists.{_∈_, sum}
 use Rattle.model.specs.Bytes.{isBytes, numberFrom, number, bytes, field, fieldsBytes, numbersIn, parts, join, integer, word}
 use Rattle.laws_order.specs.TestLaws.{and-l, and-r, and-i}
@@ -73,6 +73,31 @@ numberFrom-range (x ∷ b) a p t h =
 pub number-range : (b : List ℕ) → T (isBytes b) → number b < 256 ^ length b
 number-range b t = let h : numberFrom 0 b < 1 * 256 ^ length b = numberFrom-range b 0 1 t (lit< tt) in omega arith
 
+-- bytes are those of their number
+numberFrom-split : (b : List ℕ) (a : ℕ) → numberFrom a b ≡ a * 256 ^ length b + number b
+numberFrom-split [] a = omega arith
+numberFrom-split (x ∷ b) a =
+    numberFrom-split b (a * 256 + x) ∙ regroup a x (256 ^ length b) (number b)
+    ∙ ap₂ (λ (p r : ℕ). a * p + r) (sym (pow-256 (length b)))
+    (ap (λ (y : ℕ). y * 256 ^ length b + number b) {x = x} {y = 0 * 256 + x} (omega arith) ∙ sym (numberFrom-split b (0 * 256 + x)))
+
+bytes-numberFrom : (b : List ℕ) (a : ℕ) → T (isBytes b) → bytes (length b) (numberFrom a b) ≡ b
+bytes-numberFrom [] a t = refl
+bytes-numberFrom (x ∷ b) a t = ap₂ _∷_ first (bytes-numberFrom b (a * 256 + x) rest)
+  where
+    rest : T (isBytes b)
+    rest = and-r (ltb x 256) (isBytes b) t
+
+    first : numberFrom (a * 256 + x) b / 256 ^ length b % 256 ≡ x
+    first =
+        let x-byte : x < 256 = ltb→lt x 256 (and-l (ltb x 256) (isBytes b) t) in
+        ap (λ (n : ℕ). n / 256 ^ length b % 256) (numberFrom-split b (a * 256 + x))
+        ∙ ap (λ (n : ℕ). n % 256) (mul-add-div-right (one-le-pow (length b) 256 (lit≤ tt)) (a * 256 + x) (number b))
+        ∙ ap (λ (n : ℕ). (a * 256 + x + n) % 256) (div-eq-of-lt (number-range b rest)) ∙ omega arith
+
+pub bytes-number : (b : List ℕ) → T (isBytes b) → bytes (length b) (number b) ≡ b
+bytes-number b t = bytes-numberFrom b 0 t
+
 -- a field of `size` bytes fits `size` bytes
 pub field-range : (b : List ℕ) (at size : ℕ) → T (isBytes b) → field b at size < 256 ^ size
 field-range b at size t =
@@ -90,6 +115,10 @@ take-drop-take n zero size b h = take-take size n b (omega arith)
 take-drop-take zero (suc i) size b h = let z : ⊥ = omega arith in absurd z
 take-drop-take (suc n) (suc i) size [] h = refl
 take-drop-take (suc n) (suc i) size (x ∷ b) h = take-drop-take n i size b (omega arith)
+
+-- two lists that agree on their first n items agree on what lies within them
+pub part-agrees : (a b : List ℕ) (n : ℕ) → take n a ≡ take n b → (i size : ℕ) → i + size ≤ n → take size (drop i b) ≡ take size (drop i a)
+part-agrees a b n agree i size h = sym (take-drop-take n i size b h) ∙ ap (λ (l : List ℕ). take size (drop i l)) (sym agree) ∙ take-drop-take n i size a h
 
 pub field-part : (b : List ℕ) (at n i size : ℕ) → i + size ≤ n → field (take n (drop at b)) i size ≡ field b (at + i) size
 field-part b at n i size h = ap number (take-drop-take n i size (drop at b) h ∙ ap (take size) (drop-drop i at b))
@@ -178,6 +207,16 @@ join-parts zero size (x ∷ b) h = let z : ⊥ = omega arith in absurd z
 join-parts (suc n) size b h =
     ap (λ (l : List ℕ). take size b ++ l) (join-parts n size (drop size b) (omega (arith, length-drop size b))) ∙ take-append-drop size b
 
+-- parts that are written as they were read
+pub parts-written : (f : List ℕ → List ℕ) (n size : ℕ) (b : List ℕ) → ((p : List ℕ) → length p ≡ size → T (isBytes p) → f p ≡ p)
+    → T (isBytes b) → n * size ≤ length b → join (map f (parts n size b)) ≡ take (n * size) b
+parts-written f zero size b same t h = ap (λ (k : ℕ). take k b) {x = 0} {y = 0 * size} (omega arith)
+parts-written f (suc n) size b same t h =
+    ap₂ _++_
+    (same (take size b) (length-take-le size b (omega arith)) (isBytes-take size b t))
+    (parts-written f n size (drop size b) same (isBytes-drop size b t) (omega (arith, length-drop size b)))
+    ∙ sym (take-add size (n * size) b) ∙ ap (λ (k : ℕ). take k b) {x = size + n * size} {y = suc n * size} (omega arith)
+
 pub length-join : (size : ℕ) (l : List (List ℕ)) → ((b : List ℕ) → b ∈ l → length b ≡ size) → length (join l) ≡ length l * size
 length-join size [] h = omega arith
 length-join size (b ∷ l) h =
@@ -226,3 +265,7 @@ integer-word z h = (range z h, integer-toZ (word z) (range z h) ∙ ap (toZ w32)
     range : (z : ℤ) → mag z < 2147483648 → word z < 4294967296
     range (pos n) h = omega arith
     range (negsuc n) h = omega arith
+
+-- and bits from their integer
+pub word-integer : (n : ℕ) → n < 4294967296 → word (integer n) ≡ n
+word-integer n h = ap word (integer-toZ n h) ∙ word-ofZ (toZ w32 n) ∙ ofZ-toZ {w = w32} (record { fits = h })

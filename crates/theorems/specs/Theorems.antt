@@ -1,51 +1,52 @@
 -- The laws of the definitions, each as one statement. Their proofs stand in the crates of laws below.
-use mathlib.Core.Path.{_≡_, refl, sym, _∙_, ap, subst}
+use mathlib.Core.Path.{_≡_, refl, sym, _∙_, ap, ap₂, subst}
 use mathlib.Core.Logic.{_↔_, _⊎_, inl, inr, ⊎-elim}
-use mathlib.Core.Bool.{true}
+use mathlib.Core.Bool.{true, not}
 use mathlib.Core.Option.{some}
 use mathlib.Core.List.{List, [], _++_, map}
 use Prim.Native.Nat.{ℕ, _+_, _≤_, _<_, max}
 use native.Mathlib.Omega.{arith}
 use lib.ListN.{length, take, drop, getD}
-use lib.Dec.{T}
+use lib.Dec.{T, ltb→lt, not-T}
 use lib.IntN.{ℤ, pos}
 use Rattle.model.specs.Lists.{_∈_, greatest}
 use Rattle.model.specs.Bytes.{join}
-use Rattle.model.specs.Layout.{imageSize, sequencesRoom, textRoom}
-use Rattle.model.specs.Message.{Message}
-use Rattle.model.specs.Order.{State, Ascending, find, sequencesOf, needs, MeetsRing, ownBlock, effectiveBlock, keyOf, less, Executable, Grounded, IsLog, logOf, heldOf}
-use Rattle.model.specs.Setpoints.{startValues, setpointsOf}
-use Rattle.model.specs.Image.{imageOf, Valid, IsImage, stateIn, valuesIn, logCount, messagesStartIn, logIn, messagesIn, heldIn, walk, messageOffset, usedCount, isImage}
+use Rattle.model.specs.Layout.{imageSize, stepRoom, sequencesRoom, textRoom}
+use Rattle.model.specs.Message.{Message, sequenceOf, blockOf, needsOf, passes}
+use Rattle.model.specs.Order.{Origin, State, holding, stateOf, purged, Ascending, find, sequencesOf, needs, Reaches, MeetsRing, ownBlock, effectiveBlock, keyOf, less, Executable, Grounded, IsLog, logOf, heldOf}
+use Rattle.model.specs.Setpoints.{startValues, runLog, setpointsOf}
+use Rattle.model.specs.Image.{imageOf, Valid, IsImage, originIn, stateIn, valuesIn, logCount, messagesStartIn, logIn, messagesIn, heldIn, walk, messageOffset, usedCount, isImage}
 use Rattle.model.specs.Steps.{Step, common, undosOf, executionsOf, stepsOf, recordsBetween, recordsBytes, readRecords, Plays, Standing, PlaysPairs}
-use Rattle.model.specs.Codes.{Conditions, lowestCode, deliverConditions, composeConditions, emptyConditions, logMessageConditions, setpointConditions, readSequencesConditions, writeSequencesConditions}
+use Rattle.model.specs.Codes.{Conditions, lowestCode, smallSteps, deliverConditions, composeConditions, emptyConditions, logMessageConditions, setpointConditions, readSequencesConditions, writeSequencesConditions}
 use Rattle.model.specs.Calls.{empty, Delivered, deliver, compose, logMessageCode, logMessage, setpoint, messageAt, convertedAnswer, front, readSequences, writeSequences}
 use Rattle.model.specs.PlainStation.{receive}
 use Rattle.model_runs.specs.Run.{delivery, Agreement, Begins, Answers}
-use Rattle.model_runs.specs.RunOrder.{OrderKept}
+use Rattle.model_runs.specs.RunOrder.{InOrder, OrderKept}
 use Rattle.laws_order.specs.KeyOrder.{Total}
 use Rattle.laws_order.specs.TestLaws.{Same}
 use Rattle.laws_order.specs.CommonLaws.{common-start, common-longest}
 use Rattle.laws_order.specs.StepLaws.{steps-play, steps-counted, steps-fewest}
-use Rattle.laws_state.specs.OriginLaws.{one-origin}
-use Rattle.laws_state.specs.LogLaws.{key-order, keys-differ, log-is, log-only, log-of-set, log-executable, log-grounded, held-is, held-ascends, ring-held}
+use Rattle.laws_state.specs.SetLaws.{ascending-unique}
+use Rattle.laws_state.specs.LogLaws.{key-order, keys-differ, log-held, log-is, log-only, log-of-set, log-executable, log-grounded, held-is, held-ascends, ring-held}
 use Rattle.laws_state.specs.EffectiveLaws.{effective-is, effective-only}
+use Rattle.laws_state.specs.FloorLaws.{needs-above, reached-above, block-least, first-needs, first-block}
 use Rattle.laws_wire.specs.RecordLaws.{records-steps}
-use Rattle.laws_state.specs.ImageLaws.{image-size, state-back, log-back, held-back, image-declared, image-state}
+use Rattle.laws_state.specs.ImageLaws.{image-size, state-back, origin-back, messages-back, log-back, held-back, image-declared, image-state, image-own, own-valid}
 use Rattle.laws_state.specs.OffsetLaws.{offset-join, walk-offset, message-at-offset, message-placed, log-count, log-offset, message-here, log-full, offset-used}
-use Rattle.laws_state.specs.ValueLaws.{values-back}
+use Rattle.laws_state.specs.ImageValueLaws.{values-back}
 use Rattle.laws_state.specs.RecordRange.{records-back}
 use Rattle.laws_state.specs.PairLaws.{standingIn, state-pairs-play, pairs-unique}
 use Rattle.laws_state.specs.CodeLaws.{Above, Lowest, lowest-is, empty-code, deliver-code, compose-code, setpoint-code, deliver-refused, empty-refused, compose-refused, log-message-refused, setpoint-refused}
-use Rattle.laws_state.specs.DeliverLaws.{receive-valid}
+use Rattle.laws_state.specs.DeliverLaws.{code-zero, receive-accepted, take-in-purged, receive-valid, purged-accepted, purged-delivery}
 use Rattle.laws_run.specs.RunLaws.{CallFacts, call-facts, agreement}
-use Rattle.laws_run.specs.OrderRuns.{order-kept}
+use Rattle.laws_run.specs.OrderRuns.{image-in-order, order-kept}
 use Rattle.laws_text.specs.AnswerLaws.{read-code, read-refused, write-code, write-refused}
 use Rattle.laws_text.specs.RoundTrips as trips
 use Rattle.laws_compose.specs.ComposePromise.{ComposePromise, promise-of}
 
 -- 1. The computed log is the declared one and the only one. A received delta is in it exactly if it is executable, and so
--- exactly if all it needs, step by step back, was received and contains no ring; held are the others, by ascending sequence, and so
--- whatever meets a ring.
+-- exactly if all it needs above the floors, step by step back, was received and contains no ring; held are the others, by ascending
+-- sequence, and so whatever meets a ring.
 pub record LogLaw (S : State) : Type 0 where
   pub is-log : IsLog S (logOf S)
   pub only : (l : List Message) → IsLog S l → l ≡ logOf S
@@ -66,9 +67,28 @@ log-law S v = record {
   ring = ring-held S (v .ascends);
 }
 
--- It depends on the set alone.
-pub log-of-same : (S R : State) → Valid S → Valid R → Same (S .deltas) (R .deltas) → logOf S ≡ logOf R
-log-of-same S R p q f = log-of-set S R (one-origin (S .origin) (R .origin)) (p .ascends) (q .ascends) f
+-- It depends on the set, and on what it starts from, alone.
+pub log-of-same : (S R : State) → Valid S → Valid R → S .origin ≡ R .origin → Same (S .deltas) (R .deltas) → logOf S ≡ logOf R
+log-of-same S R p q e f = log-of-set S R e (p .ascends) (q .ascends) f
+
+-- And so is the image: "Equal images are promised to stations whose floors, base values, purged block and group agree and whose remaining
+-- deltas are the same."
+pub image-of-same : (S R : State) → Valid S → Valid R → S .origin ≡ R .origin → Same (S .deltas) (R .deltas) → imageOf S ≡ imageOf R
+image-of-same S R p q e f = ap₂ (λ (O : Origin) (l : List Message). imageOf (holding O l)) e (ascending-unique (S .deltas) (R .deltas) (p .ascends) (q .ascends) f)
+
+-- The floors: "A need at or below its floor counts as placed", so that no delta waits for it or reaches it, step by step back; "no
+-- effective block counts below the greatest purged one".
+pub record FloorLaw (S : State) : Type 0 where
+  pub waits : (m : Message) (s : ℕ) → (s ∈ needs S m) ↔ ((s ∈ needsOf m) × ¬ T (purged S s))
+  pub reaches : (m : Message) (s : ℕ) → Reaches S m s → ¬ T (purged S s)
+  pub block : (m : Message) → m ∈ S .deltas → Executable S m → S .origin .block ≤ effectiveBlock S m
+
+pub floor-law : (S : State) → Valid S → FloorLaw S
+floor-law S v = record { waits = needs-above S; reaches = λ m s r. reached-above S r; block = block-least S v }
+
+-- Before any purge a delta waits for all that it needs, and its own block is its message's.
+pub first-law : (l : List Message) (m : Message) → (needs (stateOf l) m ≡ needsOf m) × (ownBlock (stateOf l) m ≡ blockOf m)
+first-law l m = (first-needs l m, first-block l m)
 
 -- 2. The key is a strict total order on every set, and the effective block is the one solution of the paper's equation.
 pub record KeyLaw (S : State) : Type 0 where
@@ -94,7 +114,7 @@ pub record StepLaw (old new : List ℕ) : Type 0 where
 pub step-law : (old new : List ℕ) → StepLaw old new
 step-law old new = record { start = common-start old new; longest = common-longest old new; plays = steps-play old new; counted = steps-counted old new; fewest = steps-fewest old new }
 
--- The records of these steps, with their pairs: they have these steps, are read back from their bytes, and can be played from the
+-- The records of these steps between states of one origin, with their pairs: they have these steps, are read back from their bytes, and can be played from the
 -- setpoints of the old log, where its executions stand on any of the past, to those of the new one, where its own do; to no other values.
 pub record PairLaw (S next : State) : Type 0 where
   pub steps : map (λ r. r .step) (recordsBetween S next) ≡ stepsOf (sequencesOf (logOf S)) (sequencesOf (logOf next))
@@ -102,8 +122,8 @@ pub record PairLaw (S next : State) : Type 0 where
   pub plays : (past : List Standing) → PlaysPairs (standingIn past S) (setpointsOf S) (recordsBetween S next) (standingIn past next) (setpointsOf next)
   pub only : (before after : List Standing) (values : List ℤ) → PlaysPairs before (setpointsOf S) (recordsBetween S next) after values → values ≡ setpointsOf next
 
-pub pair-law : (S next : State) → Valid S → Valid next → ((m : Message) → m ∈ S .deltas → m ∈ next .deltas) → PairLaw S next
-pair-law S next v w all = record {
+pub pair-law : (S next : State) → Valid S → Valid next → S .origin ≡ next .origin → ((m : Message) → m ∈ S .deltas → m ∈ next .deltas) → PairLaw S next
+pair-law S next v w e all = record {
   steps = records-steps (startValues S) (logOf S) (logOf next);
   read = records-back S next v w;
   plays = plays;
@@ -111,18 +131,54 @@ pair-law S next v w all = record {
 }
   where
     plays : (past : List Standing) → PlaysPairs (standingIn past S) (setpointsOf S) (recordsBetween S next) (standingIn past next) (setpointsOf next)
-    plays past = state-pairs-play past S next (v .ascends) (w .ascends) all
+    plays past = state-pairs-play past S next e (v .ascends) (w .ascends) all
 
--- 4. The image of a valid state has 16,384 bytes and reads back to that state, its log, its held deltas and its setpoints.
+-- 4. The image of a valid state has 16,384 bytes and reads back to that state, its origin, its log, its held deltas and its setpoints.
 pub record ImageLaw (S : State) : Type 0 where
   pub size : length (imageOf S) ≡ imageSize
   pub state : stateIn (imageOf S) ≡ S
+  pub origin : originIn (imageOf S) ≡ S .origin
   pub log : logIn (imageOf S) ≡ logOf S
   pub held : heldIn (imageOf S) ≡ heldOf S
   pub setpoints : valuesIn (imageOf S) ≡ setpointsOf S
+  -- "base values, from which the rest is run"
+  pub run : valuesIn (imageOf S) ≡ runLog (logIn (imageOf S)) (originIn (imageOf S) .base)
+
+run-is : (S : State) → setpointsOf S ≡ runLog (logOf S) (S .origin .base)
+unfolding setpointsOf startValues
+run-is S = refl
 
 pub image-law : (S : State) → Valid S → ImageLaw S
-image-law S v = record { size = image-size S v; state = state-back S v; log = log-back S v; held = held-back S v; setpoints = values-back S v }
+image-law S v = record {
+  size = image-size S v;
+  state = state-back S v;
+  origin = origin-back S v;
+  log = log-back S v;
+  held = held-back S v;
+  setpoints = values-back S v;
+  run = values-back S v ∙ run-is S ∙ sym (ap₂ runLog (log-back S v) (ap (λ (O : Origin). O .base) (origin-back S v)));
+}
+
+-- Whatever image a station has, with floors or without: its messages are the state's deltas, and it is in order.
+own-messages : (b : List ℕ) → T (isImage b) → Same (stateIn b .deltas) (messagesIn b)
+own-messages b i =
+    let S : State = stateIn b in
+    subst (Same (S .deltas)) (sym (ap messagesIn (image-own b i) ∙ messages-back S (own-valid b i)))
+    (λ m. let h = log-held S (own-valid b i .ascends) m in (h .1, h .0))
+
+pub image-order : (b : List ℕ) → T (isImage b) → InOrder (messagesIn b) (stateIn b) b
+image-order b i =
+    subst (InOrder (messagesIn b) (stateIn b)) (sym (image-own b i)) (image-in-order (stateIn b) (own-valid b i) (messagesIn b) (own-messages b i))
+
+-- Two images with one origin and the same messages are one.
+pub image-of-one-origin : (b c : List ℕ) → T (isImage b) → T (isImage c) → originIn b ≡ originIn c → Same (messagesIn b) (messagesIn c) → b ≡ c
+image-of-one-origin b c i j e f =
+    image-own b i
+    ∙ image-of-same (stateIn b) (stateIn c) (own-valid b i) (own-valid c j) e (λ m. (
+      λ k. own-messages c j m .1 (f m .0 (own-messages b i m .0 k)),
+      λ k. own-messages b i m .1 (f m .1 (own-messages c j m .0 k)),
+    ))
+    ∙ sym (image-own c j)
 
 -- A buffer passes code 2 by computing exactly if it is declared an image, and it is the image of one state.
 pub image-test : (b : List ℕ) → T (isImage b) ↔ IsImage b
@@ -138,6 +194,20 @@ deliver-law S v m steps = call-facts S v (delivery m steps) (deliver (imageOf S)
 
 pub station-law : (S : State) → Valid S → (m : Message) (room : ℕ) → Valid (receive S m room)
 station-law = receive-valid
+
+-- "A delivery at or below a floor answers 0 with no step, and its message joins no set": every byte stays, and so does the state.
+pub record PurgedLaw (S : State) (m : Message) (steps : List ℕ) : Type 0 where
+  pub answer : deliver (imageOf S) m steps ≡ record { code = 0; undos = 0; executions = 0; image = imageOf S; steps = steps }
+  pub state : receive S m (length steps) ≡ S
+
+pub purged-law : (S : State) → Valid S → (m : Message) (steps : List ℕ) → stepRoom ≤ length steps → T (passes m) → T (purged S (sequenceOf m)) → PurgedLaw S m steps
+purged-law S v m steps room pass low = record {
+  answer = purged-delivery S v m steps large pass low;
+  state = receive-accepted S m (length steps) (code-zero S m (length steps) .1 (purged-accepted S m (length steps) large pass low)) ∙ take-in-purged m S low;
+}
+  where
+    large : T (not (smallSteps (length steps)))
+    large = not-T (smallSteps (length steps)) (λ t. let few : length steps < stepRoom = ltb→lt (length steps) stepRoom t in let z : ⊥ = omega arith in z)
 
 -- 6. What compose hands out: what the message carries, what it leaves in the buffer, and how it is delivered.
 pub compose-law : (b line commands : List ℕ) (flag priority : ℕ) (buffer : List ℕ) → compose b line commands flag priority buffer .code ≡ 0

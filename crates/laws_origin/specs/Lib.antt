@@ -1,0 +1,3 @@
+pub mod TopLaws
+pub mod OriginLaws
+pub mod SectionLaws
