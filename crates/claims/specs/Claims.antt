@@ -1,22 +1,22 @@
 -- What is promised of the calls, each promise at its full type under the words of the three demands and of documents 01 and 02: of those for C as the host sees
--- them, over what they were proved to leave behind; reader and texts of the library's own calls; offsets of the definitions.
+-- them, over what they were proved to leave behind; reader and texts of the library's own calls; images, floors and offsets of the definitions.
 -- A buffer is a list of bytes; `×` is and, `⊎` or, `¬` not, `↔` exactly if, `∈` that a list has it.
-use mathlib.Core.Path.{_≡_}
+use mathlib.Core.Path.{_≡_, sym, _∙_, ap, subst}
 use mathlib.Core.Logic.{_↔_, _⊎_}
-use mathlib.Core.Bool.{true}
+use mathlib.Core.Bool.{true, not}
 use mathlib.Core.Option.{some}
 use mathlib.Core.List.{List, [], _∷_, _++_}
-use Prim.Native.Nat.{ℕ, suc, _+_, _-_, _≤_, _<_, min}
+use Prim.Native.Nat.{ℕ, suc, _+_, _-_, _≤_, _<_, min, max}
 use lib.ListN.{length, take, drop, getD, replicate}
 use lib.Dec.{T}
 use lib.IntN.{ℤ, pos}
 use Rattle.model.specs.Lists.{_∈_, greatest, sum, ascending}
 use Rattle.model.specs.Bytes.{number, field}
 use Rattle.model.specs.Layout.{capacity, stepRoom, priorityFlagAt, sequencesRoom, textRoom}
-use Rattle.model.specs.Message.{Message, dependencyCount, commandsStart, sequenceOf, groupOf, blockOf, priorityOf, dependenciesOf, lineOf, numberOf, predecessorOf, passes}
-use Rattle.model.specs.Order.{Ascending, sequencesOf, effectiveBlock, MeetsRing, Executable, Grounded, IsLog, logOf}
-use Rattle.model.specs.Setpoints.{startValues}
-use Rattle.model.specs.Image.{imageOf, valuesIn, logIn, heldIn, stateIn, isImage, messagesIn, messagesStartIn, offsetOf, walk, messageOffset, usedCount}
+use Rattle.model.specs.Message.{Message, dependencyCount, commandsStart, sequenceOf, groupOf, blockOf, priorityOf, dependenciesOf, needsOf, lineOf, numberOf, predecessorOf, passes}
+use Rattle.model.specs.Order.{State, Ascending, purged, needs, sequencesOf, effectiveBlock, MeetsRing, Executable, Grounded, IsLog, logOf}
+use Rattle.model.specs.Setpoints.{startValues, runLog}
+use Rattle.model.specs.Image.{Valid, imageOf, originIn, valuesIn, logIn, heldIn, stateIn, isImage, messagesIn, messagesStartIn, offsetOf, walk, messageOffset, usedCount}
 use Rattle.model.specs.Steps.{Step, undosOf, executionsOf, recordsOf, Plays, Standing, execute, readSteps}
 use Rattle.model.specs.Compose.{numberOn, lastSequence}
 use Rattle.model.specs.Codes.{Conditions, lowestCode, emptyConditions, deliverConditions, composeConditions, readConditions, logMessageConditions, setpointConditions, readSequencesConditions, writeSequencesConditions}
@@ -26,7 +26,8 @@ use Rattle.model_runs.specs.RunOrder.{receivedIn}
 use Rattle.laws_run.specs.CalledRuns.{Began, Answered}
 use Rattle.laws_compose.specs.ComposeLaws.{messageBy}
 use Rattle.laws_compose.specs.ComposedFields.{NeededByNone}
-use Rattle.theorems.specs.Theorems.{CodeLaw, offset-law}
+use Rattle.laws_state.specs.ImageLaws.{image-own, own-valid}
+use Rattle.theorems.specs.Theorems.{CodeLaw, floor-law, purged-law, image-law, image-order, image-of-one-origin, offset-law}
 use Rattle.theorems_refusals.specs.Refusals.{empty-codes, deliver-codes, compose-codes, log-message-codes, setpoint-codes, read-sequences-codes, write-sequences-codes}
 use Rattle.theorems_texts.specs.Texts.{ReadFrom, WrittenFrom, written-read, read-written}
 use Rattle.read_log.specs.declared.reader.LogReader.{LogReader}
@@ -112,17 +113,45 @@ pub equal-images : (given other : Given) (b c : List ℕ) → Began HostEmptied 
     → ((m : Message) → (m ∈ acceptedIn calls) ↔ (m ∈ acceptedIn others)) → imageAfter b calls ≡ imageAfter c others
 equal-images given other b c p q calls others run run′ same = host-agreement .equal given other b c p q calls others run run′ (record { accepted = same })
 
--- ---- COMPOSE, as the host sees it: `bivamolune_compose` answered 0. Number, dependencies, group, block, and what was handed over; length and rest; delivery.
+-- ---- FLOORS, as the host sees them: "A delivery at or below a floor answers 0 with no step, and its message joins no set; 7 and 8 are not looked for there." Every byte stays.
+pub floor-delivered : (b : List ℕ) → T (isImage b) → (m : Message) (steps : List ℕ) → stepRoom ≤ length steps → T (passes m) → T (purged (stateIn b) (sequenceOf m))
+    → (a : Delivered) → HostDelivered b m steps a → a ≡ record { code = 0; undos = 0; executions = 0; image = b; steps = steps }
+floor-delivered b i m steps room pass low a h =
+    let answer : List ℕ → Delivered = λ image. record { code = 0; undos = 0; executions = 0; image = image; steps = steps } in
+    host-delivered-as b m steps a h ∙ ap (λ (x : List ℕ). deliver x m steps) (image-own b i)
+    ∙ purged-law (stateIn b) (own-valid b i) m steps room pass low .answer ∙ ap answer (sym (image-own b i))
+
+-- "Equal images are promised to stations whose floors, base values, purged block and group agree and whose remaining deltas are the same."
+pub equal-stations : (b c : List ℕ) → T (isImage b) → T (isImage c) → originIn b ≡ originIn c → ((m : Message) → (m ∈ messagesIn b) ↔ (m ∈ messagesIn c)) → b ≡ c
+equal-stations = image-of-one-origin
+
+-- Every image, with floors or without: its log is the first listing, of what is executable above the floors; the others are held; the log is run from "the base values, from which the rest is run".
+pub image-ordered : (b : List ℕ) → T (isImage b) → let S = stateIn b in let log = logIn b in IsLog S log
+    × ((m : Message) → m ∈ messagesIn b → ((m ∈ log) ↔ Executable S m) × ((m ∈ log) ↔ Grounded S m)) × ((m : Message) → (m ∈ heldIn b) ↔ ((m ∈ messagesIn b) × ¬ Executable S m)) × (valuesIn b ≡ runLog log (originIn b .base))
+image-ordered b i = let o = image-order b i in (
+  o .first,
+  (λ m k. (o .executed m k, o .grounded m k)),
+  o .held,
+  subst (λ (x : List ℕ). valuesIn x ≡ runLog (logIn x) (originIn x .base)) (sym (image-own b i)) (image-law (stateIn b) (own-valid b i) .run),
+)
+
+-- And of the definitions: "A need at or below its floor counts as placed, and no effective block counts below the greatest purged one."
+pub floors : (S : State) → Valid S → ((m : Message) (s : ℕ) → (s ∈ needs S m) ↔ ((s ∈ needsOf m) × ¬ T (purged S s))) × ((m : Message) → m ∈ S .deltas → Executable S m → S .origin .block ≤ effectiveBlock S m)
+floors S v = (floor-law S v .waits, floor-law S v .block)
+
+-- ---- COMPOSE, as the host sees it: `bivamolune_compose` answered 0. Number, dependencies, group, block, and what was handed over; length and rest; delivery. Floors, purged group and
+-- purged block count too; they are none and 0 before any purge.
 module _ (b line commands : List ℕ) (flag priority : ℕ) (buffer : List ℕ) (a : Composed) (call : HostComposed b line commands flag priority buffer a) (answered : a .code ≡ 0) where
   pub composed-carries : let m = messageBy a in let S = stateIn b in let log = logOf S in
-      (lineOf (sequenceOf m) ≡ number line) × (numberOf (sequenceOf m) ≡ suc (greatest (λ x. numberOn (number line) (sequenceOf x)) log))
+      (lineOf (sequenceOf m) ≡ number line) × T (not (purged S (sequenceOf m)))
+      × (numberOf (sequenceOf m) ≡ suc (max (greatest (numberOn (number line)) (S .origin .floors)) (greatest (λ x. numberOn (number line) (sequenceOf x)) log)))
       × ((d : ℕ) → (d ∈ dependenciesOf m) ↔ (NeededByNone S d × ¬ (d ∈ predecessorOf (sequenceOf m)))) × T (ascending (dependenciesOf m))
-      × (log ≡ [] → groupOf m ≡ 1) × (¬ (log ≡ []) → sequenceOf m < lastSequence log → groupOf m ≡ suc (greatest groupOf log))
-      × (¬ (log ≡ []) → ¬ (sequenceOf m < lastSequence log) → groupOf m ≡ greatest groupOf log)
-      × (flag ≡ 1 → blockOf m ≡ suc (greatest (effectiveBlock S) log)) × (flag ≡ 0 → blockOf m ≡ 0)
+      × (log ≡ [] → groupOf m ≡ suc (S .origin .group)) × (¬ (log ≡ []) → sequenceOf m < lastSequence log → groupOf m ≡ suc (max (S .origin .group) (greatest groupOf log)))
+      × (¬ (log ≡ []) → ¬ (sequenceOf m < lastSequence log) → groupOf m ≡ max (S .origin .group) (greatest groupOf log))
+      × (flag ≡ 1 → blockOf m ≡ suc (max (S .origin .block) (greatest (effectiveBlock S) log))) × (flag ≡ 0 → blockOf m ≡ 0)
       × (field m priorityFlagAt 1 ≡ flag) × (priorityOf m ≡ priority) × (drop (commandsStart (dependencyCount m)) m ≡ commands)
   composed-carries = let k = host-composed-keeps b line commands flag priority buffer a call answered .carries in
-      (k .on-line, k .next-number, k .dependencies, k .dependencies-ascend, k .group-first, k .group-raised, k .group-kept, k .block, k .no-block, k .flag-carried, k .priority-carried, k .commands-carried)
+      (k .on-line, k .above-floor, k .next-number, k .dependencies, k .dependencies-ascend, k .group-first, k .group-raised, k .group-kept, k .block, k .no-block, k .flag-carried, k .priority-carried, k .commands-carried)
 
   pub composed-written : (a .size ≡ length (messageBy a)) × (drop (a .size) (a .message) ≡ drop (a .size) buffer) × T (passes (messageBy a))
   composed-written = let k = host-composed-keeps b line commands flag priority buffer a call answered in (k .size, k .rest, k .passes-all)

@@ -12,7 +12,7 @@ use Rattle.model.specs.Setpoints.{startValues}
 use Rattle.model.specs.Image.{usedOf}
 use Rattle.model.specs.Steps.{undosOf, executionsOf, recordsOf, recordsBytes}
 use Rattle.model.specs.Calls.{written}
-use Rattle.laws_state.specs.OriginLaws.{start-same}
+use Rattle.laws_origin.specs.OriginLaws.{start-same}
 use Rattle.laws_state.specs.UsedLaws.{over-smaller}
 use Rattle.set_table.specs.Table.{messageFrom, deltasOf, deltasAt, setIn}
 use Rattle.image_sections.specs.LogPlaces.{ImageInput}

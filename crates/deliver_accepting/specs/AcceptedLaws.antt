@@ -11,9 +11,9 @@ use Rattle.model.specs.Message.{Message, sequenceOf}
 use Rattle.model.specs.Order.{State, add}
 use Rattle.model.specs.Image.{usedOf, originIn, stateIn}
 use Rattle.model.specs.Calls.{Delivered, acceptedAnswer}
+use Rattle.laws_origin.specs.OriginLaws.{origin-front}
 use Rattle.laws_state.specs.LogLaws.{log-length}
 use Rattle.laws_state.specs.ImageLaws.{image-own, own-valid}
-use Rattle.laws_state.specs.OriginLaws.{origin-front}
 use Rattle.laws_state.specs.UsedLaws.{used-grows}
 use Rattle.laws_wire.specs.MessageLaws.{passes-sized, sized-range}
 use Rattle.set_table.specs.Table.{startsOf, messageFrom, deltasOf, setIn, Holds, insertAt}
@@ -69,7 +69,7 @@ module _ (b : List ℕ) (m : Message) (room : ℕ) (before : List ℕ) (station 
         ∙ ap₂ _++_ (h .pooled) (take-length m)
 
     origins : originIn pool ≡ originIn b
-    origins = origin-front b pool (h .size) (h .judged .image) (pool-front pool b m both)
+    origins = origin-front b pool (h .judged .table .holds .right) (pool-front pool b m both)
 
     starts-few : length starts < capacity
     starts-few = omega (arith, h .few, used)
@@ -78,7 +78,7 @@ module _ (b : List ℕ) (m : Message) (room : ℕ) (before : List ℕ) (station 
     next-starts = inserted ∙ ap (λ (n : ℕ). insertAt p n starts) (sym (h .size))
 
     holds-next : Holds pool next
-    holds-next = subst (λ (s : List ℕ). Holds pool s) (sym next-starts) (new-holds pool b m both starts (h .judged .table .holds) (h .right) p (h .absent) starts-few origins)
+    holds-next = subst (λ (s : List ℕ). Holds pool s) (sym next-starts) (new-holds pool b m both starts (h .judged .table .holds) (h .right) p (h .absent) starts-few origins (h .above))
 
     set-next : setIn pool next ≡ add m (setIn b starts)
     set-next = ap (setIn pool) next-starts ∙ new-set pool b m both starts (h .judged .table .holds) (h .right) p (h .absent) starts-few origins

@@ -1,13 +1,14 @@
 -- What is needed to take a new message in, and what comes of it.
 use mathlib.Core.Path.{_≡_}
+use mathlib.Core.Bool.{not}
 use mathlib.Core.List.{List, []}
 use Prim.Native.Nat.{ℕ, _+_, _≤_, _<_}
 use lib.ListN.{length, take}
 use lib.Dec.{T}
 use Rattle.model.specs.Layout.{imageSize, messageRoom, stepRoom, capacity}
 use Rattle.model.specs.Message.{Message, sequenceOf, passes}
-use Rattle.model.specs.Order.{State}
-use Rattle.model.specs.Image.{usedOf, imageOf, originIn}
+use Rattle.model.specs.Order.{State, purged}
+use Rattle.model.specs.Image.{usedOf, imageOf, originIn, stateIn}
 use Rattle.model.specs.Setpoints.{startValues}
 use Rattle.model.specs.Steps.{recordsOf, recordsBytes}
 use Rattle.model.specs.Calls.{Delivered, written, acceptedAnswer}
@@ -48,13 +49,15 @@ pub record Updatable (image : List ℕ) (room : ℕ) (pool starts : List ℕ) (b
 pub record Updates (steps pool starts : List ℕ) (begun : LogOrder) (d : Delivered) : Type 0 where
   pub answer : (S : State) → S .origin ≡ originIn pool → IsLogOf pool starts (oldOf begun) S → d ≡ acceptedAnswer S (setIn pool starts) steps
 
--- A message that passes 3 to 6 and whose sequence is new, a station with room for it, and a pool that begins with its image.
+-- A message that passes 3 to 6 and whose sequence is new and above its floor, a station with room for it, and a pool that begins with its
+-- image.
 pub record Acceptable (b : List ℕ) (m : Message) (room : ℕ) (pool : List ℕ) (station : Station) (p : ℕ) : Type 0 where
   pub size : length b ≡ imageSize
   pub steps-room : stepRoom ≤ room
   pub judged : IsStation b station
   pub few : station .table .count < capacity
   pub right : T (passes m)
+  pub above : T (not (purged (stateIn b) (sequenceOf m)))
   pub absent : IsAbsent b (startsOf (station .table)) (sequenceOf m) p
   pub pool-size : length pool ≡ imageSize + messageRoom
   pub pooled : take imageSize pool ≡ b

@@ -1,5 +1,6 @@
 -- The pool of a delivery begins with the image and the delivered message behind it.
 use mathlib.Core.Path.{_≡_, refl, sym, _∙_, ap, ap₂, subst}
+use mathlib.Core.Bool.{not}
 use mathlib.Core.List.{List, [], _++_, append-cancel-left}
 use Prim.Native.Nat.{ℕ, _+_, _<_}
 use native.Mathlib.Omega.{arith}
@@ -8,7 +9,8 @@ use lib.Seq.{take-take, take-add, take-at}
 use lib.Dec.{T}
 use Rattle.model.specs.Layout.{capacity}
 use Rattle.model.specs.Message.{Message, sequenceOf, passes}
-use Rattle.model.specs.Order.{holding, add, insert}
+use Rattle.model.specs.Tops.{covered}
+use Rattle.model.specs.Order.{Origin, holding, purged, add, insert}
 use Rattle.model.specs.Image.{originIn}
 use Rattle.set_table.specs.Table.{messageFrom, deltasOf, setIn, Holds, insertAt}
 use Rattle.set_table.specs.Places.{IsAbsent}
@@ -39,8 +41,11 @@ module _ (pool b : List ℕ) (m : Message) (both : take (length b + length m) po
       after = λ k h q. subst (λ (l : List Message). sequenceOf m < sequenceOf (getD l k [])) (sym old-deltas) (absent .after k h q);
     })
 
-    pub new-holds : originIn pool ≡ originIn b → Holds pool (insertAt p (length b) starts)
-    new-holds origins = insert-holds pool (length b) p starts (holds-front b pool pool-front starts holds origins) absent-too (subst (λ (x : Message). T (passes x)) (sym new-message) right) few
+    pub new-holds : originIn pool ≡ originIn b → T (not (purged (setIn b starts) (sequenceOf m))) → Holds pool (insertAt p (length b) starts)
+    new-holds origins high =
+        insert-holds pool (length b) p starts (holds-front b pool pool-front starts holds origins) absent-too (subst (λ (x : Message). T (passes x)) (sym new-message) right)
+        (subst (λ (x : Message). T (not (purged (setIn pool starts) (sequenceOf x)))) (sym new-message)
+        (subst (λ (O : Origin). T (not (covered (O .floors) (sequenceOf m)))) (sym origins) high)) few
 
     pub new-set : originIn pool ≡ originIn b → setIn pool (insertAt p (length b) starts) ≡ add m (setIn b starts)
     new-set origins = ap₂ holding origins (insert-deltas pool (length b) p starts absent-too ∙ ap₂ insert new-message old-deltas)

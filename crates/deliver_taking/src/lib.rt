@@ -1,23 +1,20 @@
-// A message that passes 3 to 6 at a judged station: codes 7 and 8, or taken in; and what deliver answers.
+// A message that passes 3 to 6 at a judged station: codes 7 and 8, or taken in, or passed over at a floor; and what deliver answers.
+pub mod above;
 pub mod answer;
 
+use crate::above::take_above;
 use crate::answer::Delivery;
-use deliver_accepting::accept;
-use deliver_checks::check_repeat;
-use deliver_checks::check_room;
 use image_listed::Station;
 use layout::SEQUENCE_AT;
-use message_header::checks::Check;
 use message_sequence::read_sequence;
-use set_table::places::Place;
-use set_table::places::find;
+use set_floors::is_purged;
 ghost use mathlib.Core.Path.{_≡_};
 ghost use lib.ListN.{length};
 ghost use Rattle.model.specs.Calls as model;
 ghost use Rattle.deliver_taking.specs.Answer.{deliveredBy};
 ghost use Rattle.deliver_taking.specs.Taking.{Takeable};
 
-// Codes 7 and 8, of a message that passes 3 to 6. One that is present with equal bytes is accepted with no step; any other is taken in.
+// A message that passes 3 to 6. At or below its floor it is accepted with no step and changes nothing, and 7 and 8 are not looked for.
 pub fn take_in(
     image: &mut [u8],
     message: &[u8],
@@ -28,28 +25,12 @@ pub fn take_in(
     requires { ⌜ Takeable (now image) (now message) (length (now steps)) (now pool) station ⌝ }
     ensures { λ r. ⌜ deliveredBy r (now (image .exit)) (now (steps .exit)) ≡ model.deliver (now (image .entry)) (now (message .entry)) (now (steps .entry)) ⌝ }
 {
-    let table = station.table;
-    let starts = table.starts;
-    let count = table.count;
     let s = read_sequence(message, SEQUENCE_AT);
-    let place = find(image, &starts[..count], s);
-    let repeat = check_repeat(image, &starts[..count], place, message);
-    let Check::Right = repeat else {
-        return Delivery::Conflict;
-    };
-    let Place::Absent(p) = place else {
+    if is_purged(image, s) {
         return Delivery::Accepted {
             undos: 0,
             executions: 0,
         };
-    };
-    let room = check_room(count);
-    let Check::Right = room else {
-        return Delivery::Full;
-    };
-    let change = accept(image, message, steps, pool, station, p);
-    Delivery::Accepted {
-        undos: change.undos,
-        executions: change.executions,
     }
+    take_above(image, message, steps, pool, station, s)
 }

@@ -6,9 +6,9 @@ use native.Mathlib.Omega.{arith}
 use lib.ListN.{length, take, drop, length-append}
 use lib.Seq.{paste, paste-zero, length-paste, length-take-le, take-length, drop-at}
 use Rattle.model.specs.Bytes.{bytes, join}
-use Rattle.model.specs.Layout.{logCountAt, heldCountAt, setpointsOffsetAt, messagesOffsetAt, usedAt, zerosAt, setpointsStart}
+use Rattle.model.specs.Layout.{logCountAt, heldCountAt, purgedBlockAt, purgedGroupAt, zerosAt, setpointsStart}
 use Rattle.buffer_writes.specs.PasteLaws.{paste-paste}
-use Rattle.image_header.specs.Pieces.{pasted, countsBytes, offsetsBytes, Copied}
+use Rattle.image_header.specs.Pieces.{pasted, countsBytes, purgedBytes, Copied}
 
 -- ---- a piece, and one behind it
 pub pasted-pasted : (d : List ℕ) (at : ℕ) (x y : List ℕ) → at + length x ≤ length d → pasted (pasted d at x) (at + length x) y ≡ pasted d at (x ++ y)
@@ -35,15 +35,21 @@ order-pasted d at (b ∷ l) h =
     let same : length (pasted d at b) ≡ length d = length-pasted d at b (omega arith) in
     order-pasted (pasted d at b) (at + length b) l (omega arith) ∙ pasted-pasted d at b (join l) (omega arith)
 
--- the numbers of the header's halves
+-- the numbers of the header's parts
 pub counts-pasted : (d : List ℕ) (log held : ℕ) → setpointsStart ≤ length d
     → paste (paste d logCountAt (bytes 2 log) 2) heldCountAt (bytes 2 held) 2 ≡ pasted d logCountAt (countsBytes log held)
 counts-pasted d log held h = order-pasted d logCountAt (bytes 2 log ∷ bytes 2 held ∷ []) (omega arith)
 
-pub offsets-pasted : (d : List ℕ) (start used : ℕ) → setpointsStart ≤ length d
-    → paste (paste (paste (paste (paste d setpointsOffsetAt (bytes 2 setpointsStart) 2) messagesOffsetAt (bytes 2 start) 2) usedAt (bytes 2 used) 2) zerosAt (bytes 2 0) 2) (zerosAt + 2) (bytes 4 0) 4
-    ≡ pasted d setpointsOffsetAt (offsetsBytes start used)
-offsets-pasted d start used h = order-pasted d setpointsOffsetAt (bytes 2 setpointsStart ∷ bytes 2 start ∷ bytes 2 used ∷ bytes 2 0 ∷ bytes 4 0 ∷ []) h
+-- two numbers of two bytes behind another
+pub three-pasted : (d : List ℕ) (at x y z : ℕ) → at + 6 ≤ length d
+    → paste (paste (paste d at (bytes 2 x) 2) (at + 2) (bytes 2 y) 2) (at + 4) (bytes 2 z) 2 ≡ pasted d at (join (bytes 2 x ∷ bytes 2 y ∷ bytes 2 z ∷ []))
+three-pasted d at x y z h =
+    ap (λ (k : ℕ). paste (paste (paste d at (bytes 2 x) 2) (at + 2) (bytes 2 y) 2) k (bytes 2 z) 2) {x = at + 4} {y = at + 2 + 2} (omega arith)
+    ∙ order-pasted d at (bytes 2 x ∷ bytes 2 y ∷ bytes 2 z ∷ []) h
+
+pub purged-pasted : (d : List ℕ) (block group : ℕ) → setpointsStart ≤ length d
+    → paste (paste (paste d purgedBlockAt (bytes 4 block) 4) purgedGroupAt (bytes 4 group) 4) zerosAt (bytes 8 0) 8 ≡ pasted d purgedBlockAt (purgedBytes block group)
+purged-pasted d block group h = order-pasted d purgedBlockAt (bytes 4 block ∷ bytes 4 group ∷ bytes 8 0 ∷ []) h
 
 -- ---- a front, pasted last, and what was pasted behind it
 pub front-pasted : (d x y : List ℕ) (at : ℕ) → length x ≡ at → at + length y ≤ length d → pasted (pasted d at y) 0 x ≡ x ++ y ++ drop (at + length y) d

@@ -1,7 +1,7 @@
 -- A buffer whose messages were read into a table is an image exactly if it is the image of the table's set; and what is known by the
 -- answers of reading and judging.
 use mathlib.Core.Path.{_≡_, refl, sym, _∙_, ap, ap₂, subst}
-use mathlib.Core.Bool.{Bool, false, _&&_}
+use mathlib.Core.Bool.{Bool, false, not, _&&_}
 use mathlib.Core.List.{List}
 use Prim.Native.Nat.{ℕ, _<_}
 use native.Mathlib.Omega.{arith}
@@ -10,10 +10,10 @@ use lib.Seq.{getD-take}
 use lib.Dec.{leb, le→leb}
 use Rattle.model.specs.Lists.{every, same}
 use Rattle.model.specs.Layout.{capacity}
-use Rattle.model.specs.Message.{passes}
-use Rattle.model.specs.Order.{State, logOf}
-use Rattle.model.specs.Image.{imageOf, logCount, messageOffset, isImage}
-use Rattle.laws_order.specs.TestLaws.{is-true, false-of, ∈-every}
+use Rattle.model.specs.Message.{sequenceOf, passes}
+use Rattle.model.specs.Order.{State, purged, originRight, logOf}
+use Rattle.model.specs.Image.{imageOf, logCount, originIn, messageOffset, stateIn, holdable, isImage}
+use Rattle.laws_order.specs.TestLaws.{and-i, is-true, false-of, ∈-every}
 use Rattle.laws_state.specs.ImageLaws.{own-log}
 use Rattle.set_table.specs.Table.{startsOf, deltasOf, deltasAt, setIn}
 use Rattle.set_table.specs.declared.Table.{Table}
@@ -28,13 +28,22 @@ use Rattle.image_judged.specs.Judging.{IsStation, Judges, Copies}
 pub judged : (b : List ℕ) (t : Table) → IsTable b t → isImage b ≡ same (imageOf (setIn b (startsOf t))) b
 unfolding isImage
 judged b t h =
-    ap (λ (R : State). leb (length (R .deltas)) capacity && every passes (R .deltas) && same (imageOf R) b) (sym (h .set))
-    ∙ ap₂ (λ (few right : Bool). few && right && same (imageOf S) b)
+    ap (λ (R : State). originRight (R .origin) && leb (length (R .deltas)) capacity && every (holdable R) (R .deltas) && same (imageOf R) b) (sym (h .set))
+    ∙ ap₂ (λ (origin few : Bool). origin && few && every (holdable S) (S .deltas) && same (imageOf S) b)
+    (is-true (originRight (S .origin)) (h .holds .right))
     (is-true (leb (length (S .deltas)) capacity) (le→leb (length (S .deltas)) capacity (h .holds .fits)))
-    (is-true (every passes (S .deltas)) (∈-every passes (S .deltas) (h .holds .pass)))
+    ∙ ap (λ (t : Bool). t && same (imageOf S) b)
+    (is-true (every (holdable S) (S .deltas))
+    (∈-every (holdable S) (S .deltas) (λ m k. and-i (passes m) (not (purged S (sequenceOf m))) (h .holds .pass m k) (h .holds .above m k))))
   where
     S : State
     S = setIn b (startsOf t)
+
+-- ---- by the answer of the origin's check
+pub wrong-origin : (b : List ℕ) → originRight (originIn b) ≡ false → isImage b ≡ false
+unfolding isImage
+wrong-origin b e =
+    let S = stateIn b in ap (λ (t : Bool). t && leb (length (S .deltas)) capacity && every (holdable S) (S .deltas) && same (imageOf S) b) e
 
 -- ---- by the answer of the reading
 pub read-wrong : (b : List ℕ) (k : Check) (t : Table) → ReadsTable b (record { check = k; table = t }) → k ≡ Wrong → isImage b ≡ false

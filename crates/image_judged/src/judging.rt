@@ -4,6 +4,7 @@ use image_listed::check_listed;
 use image_listed::comparing::equals_copy;
 use image_listed::list;
 use image_listed::rewrite;
+use image_origin::origin::check_origin;
 use image_table::read_table;
 use image_walk::walk_messages;
 use layout::CAPACITY;
@@ -57,11 +58,16 @@ fn judge(b: &[u8], offsets: [u16; CAPACITY], table: Table, copy: &mut [u8]) -> S
     }
 }
 
-// Reads a buffer of an image's size and judges it. Where it is an image, `copy` begins with it afterwards.
+// Reads a buffer of an image's size and judges it: first what its log starts from, which says where its messages are. Where it is an
+// image, `copy` begins with it afterwards.
 pub fn read_and_copy(b: &[u8], copy: &mut [u8]) -> Station
     requires { ⌜ (length (now b) ≡ imageSize) × Blank (now copy) ⌝ }
     ensures { λ r. ⌜ Judges (now (b .entry)) r × Copies (now (b .entry)) (now (copy .exit)) (r .check) ⌝ }
 {
+    let origin = check_origin(b);
+    let Check::Right = origin else {
+        return refuse();
+    };
     let walk = walk_messages(b);
     let walked = walk.check;
     let Check::Right = walked else {

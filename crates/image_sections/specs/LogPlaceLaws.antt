@@ -11,7 +11,8 @@ use lib.Seq.{drop-cons}
 use Rattle.model.specs.Lists.{_∈_}
 use Rattle.model.specs.Layout.{headerSize, capacity}
 use Rattle.model.specs.Message.{Message, passes}
-use Rattle.model.specs.Order.{logOf}
+use Rattle.model.specs.Order.{originRight, logOf}
+use Rattle.model.specs.Image.{originIn}
 use Rattle.model.specs.Setpoints.{startValues, runLog, setpointsOf}
 use Rattle.laws_order.specs.ListLaws.{getD-∈, getD-map}
 use Rattle.laws_state.specs.LogLaws.{log-received, log-length}
@@ -84,9 +85,9 @@ unfolding setpointsOf
 log-values pool starts places values l e = e ∙ ap (λ (x : List Message). runLog x (startValues (setIn pool starts))) (l .log)
 
 -- ---- the empty set has an empty log
-pub empty-log : LogPlaces [] [] []
+pub empty-log : (pool : List ℕ) → T (originRight (originIn pool)) → LogPlaces pool [] []
 unfolding logOf
-empty-log = record {
-  holds = record { ascends = tt; fits = omega arith; pass = λ m k. absurd (List·Memᴰ·not-nil k) };
+empty-log pool right = record {
+  holds = record { ascends = tt; fits = omega arith; pass = λ m k. absurd (List·Memᴰ·not-nil k); above = λ m k. absurd (List·Memᴰ·not-nil k); right = right };
   log = refl;
 }

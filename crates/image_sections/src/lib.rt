@@ -1,5 +1,6 @@
-// The sections of an image behind its header: the values as the log leaves them, and the messages.
+// The sections of an image behind its header: the values as the log leaves them, base values and floors, and the messages.
 pub mod held;
 pub mod messages;
+pub mod origin;
 pub mod placed;
 pub mod running;

@@ -10,17 +10,17 @@ use lib.Seq.{take-all, split-at}
 use lib.Dec.{T}
 use Rattle.model.specs.Lists.{_∈_, has}
 use Rattle.model.specs.Message.{Message, sequenceOf}
-use Rattle.model.specs.Order.{holding, insert, sequencesOf}
+use Rattle.model.specs.Order.{holding, originRight, purged, insert, sequencesOf}
 use Rattle.model.specs.Image.{messagesIn, originIn, stateIn, isImage}
-use Rattle.laws_order.specs.TestLaws.{Same, false-of, true-T, has→∈, ∈→has}
-use Rattle.laws_order.specs.ListLaws.{take-next}
+use Rattle.laws_order.specs.TestLaws.{Same, or-e, is-false, false-of, true-T, has→∈, ∈→has}
+use Rattle.laws_order.specs.ListLaws.{getD-∈, take-next}
 use Rattle.laws_state.specs.SetLaws.{insert-from, insert-keeps, insert-has, setOf-same}
 use Rattle.laws_state.specs.ImageSetLaws.{image-messages, distinct-places}
 use Rattle.laws_state.specs.OffsetLaws.{count-messages}
 use Rattle.message_header.specs.declared.checks.Check.{Check}
 use Rattle.message_header.specs.declared.checks.Check.the-variants.{Wrong}
 use Rattle.image_table.specs.declared.TableReading.{TableReading}
-use Rattle.image_table.specs.TableReading.{ReadsTable}
+use Rattle.image_table.specs.TableReading.{known, unfit, ReadsTable}
 use Rattle.set_table.specs.Table.{messageFrom, deltasOf, setIn, Holds}
 use Rattle.image_walk.specs.Walk.{countIn}
 
@@ -29,10 +29,10 @@ pub record Gathered (b : List ℕ) (i : ℕ) (starts : List ℕ) : Type 0 where
   pub taken : Same (take i (messagesIn b)) (deltasOf b starts)
   pub holds : Holds b starts
 
-pub gathered-none : (b : List ℕ) → Gathered b 0 []
-gathered-none b = record {
+pub gathered-none : (b : List ℕ) → T (originRight (originIn b)) → Gathered b 0 []
+gathered-none b right = record {
   taken = λ a. (λ k. k, λ k. k);
-  holds = record { ascends = tt; fits = omega arith; pass = λ m k. absurd (List·Memᴰ·not-nil k) };
+  holds = record { ascends = tt; fits = omega arith; pass = λ m k. absurd (List·Memᴰ·not-nil k); above = λ m k. absurd (List·Memᴰ·not-nil k); right = right };
 }
 
 -- all of them do in the end
@@ -57,15 +57,20 @@ module _ (b : List ℕ) (i : ℕ) (starts : List ℕ) (g : Gathered b i starts) 
   inside : i < length (messagesIn b)
   inside = omega (arith, count-messages b)
 
-  -- it is there already
-  pub gathered-twice : has (sequenceOf (messageFrom b at)) (sequencesOf (deltasOf b starts)) ≡ true → isImage b ≡ false
-  gathered-twice e = false-of (isImage b) (λ t.
-      let s : ℕ = sequenceOf m in
-      let r = Memᴰ·of-map sequenceOf D (has→∈ s (sequencesOf D) (true-T (has s (sequencesOf D)) e)) in
-      distinct-places before m (drop (suc i) (messagesIn b)) (rw split at (image-messages b t .distinct)) (r .0) (g .taken (r .0) .1 (r .1)) (r .2))
+  -- it is at or below a floor, or there already
+  pub gathered-unfit : unfit b starts at ≡ true → isImage b ≡ false
+  gathered-unfit e = false-of (isImage b) (λ t. ⊎-elim (below t) (twice t) (or-e (purged (setIn b starts) (sequenceOf m)) (known b starts at) (true-T (unfit b starts at) e)))
     where
+      below : T (isImage b) → T (purged (setIn b starts) (sequenceOf m)) → ⊥
+      below t u = subst T (is-false (purged (setIn b starts) (sequenceOf m)) (image-messages b t .above m (Memᴰ·cast here (getD-∈ (messagesIn b) i [] inside)))) u
+
       split : messagesIn b ≡ before ++ m ∷ drop (suc i) (messagesIn b)
       split = split-at (messagesIn b) i [] inside ∙ ap (λ (x : Message). before ++ x ∷ drop (suc i) (messagesIn b)) (sym here)
+
+      twice : T (isImage b) → T (known b starts at) → ⊥
+      twice t u =
+          let r = Memᴰ·of-map sequenceOf D (has→∈ (sequenceOf m) (sequencesOf D) u) in
+          distinct-places before m (drop (suc i) (messagesIn b)) (rw split at (image-messages b t .distinct)) (r .0) (g .taken (r .0) .1 (r .1)) (r .2)
 
   -- it is taken in
   module _ (others : List ℕ) (new : has (sequenceOf (messageFrom b at)) (sequencesOf (deltasOf b starts)) ≡ false)

@@ -1,13 +1,13 @@
 -- What reading an image's messages into a table answers.
 use mathlib.Core.Path.{_≡_}
-use mathlib.Core.Bool.{Bool, true, false}
+use mathlib.Core.Bool.{Bool, true, false, _||_}
 use mathlib.Core.List.{List}
 use Prim.Native.Nat.{ℕ, _+_, _≤_}
 use lib.Dec.{T}
 use Rattle.model.specs.Lists.{has}
 use Rattle.model.specs.Layout.{capacity}
 use Rattle.model.specs.Message.{sequenceOf, passes}
-use Rattle.model.specs.Order.{insert, sequencesOf}
+use Rattle.model.specs.Order.{purged, insert, sequencesOf}
 use Rattle.model.specs.Image.{logCount, heldCount, messagesIn, stateIn, isImage}
 use Rattle.laws_order.specs.TestLaws.{Same}
 use Rattle.message_header.specs.declared.checks.Check.{Check}
@@ -27,6 +27,10 @@ pub record IsMessage (b : List ℕ) (at : ℕ) (s : Sequence) : Type 0 where
 abbrev pub known : List ℕ → List ℕ → ℕ → Bool
 known b starts at = has (sequenceOf (messageFrom b at)) (sequencesOf (deltasOf b starts))
 
+-- no image has it beside them
+abbrev pub unfit : List ℕ → List ℕ → ℕ → Bool
+unfit b starts at = purged (setIn b starts) (sequenceOf (messageFrom b at)) || known b starts at
+
 pub record IsTaken (b starts : List ℕ) (at : ℕ) (next : List ℕ) : Type 0 where
   pub new : known b starts at ≡ false
   pub holds : Holds b next
@@ -34,7 +38,7 @@ pub record IsTaken (b starts : List ℕ) (at : ℕ) (next : List ℕ) : Type 0 w
 
 abbrev pub TakesIn : List ℕ → List ℕ → ℕ → Check → List ℕ → Type 0
 TakesIn b starts at Right next = IsTaken b starts at next
-TakesIn b starts at Wrong next = known b starts at ≡ true
+TakesIn b starts at Wrong next = unfit b starts at ≡ true
 
 -- ---- all of an image's messages
 pub record IsTable (b : List ℕ) (t : Table) : Type 0 where

@@ -11,12 +11,11 @@ use lib.Seq.{length-take-le, take-all, getD-take, getD-set-same, getD-set-other}
 use lib.Dec.{T, ltb, ltb→lt, nltb→le}
 use Rattle.model.specs.Lists.{_∈_}
 use Rattle.model.specs.Bytes.{field}
-use Rattle.model.specs.Layout.{lengthAt, imageSize, capacity}
+use Rattle.model.specs.Layout.{lengthAt, capacity}
 use Rattle.model.specs.Message.{Message, passes}
 use Rattle.model.specs.Image.{messagesStartIn, messagesIn, messageOffset, usedCount, isImage}
 use Rattle.laws_order.specs.TestLaws.{decide, false-of}
 use Rattle.laws_order.specs.ListLaws.{getD-∈, take-next}
-use Rattle.laws_state.specs.ImageLaws.{start-inside}
 use Rattle.laws_state.specs.ImageSetLaws.{image-messages}
 use Rattle.laws_state.specs.OffsetLaws.{offset-first, offset-next, count-messages, message-in, message-of, offset-used}
 use Rattle.message_header.specs.declared.checks.Check.{Check}
@@ -27,10 +26,10 @@ use Rattle.image_walk.specs.declared.Walk.{Walk}
 use Rattle.image_walk.specs.Walk.{countIn, Walking, Walkable, Offsets, offsetsOf, Walks}
 
 -- ---- at the first message
-pub walking-first : (b offsets : List ℕ) {at : ℕ} → length b ≡ imageSize → at ≡ messagesStartIn b → Walking b offsets at 0
-walking-first b offsets size e = record {
+pub walking-first : (b offsets : List ℕ) {at : ℕ} → messagesStartIn b ≤ length b → at ≡ messagesStartIn b → Walking b offsets at 0
+walking-first b offsets room e = record {
   here = e ∙ sym (offset-first (messagesStartIn b) (messagesIn b));
-  inside = omega (arith, start-inside b size);
+  inside = omega arith;
   pass = λ m k. absurd (List·Memᴰ·not-nil k);
   each = λ k h. let z : ⊥ = omega arith in absurd z;
 }

@@ -15,8 +15,8 @@ ghost use Prim.Native.Nat.{_+_, _≤_};
 ghost use lib.ListN.{length};
 ghost use Rattle.model.specs.Bytes.{field};
 ghost use lib.Dec.{eqb, leb};
-ghost use Rattle.model.specs.Layout.{lengthAt, headerSize, imageSize, setpointsOffsetAt, zerosAt, capacity};
-ghost use Rattle.model.specs.Image.{usedCount};
+ghost use Rattle.model.specs.Layout.{lengthAt, headerSize, imageSize, setpointsOffsetAt, floorCountAt, capacity};
+ghost use Rattle.model.specs.Image.{messagesStartIn, usedCount};
 ghost use Rattle.message_header.specs.declared.checks.Check.the-variants.{Wrong};
 ghost use Rattle.message_header.specs.Check.{right};
 ghost use Rattle.image_walk.specs.Walk.{countIn, Ends, Walks};
@@ -56,7 +56,7 @@ fn check_count(total: usize) -> Check
 
 // The messages have to end where the bytes used do.
 fn check_used(b: &[u8], at: usize) -> Check
-    requires { ⌜ zerosAt ≤ length (now b) ⌝ }
+    requires { ⌜ floorCountAt ≤ length (now b) ⌝ }
     ensures { λ r. ⌜ right r ≡ eqb at (usedCount (now (b .entry))) ⌝ }
 {
     if at != get_u16(b, USED_AT) as usize {
@@ -105,9 +105,9 @@ fn refuse() -> Walk
     }
 }
 
-// Walks a buffer's messages; refused where no image can hold them.
+// Walks a buffer's messages, which start inside it; refused where no image can hold them.
 pub fn walk_messages(b: &[u8]) -> Walk
-    requires { ⌜ length (now b) ≡ imageSize ⌝ }
+    requires { ⌜ (length (now b) ≡ imageSize) × (messagesStartIn (now b) ≤ length (now b)) ⌝ }
     ensures { λ r. ⌜ Walks (now (b .entry)) r ⌝ }
 {
     let total = count_messages(b);

@@ -89,17 +89,35 @@ pub const LOG_COUNT_AT: usize = 0;
 
 pub const HELD_COUNT_AT: usize = 2;
 
-// where the two offsets and the bytes used stand, and the zeros behind them
+// where the offsets of setpoints and messages and the bytes used stand
 pub const SETPOINTS_OFFSET_AT: usize = 4;
 
 pub const MESSAGES_OFFSET_AT: usize = 6;
 
 pub const USED_AT: usize = 8;
 
-pub const ZEROS_AT: usize = 10;
+// how many floors there are; the offsets of floors and of base values
+pub const FLOOR_COUNT_AT: usize = 10;
 
-// past the header; where the messages start, `messages_start` of the table says
-pub const SETPOINTS_START: usize = 16;
+pub const FLOORS_OFFSET_AT: usize = 12;
+
+pub const BASE_OFFSET_AT: usize = 14;
+
+// the greatest purged effective block, the greatest purged group, and the zeros behind them
+pub const PURGED_BLOCK_AT: usize = 16;
+
+pub const PURGED_GROUP_AT: usize = 20;
+
+pub const ZEROS_AT: usize = 24;
+
+// past the header: the setpoints, the base values, the floors; where the messages start, `messages_start` of the table says
+pub const SETPOINTS_START: usize = 32;
+
+pub const BASE_START: usize = SETPOINTS_START + VALUES_SIZE;
+
+pub const FLOORS_START: usize = BASE_START + VALUES_SIZE;
+
+pub const MOST_FLOORS: usize = 32;
 
 // the most deltas that an image holds
 pub const CAPACITY: usize = 64;

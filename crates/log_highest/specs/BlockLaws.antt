@@ -13,6 +13,7 @@ use Rattle.model.specs.Order.{State, RightSet, find, needs, blockAlong, effecti
 use Rattle.model.specs.Compose.{highestBlock}
 use Rattle.laws_order.specs.TestLaws.{and-l, and-r, greatest-cong}
 use Rattle.laws_order.specs.ListLaws.{greatest-≤, getD-∈}
+use Rattle.laws_origin.specs.OriginLaws.{block-limit}
 use Rattle.laws_state.specs.LogLaws.{log-executable}
 use Rattle.set_table.specs.Table.{messageFrom, deltasAt, setIn}
 use Rattle.set_table.specs.Places.{AllBelow}
@@ -49,7 +50,12 @@ module _ (S : State) (right : RightSet S) where
   along-small : (n s : ℕ) → blockAlong S n s ≤ fieldLimit
   along-small zero s = zero-le
   along-small (suc n) s =
-      omega (arith, find-block (S .deltas) (right .pass) s, greatest-≤ (blockAlong S n) (needs S (find (S .deltas) s)) fieldLimit (λ t k. along-small n t))
+      omega (
+        arith,
+        find-block (S .deltas) (right .pass) s,
+        block-limit (S .origin) (right .right),
+        greatest-≤ (blockAlong S n) (needs S (find (S .deltas) s)) fieldLimit (λ t k. along-small n t),
+      )
 
   pub effective-small : (l : List Message) → highestBlock S l ≤ fieldLimit
   effective-small l = greatest-≤ (effectiveBlock S) l fieldLimit (λ m k. along-small capacity (sequenceOf m))

@@ -22,7 +22,7 @@ ghost use Rattle.message_header.specs.Check.{right};
 ghost use Rattle.message_commands.specs.CommandTests.{valueRight, commandsRight};
 
 // Whether four bytes, as two's complement, are a value from -1000000 to 1000000.
-fn in_range(value: u32) -> bool
+pub fn in_range(value: u32) -> bool
     ensures { λ r. ⌜ r ≡ valueRight value ⌝ }
 {
     if value <= HIGHEST_VALUE_WORD {

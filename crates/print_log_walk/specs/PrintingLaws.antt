@@ -62,10 +62,10 @@ module _ (b : List ℕ) (place : ℕ) (found : logMessageCode b place ≡ 0) whe
 
 -- ---- how far the program is
 module _ {b entry : List ℕ} where
-  pub printing-first : {offset : ℕ} → offset ≡ firstOffset b → Printing b entry entry 0 offset 0
-  printing-first e = record {
+  pub printing-first : lowestCode (readConditions b) ≡ 0 → {offset : ℕ} → offset ≡ firstOffset b → Printing b entry entry 0 offset 0
+  printing-first accepted e = record {
     inside = omega arith;
-    located = e ∙ offset-start b;
+    located = e ∙ offset-start b accepted;
     room = omega arith;
     size = refl;
     ahead = ahead-all (linesFrom b 0) entry 0;

@@ -17,7 +17,8 @@ use Rattle.model.specs.Codes.{lowestCode, setpointConditions}
 use Rattle.model.specs.Calls.{setpoint, setpointAnswer}
 use Rattle.laws_order.specs.TestLaws.{true-T}
 use Rattle.laws_state.specs.ImageLaws.{own-valid}
-use Rattle.laws_state.specs.ValueLaws.{in-range-mag, setpoints-range, value-at}
+use Rattle.laws_state.specs.ValueLaws.{in-range-mag, setpoints-range}
+use Rattle.laws_state.specs.ImageValueLaws.{value-at}
 use Rattle.laws_codes.specs.Ladder.{Answers, none, free, passes, all-free, not-not}
 
 module _ (b : List ℕ) (tag : ℕ) where

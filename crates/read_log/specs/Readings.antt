@@ -2,21 +2,22 @@
 -- or on a buffer that answers 1 or 2, it gives empty parts and stays.
 use mathlib.Core.Path.{_≡_, refl, sym, _∙_, ap, subst}
 use mathlib.Core.Logic.{⊎-elim}
-use mathlib.Core.Bool.{not}
+use mathlib.Core.Bool.{Bool, cond, not}
 use mathlib.Core.List.{List, [], _∷_, _++_}
 use Prim.Native.Nat.{ℕ, zero, suc, _+_, _-_, _<_, min}
 use native.Mathlib.Omega.{arith}
 use native.Mathlib.Numerals.{add-one}
 use lib.ListN.{length, take, getD, replicate}
 use lib.Seq.{take-all}
-use lib.Dec.{T, leb, leb→le, nleb→lt}
+use lib.Dec.{T, eqb, leb, leb→le, nleb→lt}
 use Rattle.model.specs.Lists.{_∈_, sum}
+use Rattle.model.specs.Layout.{imageSize}
 use Rattle.model.specs.Message.{Message}
 use Rattle.model.specs.Image.{messagesStartIn, logIn, offsetOf, messageOffset}
 use Rattle.model.specs.Codes.{lowestCode, readConditions}
 use Rattle.model.specs.Calls as model
 use Rattle.model.specs.Calls.{nextMessage}
-use Rattle.laws_order.specs.TestLaws.{decide}
+use Rattle.laws_order.specs.TestLaws.{is-true, eq→eqb, decide}
 use Rattle.laws_state.specs.OffsetLaws.{offset-first, offset-next, message-at-offset, log-count, log-offset, log-full}
 use Rattle.read_log.specs.declared.reader.LogReader.{LogReader}
 use Rattle.read_log.specs.Reader.{readerOf, Starts, readOf, Reads}
@@ -128,11 +129,11 @@ module _ (b : List ℕ) (refused : ¬ (lowestCode (readConditions b) ≡ 0)) whe
   next-other = go (lowestCode (readConditions b)) refl
     where
       past : Message → model.Reader
-      past m = record { image = b; offset = messagesStartIn b + length m }
+      past m = record { image = b; offset = begun .offset + length m }
 
-      go : (n : ℕ) → n ≡ lowestCode (readConditions b) → let m = nextMessage n b (messagesStartIn b) in readOf m (past m) ≡ readOf [] begun
+      go : (n : ℕ) → n ≡ lowestCode (readConditions b) → let m = nextMessage n b (begun .offset) in readOf m (past m) ≡ readOf [] begun
       go zero e = absurd (refused (sym e))
-      go (suc n) e = ap (λ (o : ℕ). readOf [] (record { image = b; offset = o })) {x = messagesStartIn b + 0} {y = messagesStartIn b} (omega arith)
+      go (suc n) e = ap (λ (o : ℕ). readOf [] (record { image = b; offset = o })) {x = begun .offset + 0} {y = begun .offset} (omega arith)
 
   no-parts : (n : ℕ) → partsOf n begun ≡ replicate n []
   no-parts zero = refl
@@ -149,15 +150,17 @@ stands-at b n =
     ap (λ (l : List Message). messagesStartIn b + sum length l) (take-min n (logIn b)) ∙ log-offset b (min n (length (logIn b))) (omega (arith, log-count b))
 
 -- WHOLE READINGS of the definitions
-start-is : (b : List ℕ) → model.start b ≡ readerAt b 0
+pub start-is : (b : List ℕ) → length b ≡ imageSize → model.start b ≡ readerAt b 0
 unfolding model.start
-start-is b = ap (λ (n : ℕ). record { image = b; offset = n }) (sym (offset-first (messagesStartIn b) (logIn b)))
+start-is b e =
+    ap (λ (n : ℕ). record { image = b; offset = n })
+    (ap (λ (c : Bool). cond (not c) 0 (messagesStartIn b)) (is-true (eqb (length b) imageSize) (eq→eqb e)) ∙ sym (offset-first (messagesStartIn b) (logIn b)))
 
 pub whole-reading : (b : List ℕ) (n : ℕ) → WholeReading b n (partsOf n (model.start b)) (after n (model.start b))
 whole-reading b n = record {
   of-image = λ accepted. record {
-    given = ap (partsOf n) (start-is b) ∙ parts-on b accepted n 0 ∙ parts-all n (logIn b);
-    stands = ap (after n) (start-is b) ∙ after-on b accepted n 0
+    given = ap (partsOf n) (start-is b (code-image b accepted .0)) ∙ parts-on b accepted n 0 ∙ parts-all n (logIn b);
+    stands = ap (after n) (start-is b (code-image b accepted .0)) ∙ after-on b accepted n 0
         ∙ ap (λ (o : ℕ). record { image = b; offset = o }) (ap (logOffset b) {x = 0 + n} {y = n} (omega arith) ∙ stands-at b n);
     full = full b accepted;
   };

@@ -1,5 +1,7 @@
 // The reader: a struct that holds the lent image. Its functions are thin, and the work is `first_offset` and `next_part`.
 use crate::finding::next_part;
+use buffer_sizes::check_image_size;
+use message_header::checks::Check;
 use set_table::start::messages_start;
 ghost use mathlib.Core.Path.{_≡_};
 ghost use Rattle.read_log.specs.Reader.{firstOffset, Starts, Reads};
@@ -9,10 +11,14 @@ pub struct LogReader<'a> {
     pub offset: usize,
 }
 
-// Where a reader of a buffer starts.
+// Where a reader of a buffer starts: at its first message, or at 0 where its size is wrong.
 fn first_offset(image: &[u8]) -> usize
     ensures { λ r. ⌜ r ≡ firstOffset (now (image .entry)) ⌝ }
 {
+    let sized = check_image_size(image.len());
+    let Check::Right = sized else {
+        return 0;
+    };
     messages_start(image)
 }
 

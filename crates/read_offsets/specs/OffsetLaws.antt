@@ -4,17 +4,17 @@ use mathlib.Core.List.{List}
 use Prim.Native.Nat.{ℕ, _+_, _<_}
 use native.Mathlib.Omega.{arith}
 use native.Mathlib.Numerals.{add-one}
-use Rattle.model.specs.Image.{messagesStartIn, logCount, messagesIn, messageOffset}
+use Rattle.model.specs.Image.{logCount, messageOffset}
 use Rattle.model.specs.Codes.{lowestCode, readConditions}
 use Rattle.model.specs.Calls as model
-use Rattle.laws_state.specs.OffsetLaws.{offset-first, log-offset}
+use Rattle.laws_state.specs.OffsetLaws.{log-offset}
 use Rattle.read_log.specs.Reader.{firstOffset}
-use Rattle.read_log.specs.Readings.{logOffset, next-at}
+use Rattle.read_log.specs.ReaderLaws.{code-image}
+use Rattle.read_log.specs.Readings.{logOffset, start-is, next-at}
 use Rattle.read_offsets.specs.Offsets.{offsetAfter}
 
-pub offset-start : (b : List ℕ) → firstOffset b ≡ messageOffset b 0
-unfolding model.start
-offset-start b = sym (offset-first (messagesStartIn b) (messagesIn b))
+pub offset-start : (b : List ℕ) → lowestCode (readConditions b) ≡ 0 → firstOffset b ≡ messageOffset b 0
+offset-start b accepted = ap (λ (r : model.Reader). r .offset) (start-is b (code-image b accepted .0)) ∙ log-offset b 0 (omega arith)
 
 pub offset-after : (b : List ℕ) → lowestCode (readConditions b) ≡ 0 → (k : ℕ) → k < logCount b → offsetAfter b (messageOffset b k) ≡ messageOffset b (k + 1)
 offset-after b accepted k h =

@@ -1,6 +1,8 @@
 // A delta is placed where it is ready.
 use buffer_reads::get_u32;
 use layout::BLOCK_AT;
+use layout::PURGED_BLOCK_AT;
+use set_readiness::greater;
 use set_readiness::greatest_along;
 use set_readiness::ready;
 use set_table::entry::message_at;
@@ -13,12 +15,13 @@ ghost use Rattle.set_table.specs.Table.{deltasOf, setIn, Holds};
 ghost use Rattle.set_needs.specs.Rows.{RowsRight};
 ghost use Rattle.set_closure.specs.Closing.{Closing, Tried};
 
-// A delta's own block, as it counts at a station: the one that its message states.
+// A delta's own block, as it counts at a station: the one that its message states, and no less than the greatest purged one.
 fn own_block(pool: &[u8], starts: &[u16], i: usize) -> u32
     requires { ⌜ Holds (now pool) (now starts) × (i < length (now starts)) ⌝ }
     ensures { λ r. ⌜ r ≡ ownBlock (setIn (now (pool .entry)) (now (starts .entry))) (getD (deltasOf (now (pool .entry)) (now (starts .entry))) i []) ⌝ }
 {
-    get_u32(message_at(pool, starts, i), BLOCK_AT)
+    let stated = get_u32(message_at(pool, starts, i), BLOCK_AT);
+    greater(stated, get_u32(pool, PURGED_BLOCK_AT))
 }
 
 // Places the delta at an index where it is ready: its mark, its effective block, and its index behind those placed before.

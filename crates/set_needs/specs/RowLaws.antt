@@ -1,62 +1,118 @@
 -- Rows by index: one more row is written, and what callers read of rows that are right.
 use mathlib.Core.Path.{_≡_, refl, sym, _∙_, ap, ap₂, subst}
 use mathlib.Core.Logic.{⊎-elim}
+use mathlib.Core.Bool.{Bool, true, false, cond, not, _&&_, and-false}
 use mathlib.Core.List.{List, [], _∷_, map}
-use Prim.Native.Nat.{ℕ, zero, suc, _+_, _-_, _*_, _≤_, _<_}
+use Prim.Native.Nat.{ℕ, zero, suc, _+_, _*_, _≤_, _<_}
 use native.Mathlib.Omega.{arith}
 use native.Mathlib.Numerals.{add-one}
 use native.Mathlib.Nat.{add-zero}
-use lib.ListN.{length, getD, set, take, drop, length-drop, length-map, List·getD-map}
-use lib.Seq.{paste, paste-zero, paste-suc, length-paste, length-take-le, getD-take, getD-drop, drop-drop, getD-set-same, getD-set-other}
+use lib.ListN.{length, getD, set, take, drop, length-drop, length-map, drop-of-length-le, List·getD-map}
+use lib.Seq.{drop-cons, paste, paste-zero, paste-suc, length-paste, length-take-le, getD-take, getD-drop, drop-drop, getD-set-same, getD-set-other}
 use lib.Dec.{eqb, eqb→eq}
+use borrow.Author.Tests.{eq-eqb}
+use Rattle.model.specs.Lists.{keep}
 use Rattle.model.specs.Layout.{capacity}
 use Rattle.model.specs.Message.{Message, sequenceOf, needsOf}
-use Rattle.model.specs.Order.{State, RightSet, sequencesOf, needs}
-use Rattle.laws_order.specs.TestLaws.{decide, not-eqb}
+use Rattle.model.specs.Order.{State, purged, RightSet, sequencesOf, needs}
+use Rattle.laws_order.specs.TestLaws.{decide, not-eqb, is-false}
+use Rattle.laws_order.specs.ListLaws.{getD-∈}
 use Rattle.buffer_writes.specs.PasteLaws.{part-here, part-before}
 use Rattle.set_needs.specs.Names.{missing, indexOf}
-use Rattle.set_needs.specs.IndexLaws.{index-small}
-use Rattle.set_needs.specs.Rows.{rowSize, rowIn, RowGrows, RowFilled, RowIs, RowsRight, RowFits}
+use Rattle.set_needs.specs.IndexLaws.{index-cases, index-small}
+use Rattle.set_needs.specs.NameLaws.{sequence-at}
+use Rattle.set_needs.specs.Rows.{rowSize, leftOut, rowIn, RowGrows, RowFilled, RowIs, RowsRight, RowFits}
+
+-- ---- what is left out: where a delta was received, it is above its floor
+pub left-out : (S : State) → RightSet S → (s : ℕ) → leftOut (S .origin) s (indexOf (sequencesOf (S .deltas)) s) ≡ purged S s
+left-out S right s = ⊎-elim
+    (λ r. ap (λ (c : Bool). c && purged S s) (eq-eqb (indexOf names s) missing (r .0)))
+    (λ r. ap (λ (c : Bool). eqb (indexOf names s) missing && c) (received (r .0) (r .1) (r .2)) ∙ and-false (eqb (indexOf names s) missing) ∙ sym (received (r .0) (r .1) (r .2)))
+    (index-cases names s)
+  where
+    names : List ℕ
+    names = sequencesOf (S .deltas)
+
+    received : (i : ℕ) → i < length names → getD names i 0 ≡ s → purged S s ≡ false
+    received i h e =
+        let m : Message = getD (S .deltas) i [] in
+        let inside : i < length (S .deltas) = omega (arith, length-map (S .deltas) sequenceOf) in
+        ap (purged S) (sym (sym (sequence-at (S .deltas) i) ∙ e)) ∙ is-false (purged S (sequenceOf m)) (right .above m (getD-∈ (S .deltas) i [] inside))
 
 -- ---- a row as it grows
-pub row-begins : (S : State) (m : Message) (before : List ℕ) (at : ℕ) (names : List ℕ) → RowGrows before at names (needs S m) (needsOf m) 0 before 0
+pub row-begins : (S : State) (m : Message) (before : List ℕ) (at : ℕ) → RowGrows before at S m 0 before 0
 unfolding needs
-row-begins S m before at names = record { row = paste-zero before at (map (indexOf names) (needs S m)); rest = refl; inside = omega arith; few = omega arith }
+row-begins S m before at = record {
+  row = paste-zero before at (map (indexOf (sequencesOf (S .deltas))) (needs S m));
+  rest = refl;
+  inside = omega arith;
+  few = omega arith;
+}
 
-module _ {before : List ℕ} {at : ℕ} {names needed named : List ℕ} {k : ℕ} {after : List ℕ} {n : ℕ} (g : RowGrows before at names needed named k after n) where
+module _ {before : List ℕ} {at : ℕ} {S : State} {m : Message} {k : ℕ} {after : List ℕ} {n : ℕ} (g : RowGrows before at S m k after n) where
+  abbrev named : ℕ → ℕ
+  named s = indexOf (sequencesOf (S .deltas)) s
+
   abbrev indices : List ℕ
-  indices = map (indexOf names) needed
+  indices = map named (needs S m)
 
-  left : length needed - n ≡ length named - k
-  left = sym (length-drop n needed) ∙ ap length (g .rest) ∙ length-drop k named
+  -- what is left of the sequences that it names
+  abbrev later : List ℕ
+  later = keep (λ s. not (purged S s)) (drop (k + 1) (needsOf m))
+
+  left : k < length (needsOf m) → drop n (needs S m) ≡ cond (not (purged S (getD (needsOf m) k 0))) (getD (needsOf m) k 0 ∷ later) later
+  left h = g .rest ∙ ap (keep (λ s. not (purged S s))) (drop-cons (needsOf m) k 0 h)
+      ∙ ap (λ (j : ℕ). cond (not (purged S (getD (needsOf m) k 0))) (getD (needsOf m) k 0 ∷ keep (λ s. not (purged S s)) (drop j (needsOf m))) (keep (λ s. not (purged S s)) (drop j (needsOf m))))
+      (sym (add-one k))
 
   pub grown-length : at + k ≤ length before → length after ≡ length before
   grown-length room =
-      ap length (g .row) ∙ length-paste before at indices n (omega (arith, g .few)) (omega (arith, g .inside, length-map needed (indexOf names)))
+      ap length (g .row) ∙ length-paste before at indices n (omega (arith, g .few)) (omega (arith, g .inside, length-map (needs S m) named))
 
-  -- the next is written behind it
-  pub row-grows : at + k < length before → k < length named → (index : ℕ) → index ≡ indexOf names (getD named k 0)
-      → {next : List ℕ} {count : ℕ} → (next ≡ set after (at + n) index) × (count ≡ n + 1) → RowGrows before at names needed named (k + 1) next count
-  row-grows room h index e w =
-      let more : n < length needed = omega (arith, left, g .inside) in
-      let same : getD needed n 0 ≡ getD named k 0 = simp add-zero at (sym (getD-drop n needed 0 0) ∙ ap (λ (l : List ℕ). getD l 0 0) (g .rest) ∙ getD-drop k named 0 0) in
-      let found : index ≡ getD indices n (indexOf names 0) = e ∙ ap (indexOf names) (sym same) ∙ sym (List·getD-map (indexOf names) needed n 0) in
+  -- the next is left out, or written behind it
+  module _ (room : at + k < length before) (h : k < length (needsOf m)) where
+    stays : purged S (getD (needsOf m) k 0) ≡ true → RowGrows before at S m (k + 1) after n
+    stays t = record {
+      row = g .row;
+      rest = left h ∙ ap (λ (c : Bool). cond (not c) (getD (needsOf m) k 0 ∷ later) later) t;
+      inside = g .inside;
+      few = omega (arith, g .few);
+    }
+
+    grows : purged S (getD (needsOf m) k 0) ≡ false → RowGrows before at S m (k + 1) (set after (at + n) (named (getD (needsOf m) k 0))) (n + 1)
+    grows t =
+        let parted : drop n (needs S m) ≡ getD (needsOf m) k 0 ∷ later = left h ∙ ap (λ (c : Bool). cond (not c) (getD (needsOf m) k 0 ∷ later) later) t in
+        let more : n < length (needs S m) = omega (arith, ap length parted, length-drop n (needs S m)) in
+        let same : getD (needs S m) n 0 ≡ getD (needsOf m) k 0 = simp add-zero at (sym (getD-drop n (needs S m) 0 0) ∙ ap (λ (l : List ℕ). getD l 0 0) parted) in
+        let found : named (getD (needsOf m) k 0) ≡ getD indices n (named 0) = ap named (sym same) ∙ sym (List·getD-map named (needs S m) n 0) in
+        record {
+          row =
+              ap₂ (λ (l : List ℕ) (x : ℕ). set l (at + n) x) (g .row) found
+              ∙ paste-suc before at indices n (named 0) (omega (arith, g .few)) (omega (arith, length-map (needs S m) named))
+              ∙ ap (paste before at indices) (sym (add-one n));
+          rest = sym (drop-drop 1 n (needs S m)) ∙ ap (drop 1) parted;
+          inside = omega arith;
+          few = omega (arith, g .few);
+        }
+
+    becomes : {l next : List ℕ} {c count : ℕ} → next ≡ l → count ≡ c → RowGrows before at S m (k + 1) l c → RowGrows before at S m (k + 1) next count
+    becomes {l} {next} {c} {count} e f r =
+        subst (λ (x : List ℕ). RowGrows before at S m (k + 1) x count) (sym e) (subst (λ (x : ℕ). RowGrows before at S m (k + 1) l x) (sym f) r)
+
+    pub row-grows : (index : ℕ) → index ≡ named (getD (needsOf m) k 0) → (out : Bool) → out ≡ purged S (getD (needsOf m) k 0)
+        → {next : List ℕ} {count : ℕ} → (next ≡ cond out after (set after (at + n) index)) × (count ≡ cond out n (n + 1)) → RowGrows before at S m (k + 1) next count
+    row-grows index e true t w = becomes (w .0) (w .1) (stays (sym t))
+    row-grows index e false t w = becomes (w .0 ∙ ap (set after (at + n)) e) (w .1) (grows (sym t))
+
+  pub row-filled : k ≡ length (needsOf m) → k ≤ rowSize → RowFilled before at indices after n
+  row-filled all short =
+      let past : length (needsOf m) ≤ k = omega arith in
+      let none : drop n (needs S m) ≡ [] = g .rest ∙ ap (keep (λ s. not (purged S s))) (drop-of-length-le (needsOf m) past) in
       record {
-        row =
-            w .0 ∙ ap₂ (λ (l : List ℕ) (x : ℕ). set l (at + n) x) (g .row) found
-            ∙ paste-suc before at indices n (indexOf names 0) (omega (arith, g .few)) (omega (arith, length-map needed (indexOf names)))
-            ∙ ap (paste before at indices) (sym (w .1 ∙ add-one n));
-        rest = ap (λ (c : ℕ). drop c needed) (w .1) ∙ sym (drop-drop 1 n needed) ∙ ap (drop 1) (g .rest) ∙ drop-drop 1 k named;
-        inside = omega (arith, w .1);
-        few = omega (arith, g .few, w .1);
+        row = g .row;
+        length-is = omega (arith, ap length none, length-drop n (needs S m), g .inside, length-map (needs S m) named);
+        short = omega (arith, g .few);
       }
-
-  pub row-filled : k ≡ length named → k ≤ rowSize → RowFilled before at indices after n
-  row-filled all short = record {
-    row = g .row;
-    length-is = omega (arith, left, g .inside, length-map needed (indexOf names));
-    short = omega (arith, g .few);
-  }
 
 -- ---- one more row
 module _ (row : ℕ → List ℕ) (rows counts : List ℕ) (i n : ℕ) {after : List ℕ} (filled : RowFilled rows (rowSize * i) (row i) after n)

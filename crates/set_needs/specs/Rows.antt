@@ -1,11 +1,16 @@
 -- Needs by index: for each delta of a table a row, one behind the other in equal room.
 use mathlib.Core.Path.{_≡_}
+use mathlib.Core.Bool.{Bool, not, _&&_}
 use mathlib.Core.List.{List, [], map}
 use Prim.Native.Nat.{ℕ, suc, _+_, _*_, _≤_, _<_}
 use lib.ListN.{length, getD, take, drop}
 use lib.Seq.{paste}
+use lib.Dec.{eqb}
+use Rattle.model.specs.Lists.{keep}
 use Rattle.model.specs.Layout.{capacity, mostDependencies}
-use Rattle.model.specs.Order.{State, sequencesOf, needs}
+use Rattle.model.specs.Message.{Message, needsOf}
+use Rattle.model.specs.Tops.{covered}
+use Rattle.model.specs.Order.{Origin, State, purged, sequencesOf, needs}
 use Rattle.set_needs.specs.Names.{missing, indexOf}
 
 -- the predecessor and the most dependencies
@@ -20,12 +25,16 @@ rowOf S i = map (indexOf (sequencesOf (S .deltas))) (needs S (getD (S .deltas) i
 abbrev pub rowIn : List ℕ → List ℕ → ℕ → List ℕ
 rowIn rows counts i = take (getD counts i 0) (drop (rowSize * i) rows)
 
+-- What is found of a sequence that a message names: that there is no such delta, and that it is at or below a floor.
+abbrev pub leftOut : Origin → ℕ → ℕ → Bool
+leftOut O s index = eqb index missing && covered (O .floors) s
+
 -- A row as it grows, when k of the sequences that a message names were looked at: n of it stand from a place on, and what is left of its
--- needs is what is left of those sequences.
-pub record RowGrows (before : List ℕ) (at : ℕ) (names needed named : List ℕ) (k : ℕ) (after : List ℕ) (n : ℕ) : Type 0 where
-  pub row : after ≡ paste before at (map (indexOf names) needed) n
-  pub rest : drop n needed ≡ drop k named
-  pub inside : n ≤ length needed
+-- needs is what is left of those sequences, without the ones at or below a floor.
+pub record RowGrows (before : List ℕ) (at : ℕ) (S : State) (m : Message) (k : ℕ) (after : List ℕ) (n : ℕ) : Type 0 where
+  pub row : after ≡ paste before at (map (indexOf (sequencesOf (S .deltas))) (needs S m)) n
+  pub rest : drop n (needs S m) ≡ keep (λ s. not (purged S s)) (drop k (needsOf m))
+  pub inside : n ≤ length (needs S m)
   pub few : n ≤ k
 
 -- What `fill_row` leaves: a row from a place on.

@@ -1,7 +1,7 @@
 -- A start put in at a place: by moving the later ones, and as a message that joins the set.
 use mathlib.Core.Path.{_≡_, refl, sym, _∙_, ap, ap₂, subst}
 use mathlib.Core.Logic.{⊎-elim}
-use mathlib.Core.Bool.{Bool, cond}
+use mathlib.Core.Bool.{Bool, cond, not}
 use mathlib.Core.List.{List, [], _∷_, map}
 use Prim.Native.Nat.{ℕ, zero, suc, _+_, _-_, _≤_, _<_}
 use native.Mathlib.Omega.{arith}
@@ -12,10 +12,10 @@ use lib.Dec.{T, eqb, ltb, ltb→lt, nltb→le}
 use borrow.Author.Tests.{lt-ltb, le-ltb, ne-eqb}
 use Rattle.model.specs.Layout.{capacity}
 use Rattle.model.specs.Message.{Message, sequenceOf, passes}
-use Rattle.model.specs.Order.{insert}
+use Rattle.model.specs.Order.{purged, insert}
 use Rattle.laws_order.specs.TestLaws.{decide}
 use Rattle.laws_state.specs.SetLaws.{insert-from, insert-ascending}
-use Rattle.set_table.specs.Table.{messageFrom, deltasOf, Holds, insertAt}
+use Rattle.set_table.specs.Table.{messageFrom, deltasOf, setIn, Holds, insertAt}
 use Rattle.set_table.specs.TableLaws.{deltas-length}
 use Rattle.set_table.specs.Places.{IsAbsent}
 
@@ -140,11 +140,13 @@ insert-deltas pool at (suc p) (x ∷ l) h =
     ∙ sym (insert-past (messageFrom pool at) (messageFrom pool x) (deltasOf pool l) (h .before 0 (omega arith)))
 
 pub insert-holds : (pool : List ℕ) (at p : ℕ) (l : List ℕ) → Holds pool l → IsAbsent pool l (sequenceOf (messageFrom pool at)) p
-    → T (passes (messageFrom pool at)) → length l < capacity → Holds pool (insertAt p at l)
-insert-holds pool at p l holds h t q = record {
+    → T (passes (messageFrom pool at)) → T (not (purged (setIn pool l) (sequenceOf (messageFrom pool at)))) → length l < capacity → Holds pool (insertAt p at l)
+insert-holds pool at p l holds h t v q = record {
   ascends = rw e (insert-ascending m (deltasOf pool l) (holds .ascends));
   fits = omega (arith, deltas-length pool (insertAt p at l), length-insert p at l (h .inside));
   pass = λ x k. ⊎-elim (λ u. rw u t) (λ j. holds .pass x j) (insert-from m (deltasOf pool l) x (rw e at k));
+  above = λ x k. ⊎-elim (λ u. rw u v) (λ j. holds .above x j) (insert-from m (deltasOf pool l) x (rw e at k));
+  right = holds .right;
 }
   where
     m : Message

@@ -12,7 +12,7 @@ use Rattle.model.specs.Layout.{lengthAt}
 use Rattle.model.specs.Message.{Message, passes}
 use Rattle.model.specs.Order.{holding}
 use Rattle.model.specs.Image.{Valid, originIn}
-use Rattle.laws_wire.specs.BytesLaws.{take-drop-take, field-part}
+use Rattle.laws_wire.specs.BytesLaws.{part-agrees, field-part}
 use Rattle.laws_wire.specs.MessageLaws.{Sized, passes-sized, sized-range}
 use Rattle.set_table.specs.Table.{messageFrom, deltasOf, Holds}
 use Rattle.set_table.specs.TableLaws.{Lies, passes-lies}
@@ -22,15 +22,11 @@ abbrev pub EndsBy : List ℕ → ℕ → ℕ → Type 0
 EndsBy pool n at = at + field pool (at + lengthAt) 2 ≤ n
 
 module _ (a b : List ℕ) (n : ℕ) (agree : take n a ≡ take n b) where
-  part-agrees : (i size : ℕ) → i + size ≤ n → take size (drop i b) ≡ take size (drop i a)
-  part-agrees i size h =
-      sym (take-drop-take n i size b h) ∙ ap (λ (l : List ℕ). take size (drop i l)) (sym agree) ∙ take-drop-take n i size a h
-
   pub message-agrees : (at : ℕ) → T (passes (messageFrom a at)) → EndsBy a n at → messageFrom b at ≡ messageFrom a at
   message-agrees at t h =
       let l : Lies a at = passes-lies a at t in
-      let e : field b (at + lengthAt) 2 ≡ field a (at + lengthAt) 2 = ap number (part-agrees (at + lengthAt) 2 (omega arith)) in
-      ap (λ (size : ℕ). take size (drop at b)) e ∙ part-agrees at (field a (at + lengthAt) 2) h
+      let e : field b (at + lengthAt) 2 ≡ field a (at + lengthAt) 2 = ap number (part-agrees a b n agree (at + lengthAt) 2 (omega arith)) in
+      ap (λ (size : ℕ). take size (drop at b)) e ∙ part-agrees a b n agree at (field a (at + lengthAt) 2) h
 
   deltas-agree-each : (starts : List ℕ) → ((m : Message) → m ∈ deltasOf a starts → T (passes m)) → ((at : ℕ) → at ∈ starts → EndsBy a n at)
       → deltasOf b starts ≡ deltasOf a starts

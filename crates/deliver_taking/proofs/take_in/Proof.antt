@@ -1,152 +1,55 @@
--- The message's sequence is looked for; what is there under it is compared, and a new one is taken in at its place, where there is room.
-use mathlib.Core.Path.{_≡_, sym, _∙_, subst}
-use Prim.Native.Nat.{ℕ, _≤_, _<_}
+-- The floors decide first: what is at or below one is done with, and any other is taken in.
+use mathlib.Core.Path.{_≡_, sym, _∙_, ap}
+use mathlib.Core.Bool.{not}
 use native.Mathlib.Omega.{arith}
-use lib.ListN.{length}
-use lib.Seq.{length-take-le}
-use borrow.Author.Tests.{ltb-true}
-use Rattle.model.specs.Layout.{capacity}
-use Rattle.model.specs.Message.{sequenceOf}
-use Rattle.laws_wire.specs.MessageLaws.{passes-sized, sized-range}
-use Rattle.message_header.specs.Check.{right}
-use Rattle.laws_codes.specs.Ladder.{tells}
-use Rattle.set_table.specs.Table.{startsOf}
-use Rattle.set_table.specs.Places.{IsAbsent, Finds}
-use Rattle.deliver_taking.specs.PlaceCases.{conflict, repeated, filled, joins}
 use borrow.Author.Needs.{needs}
+use Rattle.model.specs.Message.{sequenceOf}
+use Rattle.model.specs.Order.{purged}
+use Rattle.model.specs.Image.{stateIn}
+use Rattle.laws_order.specs.TestLaws.{true-T}
+use Rattle.laws_wire.specs.MessageLaws.{passes-sized, sized-range}
+use Rattle.deliver_taking.specs.PlaceCases.{below}
 use Rattle.deliver_taking.proofs.take_in.Statement.{statement}
 use Rattle.deliver_taking.proofs.take_in.Tie as tie
 
--- the array's length, and the places in use, which are as many as the table says
-array : (s : tie.Start) → length (s .args .station .table .starts) ≡ capacity
-array s = search needs
-
-within : (s : tie.Start) → s .args .station .table .count ≤ length (s .args .station .table .starts)
-within s = let fits : s .args .station .table .count ≤ capacity = s .pre .judged .table .fits in omega (arith, array s)
-
-used : (s : tie.Start) → s .args .station .table .count ≡ length (startsOf (s .args .station .table))
-used s = sym (length-take-le (s .args .station .table .count) (s .args .station .table .starts) (within s))
-
--- the call as it began, from where the sequence is looked for; and that, from where a repeat is checked
-abbrev start : tie.After-find → tie.Start
-start f = f .before .before .before .before .before .before .before .before .before .before
-
-abbrev sought : tie.After-check-repeat → tie.After-find
-sought r = r .before .before .before
-
-abbrev begun : tie.After-check-repeat → tie.Start
-begun r = start (sought r)
-
--- where a repeat is checked, from where the sequence is known to be new; and the room, from where it is known
-abbrev checked : tie.After-known-told → tie.After-check-repeat
-checked k = k .before .before .before .before .before
-
-abbrev new : tie.After-check-room → tie.After-known-told
-new m = m .before
-
--- what was found, of the message's own sequence
-found : (f : tie.After-find) → Finds (start f .args .image .now) (startsOf (start f .args .station .table)) (sequenceOf (start f .args .message .now)) (f .find .result)
-found f =
-    let a = start f .args in
-    subst (λ (n : ℕ). Finds (a .image .now) (startsOf (a .station .table)) n (f .find .result)) (f .before .before .before .read-sequence .ensures) (f .find .ensures)
-
--- the sequence is new
-absent : (k : tie.After-known-told) → let a = begun (checked k) .args in IsAbsent (a .image .now) (startsOf (a .station .table)) (sequenceOf (a .message .now)) (k .before .place .given .0 .0)
-absent k =
-    let a = begun (checked k) .args in
-    subst (Finds (a .image .now) (startsOf (a .station .table)) (sequenceOf (a .message .now))) (k .before .place .given .1) (found (sought (checked k)))
-
 read-sequence-requires : tie.Need-read-sequence-requires
 read-sequence-requires c κs =
-    let s = c .before .before .before .before .before .before in
+    let s = c .before .before .before .before in
     let m = s .args .message .now in
     omega (arith, sized-range m (passes-sized m (s .pre .right)))
 
-array-share-prefix-starts : tie.Need-array-share-prefix-starts
-array-share-prefix-starts c = within (c .before .before .before .before .before .before .before .before)
+-- where the sequence was read, and the call as it began
+abbrev read : tie.After-is-purged → tie.After-read-sequence
+read c = c .before .before
 
-slice-aggregate-find : tie.Need-slice-aggregate-find
-slice-aggregate-find c = used (c .before .before .before .before .before .before .before .before .before)
+abbrev start : tie.After-is-purged → tie.Start
+start c = read c .before .before .before .before .before
 
-array-share-prefix-starts-2 : tie.Need-array-share-prefix-starts-2
-array-share-prefix-starts-2 c = within (start (c .before))
-
-slice-aggregate-check-repeat : tie.Need-slice-aggregate-check-repeat
-slice-aggregate-check-repeat c = used (start (c .before .before))
-
-check-repeat-requires : tie.Need-check-repeat-requires
-check-repeat-requires c κs = let f = c .before .before in (start f .pre .judged .table .holds, found f)
+told : (c : tie.After-is-purged) → c .is-purged .result ≡ purged (stateIn (start c .args .image .now)) (sequenceOf (start c .args .message .now))
+told c = c .is-purged .ensures ∙ ap (purged (stateIn (start c .args .image .now))) (read c .read-sequence .ensures)
 
 returns : tie.Need-returns
 returns c =
-    let r = c .before .before in
-    let s = begun r in
+    let s = start (c .before) in
     let a = s .args in
-    conflict (a .image .now) (a .message .now) (a .steps .now) (a .pool .now) (a .station) (s .pre) (tells right (c .enum-told2 .given .1) (r .check-repeat .ensures))
+    below (a .image .now) (a .message .now) (a .steps .now) (a .pool .now) (a .station) (s .pre) (true-T _ (sym (told (c .before)) ∙ c .if1 .taken))
 
-returns-2 : tie.Need-returns-2
-returns-2 c =
-    let t = c .before .before in
-    let r = t .before .before in
-    let s = begun r in
-    let a = s .args in
-    repeated (a .image .now) (a .message .now) (a .steps .now) (a .pool .now) (a .station) (s .pre)
-    (subst (Finds (a .image .now) (startsOf (a .station .table)) (sequenceOf (a .message .now))) (c .enum-told3 .given .1) (found (sought r)))
-    (tells right (t .enum-told .given .1) (r .check-repeat .ensures))
-
-returns-3 : tie.Need-returns-3
-returns-3 c =
-    let m = c .before .before in
-    let s = begun (checked (new m)) in
-    let a = s .args in
-    filled (a .image .now) (a .message .now) (a .steps .now) (a .pool .now) (a .station) (s .pre) (absent (new m)) (array s) (tells right (c .enum-told5 .given .1) (m .check-room .ensures))
-
--- there is room
-few : (c : tie.After-enum-told4) → begun (checked (new (c .before .before))) .args .station .table .count < capacity
-few c = ltb-true _ capacity (sym (tells right (c .enum-told4 .given .1) (c .before .before .check-room .ensures)))
-
-accept-requires : tie.Need-accept-requires
-accept-requires c κs =
-    let t = c .before .before .before in
-    let k = new (t .before .before) in
-    let pre = begun (checked k) .pre in
-    record { size = pre .size; steps-room = pre .steps-room; judged = pre .judged; few = few t; right = pre .right; absent = absent k; pool-size = pre .pool-size; pooled = pre .pooled }
-
-returns-4 : tie.Need-returns-4
-returns-4 c =
-    let accepted = c .before .before .before .before .before .before in
-    let t = accepted .before .before .before .before in
-    let k = new (t .before .before) in
-    let s = begun (checked k) in
-    let a = s .args in
-    accepted .accept .ensures ∙ joins (a .image .now) (a .message .now) (a .steps .now) (a .pool .now) (a .station) (s .pre) (absent k) (array s) (few t)
+take-above-requires : tie.Need-take-above-requires
+take-above-requires c κs =
+    let left = c .before .before .before in
+    let asked = left .before in
+    (start asked .pre, read asked .read-sequence .ensures, true-T _ (ap not (sym (told asked) ∙ left .if1 .left)))
 
 pub take-in-spec : {M : Type 1} → statement M
 take-in-spec =
     tie.close
     (tie.spec
     read-sequence-requires
-    array-share-prefix-starts
-    slice-aggregate-find
     (λ c κs. search needs)
-    array-share-prefix-starts-2
-    slice-aggregate-check-repeat
-    check-repeat-requires
-    (λ c. search needs)
-    (λ c. search needs)
     (λ c. search needs)
     returns
+    take-above-requires
     (λ c. search needs)
     (λ c. search needs)
     (λ c. search needs)
-    returns-2
-    (λ c κs. search needs)
-    (λ c. search needs)
-    (λ c. search needs)
-    (λ c. search needs)
-    returns-3
-    accept-requires
-    (λ c. search needs)
-    (λ c. search needs)
-    (λ c. search needs)
-    returns-4)
+    (λ c. search needs))

@@ -1,4 +1,4 @@
--- The messages stand where they start, and the header and the values before them.
+-- The messages stand where they start, and the header, the values and what the pool begins with before them.
 use mathlib.Core.Path.{_≡_, _∙_, ap, subst}
 use Prim.Native.Nat.{ℕ, _+_, _-_, _≤_}
 use native.Mathlib.Omega.{arith}
@@ -8,6 +8,7 @@ use borrow.Author.Needs.{needs}
 use Rattle.model.specs.Layout.{imageSize, capacity, setpointsStart}
 use Rattle.model.specs.Order.{State}
 use Rattle.model.specs.Image.{messagesStart, messagesOf}
+use Rattle.laws_origin.specs.OriginLaws.{room-of, header-room}
 use Rattle.laws_state.specs.ImageLaws.{messages-room}
 use Rattle.set_table.specs.Table.{setIn}
 use Rattle.set_table.specs.StartLaws.{start-in}
@@ -30,7 +31,7 @@ found m = m .before .before
 abbrev started : tie.After-put-messages → tie.After-messages-start
 started u = u .before .before .before .before
 
-abbrev copied : tie.After-put-image-header-arg → tie.After-put-messages
+abbrev copied : tie.After-put-header-arg → tie.After-put-messages
 copied c = c .before .before .before
 
 abbrev set : tie.After-held-places → State
@@ -87,23 +88,36 @@ put-messages-requires c κs =
     let size = begun h .pre .room in
     (record { logged = logged h; held = others-are h }, omega (arith, room m))
 
-cast-put-image-header : tie.Need-cast-put-image-header
-cast-put-image-header c =
+cast-put-header : tie.Need-cast-put-header
+cast-put-header c =
     let s = begun (found (started (copied c))) in
     omega (arith, log-fits (s .args .pool .now) (s .args .starts .now) (s .args .places .now) (s .pre .logged))
 
-cast-put-image-header-2 : tie.Need-cast-put-image-header-2
-cast-put-image-header-2 c = omega (arith, held-count (found (started (copied c))))
+cast-put-header-2 : tie.Need-cast-put-header-2
+cast-put-header-2 c = omega (arith, held-count (found (started (copied c))))
 
-cast-put-image-header-3 : tie.Need-cast-put-image-header-3
-cast-put-image-header-3 c = omega (arith, room (started (copied c)))
+cast-put-header-3 : tie.Need-cast-put-header-3
+cast-put-header-3 c = omega (arith, room (started (copied c)))
 
-cast-put-image-header-4 : tie.Need-cast-put-image-header-4
-cast-put-image-header-4 c = omega (arith, used-fits (copied c))
+cast-put-header-4 : tie.Need-cast-put-header-4
+cast-put-header-4 c = omega (arith, used-fits (copied c))
+
+put-origin-requires : tie.Need-put-origin-requires
+put-origin-requires c κs =
+    let valued = c .before .before .before in
+    let headed = valued .before .before .before .before in
+    let u = headed .before .before .before .before in
+    let m = started u in
+    let s = begun (found m) in (
+      m .messages-start .ensures,
+      omega (arith, m .messages-start .ensures, room-of (s .args .pool .now) (s .pre .logged .holds .right)),
+      omega (arith, room m, s .pre .room, u .put-messages .kept .0, headed .put-header .kept .0, valued .put-values .kept .0),
+    )
 
 returns : tie.Need-returns
 returns c =
-    let valued = c .before .before in
+    let whole = c .before .before in
+    let valued = whole .before .before .before .before in
     let headed = valued .before .before .before .before in
     let u = headed .before .before .before .before in
     let m = started u in
@@ -112,12 +126,13 @@ returns c =
     let S = set h in
     used-written S (logged h .holds) (begun h .pre .room)
     (subst (λ (n : ℕ). Copied (a .out .now) n (messagesOf S) (u .put-messages .last .0) (u .put-messages .result)) (start-is m) (u .put-messages .ensures))
-    (headed .put-image-header .ensures
+    (headed .put-header .ensures
     ∙ ap (pasted (u .put-messages .last .0) 0)
     (header-is S (log-count (a .pool .now) (a .starts .now) (a .places .now) (logged h))
     (h .held-places .ensures .size ∙ others-count (a .pool .now) (a .starts .now) (a .places .now) (logged h)) (start-is m) (u .put-messages .ensures .end)))
-    (valued .put-values .ensures ∙ values-are S (headed .put-image-header .last .0) setpointsStart
+    (valued .put-values .ensures ∙ values-are S (logged h .holds) (headed .put-header .last .0) setpointsStart
     (log-values (a .pool .now) (a .starts .now) (a .places .now) (h .before .run-log .result) (logged h) (h .before .run-log .ensures)))
+    (whole .put-origin .ensures)
 
 pub write-used-spec : {M : Type 1} → statement M
 write-used-spec =
@@ -125,16 +140,17 @@ write-used-spec =
     (tie.spec
     run-log-requires
     held-places-requires
-    (λ c κs. search needs)
+    (λ c κs. let s = begun (c .before) in header-room (s .args .pool .now) (s .pre .logged .holds .right))
     (λ c. search needs)
     (λ c. search needs)
     part-put-messages-end
     put-messages-requires
-    cast-put-image-header
-    cast-put-image-header-2
-    cast-put-image-header-3
-    cast-put-image-header-4
+    cast-put-header
+    cast-put-header-2
+    cast-put-header-3
+    cast-put-header-4
+    (λ c κs. (begun (found (started (copied c))) .pre .logged .holds .right, search needs))
     (λ c κs. search needs)
-    (λ c κs. search needs)
+    put-origin-requires
     (λ c. search needs)
     returns)

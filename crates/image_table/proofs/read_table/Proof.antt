@@ -13,7 +13,7 @@ use Rattle.set_table.specs.TableLaws.{Lies}
 use Rattle.image_walk.specs.Walk.{countIn}
 use Rattle.image_walk.specs.WalkLaws.{walked-message, walked-passes, walked-lies}
 use Rattle.image_table.specs.TableReading.{TakesIn}
-use Rattle.image_table.specs.ReadingLaws.{Gathered, gathered-none, gathered-all, gathered-set, gathered-twice, gathered-next, wrong-reads}
+use Rattle.image_table.specs.ReadingLaws.{Gathered, gathered-none, gathered-all, gathered-set, gathered-unfit, gathered-next, wrong-reads}
 use Rattle.image_table.proofs.read_table.Statement.{statement}
 use Rattle.image_table.proofs.read_table.Tie as tie
 
@@ -48,7 +48,7 @@ lies : (i : tie.In-loop Inv-loop μ-loop) → Lies (bytes (i .before)) (offset (
 lies i = let s = start (i .before) in walked-lies (s .args .b .now) (countIn (s .args .b .now)) (s .args .offsets .now) (s .pre .1 .pass) (s .pre .2) (i .before .loop .count) (more i) (omega arith)
 
 loop-holds : tie.Need-loop-holds Inv-loop μ-loop
-loop-holds c = (omega arith, refl, gathered-none (c .before .before .args .b .now))
+loop-holds c = (omega arith, refl, gathered-none (c .before .before .args .b .now) (c .before .before .pre .3))
 
 cast-read-sequence : tie.Need-cast-read-sequence Inv-loop μ-loop
 cast-read-sequence c = omega (arith, lies (c .before), start (head c) .pre .0)
@@ -98,7 +98,7 @@ returns c =
     let h = taking t in
     let l = h .loop in
     wrong-reads (bytes h) (c .refuse .result) (c .refuse .ensures)
-    (gathered-twice (bytes h) (l .count) (take (l .count) (l .starts)) (l .inv .2) (more (turn t)) (offset h) (here t) (taken t (c .before .enum-told2 .given .1)))
+    (gathered-unfit (bytes h) (l .count) (take (l .count) (l .starts)) (l .inv .2) (more (turn t)) (offset h) (here t) (taken t (c .before .enum-told2 .given .1)))
 
 loop-again : tie.Need-loop-again Inv-loop μ-loop
 loop-again c =

@@ -63,10 +63,10 @@ returns c =
 loop-holds : tie.Need-loop-holds Inv-loop μ-loop
 loop-holds c =
     let b = begun c .args .b .now in
-    (omega arith, c .before .before .before .before .count-messages .ensures, few c, refl, walking-first b _ (begun c .pre) (c .messages-start .ensures))
+    (omega arith, c .before .before .before .before .count-messages .ensures, few c, refl, walking-first b _ (begun c .pre .1) (c .messages-start .ensures))
 
 find-end-requires : tie.Need-find-end-requires Inv-loop μ-loop
-find-end-requires c κs = (start (c .before) .pre, c .before .loop .inv .4 .inside)
+find-end-requires c κs = (start (c .before) .pre .0, c .before .loop .inv .4 .inside)
 
 returns-2 : tie.Need-returns-2 Inv-loop μ-loop
 returns-2 c =
@@ -84,7 +84,7 @@ lies : (k : tie.After-known-told Inv-loop μ-loop) → let h = head (sought k) i
 lies k = let h = head (sought k) in passes-lies (bytes h) (h .loop .at) (ended k .0)
 
 cast-offsets : tie.Need-cast-offsets Inv-loop μ-loop
-cast-offsets c = omega (arith, lies c, start (head (sought c)) .pre)
+cast-offsets c = omega (arith, lies c, start (head (sought c)) .pre .0)
 
 loop-again : tie.Need-loop-again Inv-loop μ-loop
 loop-again c =
@@ -95,7 +95,7 @@ loop-again c =
     (omega arith, l .inv .1, l .inv .2, length-set (l .offsets) (l .count) (l .at) ∙ l .inv .3, subst (λ (n : ℕ). Walking b (set (l .offsets) (l .count) (l .at)) n (l .count + 1)) (sym (ended c .1)) w)
 
 check-used-requires : tie.Need-check-used-requires Inv-loop μ-loop
-check-used-requires c κs = omega (arith, start (c .before) .pre)
+check-used-requires c κs = omega (arith, start (c .before) .pre .0)
 
 returns-3 : tie.Need-returns-3 Inv-loop μ-loop
 returns-3 c =

@@ -44,7 +44,7 @@ abbrev inside : tie.After-put-line Inv-loop μ-loop → tie.Then1 Inv-loop μ-lo
 inside p = p .before .before .before
 
 loop-holds : tie.Need-loop-holds Inv-loop μ-loop
-loop-holds c = let s = c .before .before .before in printing-first {b = s .args .image .now} {entry = s .args .out .now} (c .start-offset .ensures)
+loop-holds c = let s = c .before .before .before in printing-first {b = s .args .image .now} {entry = s .args .out .now} (s .pre .0) (c .start-offset .ensures)
 
 put-line-requires : tie.Need-put-line-requires Inv-loop μ-loop
 put-line-requires c κs =

@@ -4,7 +4,6 @@ use mathlib.Core.List.{List}
 use Prim.Native.Nat.{_+_, _-_, _≤_, _<_}
 use native.Mathlib.Omega.{arith}
 use lib.ListN.{length, drop}
-use borrow.Author.Needs.{needs}
 use Rattle.model.specs.Message.{Message}
 use Rattle.model.specs.Setpoints.{runDelta, runLog}
 use Rattle.set_table.specs.Table.{deltasOf, deltasAt}
@@ -72,7 +71,7 @@ run-log-spec =
     (tie.spec
     Inv-loop
     μ-loop
-    (λ c κs. search needs)
+    (λ c κs. c .before .before .before .pre .holds .right)
     loop-holds
     delta-at-requires
     run-message-requires

@@ -1,0 +1,3 @@
+pub mod Origins
+pub mod ZeroLaws
+pub mod OriginParts
