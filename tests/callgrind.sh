@@ -13,6 +13,7 @@ set -eu
 cases='chain-latest-0 chain-latest-63 chain-earliest-63 waiting-first-63
 lone-latest-63 priority-latest-63 priority-earliest-63 fan-latest-63 fan-earliest-63
 needs-latest-63 longest-latest-63 ring200-held-63 longest-code8-64
+chain32-latest-63 longest32-latest-63 ring32-held-63
 chain-code2-64 log-begin-64 log-end-64 log-whole-64 log-code2-64
 read-right-1 read-right-8 read-code13-8 read-code14-8
 write-right-1 write-right-8 write-code14-8'

@@ -33,6 +33,8 @@ pub enum View {
 #[derive(Clone, Debug, PartialEq, Eq)]
 pub enum Action {
     Empty,
+    /// No call: the station's image becomes this one.
+    Begin(Vec<u8>),
     Deliver {
         message: Vec<u8>,
         steps: usize,
@@ -172,6 +174,7 @@ impl World {
         let image = self.view(&call.view);
         match &call.action {
             Action::Empty => empty(calls, image),
+            Action::Begin(image) => read(0, image.clone()),
             Action::Deliver { message, steps } => deliver(calls, image, message, *steps),
             Action::DeliverComposed { steps } => deliver(calls, image, &self.composed, *steps),
             Action::Compose(composing) => compose(calls, image, composing.clone()),

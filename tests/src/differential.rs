@@ -166,7 +166,7 @@ pub fn trace(one: &dyn Calls, two: &dyn Calls, calls: &[Call]) -> String {
 /// A packed answer taken apart.
 fn answer(call: &Call, packed: u64) -> String {
     let parts = match call.action {
-        Action::Empty => String::new(),
+        Action::Empty | Action::Begin(_) => String::new(),
         Action::Compose(_) | Action::ReadSequences { .. } | Action::WriteSequences { .. } => {
             format!(" length {}", length(packed))
         }
@@ -187,6 +187,10 @@ fn describe(call: &Call) -> String {
     let action = match &call.action {
         Action::Deliver { message, steps } => {
             format!("Deliver steps {steps} message {}", hex(message))
+        }
+        Action::Begin(image) => {
+            let used = image.iter().rposition(|byte| *byte != 0);
+            format!("Begin {}", hex(&image[..used.map_or(0, |last| last + 1)]))
         }
         Action::Compose(composing) => composing.to_string(),
         Action::ReadSequences { text, room } => {

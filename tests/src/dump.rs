@@ -25,13 +25,18 @@ const MESSAGE: [(usize, usize, &str); 15] = [
 ];
 
 /// The same of an image's header.
-const IMAGE: [(usize, usize, &str); 6] = [
+const IMAGE: [(usize, usize, &str); 11] = [
     (0, 2, "log count"),
     (2, 2, "held count"),
     (4, 2, "offset of setpoints"),
     (6, 2, "offset of messages"),
     (8, 2, "bytes used"),
-    (10, 6, ""),
+    (10, 2, "floors"),
+    (12, 2, "offset of floors"),
+    (14, 2, "offset of base values"),
+    (16, 4, "greatest purged effective block"),
+    (20, 4, "greatest purged group"),
+    (24, 8, ""),
 ];
 
 /// A delta of group 1, by the letter of its line.

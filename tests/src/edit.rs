@@ -1,6 +1,7 @@
 //! Edits of an image: damage of every kind, and changes that leave it an image.
 
-use crate::wire::{Draft, Line};
+use crate::view::{BASE, FLOORS, SETPOINTS};
+use crate::wire::{Draft, Line, Sequence};
 
 /// One change of an image buffer. Places and offsets beyond what there is wrap round.
 #[derive(Clone, Debug, PartialEq, Eq)]
@@ -13,6 +14,12 @@ pub enum Edit {
     Header(usize, u16),
     /// Adds to a setpoint.
     Setpoint(usize, i32),
+    /// Adds to a base value.
+    Base(usize, i32),
+    /// Makes a base value and its setpoint this one.
+    BaseAndSetpoint(usize, i32),
+    /// Makes the four-byte number at an offset of the header this one.
+    Word(usize, u32),
     /// Exclusive-ors a byte past the used part.
     Tail(usize, u8),
     /// Exclusive-ors a byte of a message.
@@ -29,6 +36,16 @@ pub enum Edit {
     Border(bool),
     /// Adds held deltas until there are so many.
     Fill(usize),
+    /// Exclusive-ors a byte of a floor.
+    Floor(usize, usize, u8),
+    /// Exchanges two floors.
+    SwapFloors(usize, usize),
+    /// Repeats a floor right after itself, with header and messages made to match.
+    DoubleFloor(usize),
+    /// Leaves a floor out, with header and messages made to match.
+    DropFloor(usize),
+    /// Adds a floor in its place by line and number, with header and messages made to match.
+    AddFloor(Sequence),
 }
 
 /// A line above those of the generator, for `Fill`.
@@ -44,7 +61,14 @@ impl Edit {
                 let sum = number(image, at).wrapping_add(add);
                 put(image, at, &sum.to_be_bytes());
             }
-            Edit::Setpoint(tag, add) => edit_setpoint(image, tag % 64, add),
+            Edit::Setpoint(tag, add) => edit_value(image, SETPOINTS + 4 * (tag % 64), add),
+            Edit::Base(tag, add) => edit_value(image, BASE + 4 * (tag % 64), add),
+            Edit::BaseAndSetpoint(tag, value) => {
+                for start in [BASE, SETPOINTS] {
+                    put(image, start + 4 * (tag % 64), &value.to_be_bytes());
+                }
+            }
+            Edit::Word(at, word) => put(image, at, &word.to_be_bytes()),
             Edit::Tail(at, bits) => {
                 let used = usize::from(number(image, 8)).min(image.len());
                 let room = (image.len() - used).max(1);
@@ -55,13 +79,17 @@ impl Edit {
                 Edit::Header(0, step.wrapping_neg()).apply(image);
                 Edit::Header(2, step).apply(image);
             }
-            _ => self.apply_to_messages(image),
+            _ => {
+                let mut parts = Parts::of(image);
+                self.apply_to_messages(&mut parts);
+                self.apply_to_floors(&mut parts);
+                parts.write(image);
+            }
         }
     }
 
     /// The edits of whole messages.
-    fn apply_to_messages(&self, image: &mut [u8]) {
-        let mut parts = Parts::of(image);
+    fn apply_to_messages(&self, parts: &mut Parts) {
         let count = parts.messages.len();
         if count > 0 {
             match *self {
@@ -80,23 +108,45 @@ impl Edit {
         if let Edit::Fill(wanted) = *self {
             parts.fill(wanted);
         }
-        parts.write(image);
+    }
+
+    /// The edits of whole floors.
+    fn apply_to_floors(&self, parts: &mut Parts) {
+        let floors = &mut parts.floors;
+        let count = floors.len();
+        match *self {
+            Edit::AddFloor(floor) => {
+                let place = floors.iter().filter(|other| **other < floor).count();
+                floors.insert(place, floor);
+            }
+            _ if count == 0 => {}
+            Edit::Floor(place, at, bits) => flip(&mut floors[place % count], at % 12, bits),
+            Edit::SwapFloors(one, two) => floors.swap(one % count, two % count),
+            Edit::DoubleFloor(place) => floors.insert(place % count, floors[place % count]),
+            Edit::DropFloor(place) => drop(floors.remove(place % count)),
+            _ => {}
+        }
     }
 }
 
-/// Counts and messages of an image.
+/// Counts, floors and messages of an image.
 struct Parts {
     log: usize,
     held: usize,
+    floors: Vec<Sequence>,
     messages: Vec<Vec<u8>>,
 }
 
 impl Parts {
-    /// The messages as far as their lengths can be followed.
+    /// The floors as far as the image goes, the messages as far as their lengths can be
+    /// followed.
     fn of(image: &[u8]) -> Parts {
         let (log, held) = (usize::from(number(image, 0)), usize::from(number(image, 2)));
+        let floors = image.get(FLOORS..).unwrap_or(&[]).chunks_exact(12);
+        let floors = floors.take(usize::from(number(image, 10)));
+        let floors: Vec<Sequence> = floors.filter_map(|floor| floor.try_into().ok()).collect();
         let mut messages = Vec::new();
-        let mut at = 272;
+        let mut at = FLOORS + 12 * floors.len();
         for _ in 0..(log + held).min(100) {
             let length = usize::from(number(image, at + 4));
             match image.get(at..at + length) {
@@ -108,6 +158,7 @@ impl Parts {
         Parts {
             log,
             held,
+            floors,
             messages,
         }
     }
@@ -143,23 +194,25 @@ impl Parts {
         }
     }
 
-    /// Writes counts, used part and messages; the rest becomes zero.
+    /// Writes counts, offset of messages, used part, floors and messages; the rest becomes zero.
     fn write(&self, image: &mut [u8]) {
-        let bytes = self.messages.concat();
-        let used = 272 + bytes.len();
-        put(image, 0, &(self.log as u16).to_be_bytes());
-        put(image, 2, &(self.held as u16).to_be_bytes());
-        put(image, 8, &(used as u16).to_be_bytes());
-        if let Some(tail) = image.get_mut(272..) {
+        let (floors, messages) = (self.floors.concat(), self.messages.concat());
+        let first = FLOORS + floors.len();
+        let used = first + messages.len();
+        let numbers = [(0, self.log), (2, self.held), (6, first), (8, used)];
+        for (at, number) in numbers.into_iter().chain([(10, self.floors.len())]) {
+            put(image, at, &(number as u16).to_be_bytes());
+        }
+        if let Some(tail) = image.get_mut(FLOORS..) {
             tail.fill(0);
         }
-        put(image, 272, &bytes);
+        put(image, FLOORS, &floors);
+        put(image, first, &messages);
     }
 }
 
-/// Adds to a setpoint without a stop.
-fn edit_setpoint(image: &mut [u8], tag: usize, add: i32) {
-    let at = 16 + 4 * tag;
+/// Adds to a setpoint or a base value without a stop.
+fn edit_value(image: &mut [u8], at: usize, add: i32) {
     if let Some(bytes) = image.get(at..at + 4) {
         let old = bytes.iter().fold(0_u32, |n, b| n << 8 | u32::from(*b));
         let new = old.wrapping_add(add as u32);

@@ -18,5 +18,6 @@ pub mod picture;
 pub mod plant;
 pub mod random;
 pub mod reference;
+pub mod sketch;
 pub mod view;
 pub mod wire;

@@ -15,9 +15,37 @@ pub fn u32_at(bytes: &[u8], at: usize) -> u32 {
         .fold(0, |n, b| n * 256 + u32::from(*b))
 }
 
+/// Where the values of an image begin.
+pub const SETPOINTS: usize = 32;
+/// Where its base values begin.
+pub const BASE: usize = 288;
+/// Where its floors begin, of twelve bytes each.
+pub const FLOORS: usize = 544;
+
+/// How many floors an image has.
+pub fn floor_count(image: &[u8]) -> usize {
+    u16_at(image, 10)
+}
+
+/// Where the messages of an image begin.
+pub fn first_message(image: &[u8]) -> usize {
+    FLOORS + 12 * floor_count(image)
+}
+
+/// The floors of an image, each as the sequence of its line and highest purged number.
+pub fn floors(image: &[u8]) -> Vec<Sequence> {
+    let floors = image[FLOORS..first_message(image)].chunks(12);
+    floors.map(sequence_of_bytes).collect()
+}
+
+/// Twelve bytes as a sequence; zeros where there are not twelve.
+fn sequence_of_bytes(bytes: &[u8]) -> Sequence {
+    bytes.try_into().unwrap_or([0; 12])
+}
+
 /// The messages of an image: `skip` are left out, `take` are given.
 pub fn messages(image: &[u8], skip: usize, take: usize) -> Vec<Vec<u8>> {
-    let mut at = 272;
+    let mut at = first_message(image);
     let mut all = Vec::new();
     for _ in 0..skip + take {
         let length = u16_at(image, at + 4);
@@ -40,15 +68,23 @@ pub fn log(image: &[u8]) -> Vec<Sequence> {
 
 /// Bytes 12-23 of a message; zeros where they are missing.
 pub fn sequence_of(message: &[u8]) -> Sequence {
-    let found = message.get(12..24).and_then(|part| part.try_into().ok());
-    found.unwrap_or([0; 12])
+    sequence_of_bytes(message.get(12..24).unwrap_or(&[]))
 }
 
 /// The 64 values of an image, by tag.
 pub fn values(image: &[u8]) -> [i32; 64] {
+    values_at(image, SETPOINTS)
+}
+
+/// The 64 base values of an image, by tag.
+pub fn base_values(image: &[u8]) -> [i32; 64] {
+    values_at(image, BASE)
+}
+
+fn values_at(image: &[u8], at: usize) -> [i32; 64] {
     let mut values = [0; 64];
     for (tag, value) in values.iter_mut().enumerate() {
-        *value = u32_at(image, 16 + 4 * tag) as i32;
+        *value = u32_at(image, at + 4 * tag) as i32;
     }
     values
 }

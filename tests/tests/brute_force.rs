@@ -6,32 +6,50 @@
 mod common;
 
 use std::cmp::Ordering;
-use std::collections::{BTreeSet, VecDeque};
+use std::collections::{BTreeMap, BTreeSet, VecDeque};
 
 use bivamolune_tests::boundary::{code, executions, undos, Calls};
 use bivamolune_tests::generate::drafts;
 use bivamolune_tests::random::Random;
-use bivamolune_tests::wire::{sequence, Draft, Sequence};
+use bivamolune_tests::sketch::Sketch;
+use bivamolune_tests::wire::{sequence, Draft, Line, Sequence};
 use common::{messages, Station, STEPS, SUBJECT};
 
-/// "A delta needs its dependencies and its predecessor."
-fn needs(draft: &Draft) -> Vec<Sequence> {
+/// What was purged before a set: floors as sequences, and the greatest effective block.
+#[derive(Default)]
+struct Past {
+    floors: Vec<Sequence>,
+    block: u32,
+}
+
+impl Past {
+    /// Whether a sequence is at or below a floor.
+    fn has(&self, own: &Sequence) -> bool {
+        let mut floors = self.floors.iter();
+        floors.any(|floor| floor[..10] == own[..10] && floor[10..] >= own[10..])
+    }
+}
+
+/// "A delta needs its dependencies and its predecessor", of which those at or below a floor
+/// count as placed.
+fn needs(past: &Past, draft: &Draft) -> Vec<Sequence> {
     let mut needs = draft.dependencies.clone();
     if draft.number > 1 {
         needs.push(sequence(draft.line, draft.number - 1));
     }
+    needs.retain(|need| !past.has(need));
     needs
 }
 
 /// All listings without repeats in which each one's needs come earlier.
-fn listings(set: &[Draft]) -> Vec<Vec<usize>> {
+fn listings(past: &Past, set: &[Draft]) -> Vec<Vec<usize>> {
     let mut all = vec![Vec::new()];
     let mut done = 0;
     while done < all.len() {
         let listing: Vec<usize> = all[done].clone();
         let named: BTreeSet<Sequence> = listing.iter().map(|d| set[*d].sequence()).collect();
         for (place, draft) in set.iter().enumerate() {
-            let fits = needs(draft).iter().all(|need| named.contains(need));
+            let fits = needs(past, draft).iter().all(|need| named.contains(need));
             if fits && !named.contains(&draft.sequence()) {
                 let mut longer = listing.clone();
                 longer.push(place);
@@ -43,17 +61,18 @@ fn listings(set: &[Draft]) -> Vec<Vec<usize>> {
     all
 }
 
-/// The greater of its own block and the effective blocks of its needs.
-fn effective_block(set: &[Draft], place: usize) -> u32 {
+/// The greatest of its own block, the effective blocks of its needs and the purged one.
+fn effective_block(past: &Past, set: &[Draft], place: usize) -> u32 {
     let own = set[place].explicit.map_or(0, |(block, _)| block);
-    let needed = needs(&set[place]);
+    let needed = needs(past, &set[place]);
     let places = (0..set.len()).filter(|p| needed.contains(&set[*p].sequence()));
-    places.map(|p| effective_block(set, p)).fold(own, u32::max)
+    let blocks = places.map(|p| effective_block(past, set, p));
+    blocks.fold(own.max(past.block), u32::max)
 }
 
 /// The key's comparison, clause by clause. Both are executable.
-fn compare(set: &[Draft], one: usize, two: usize) -> Ordering {
-    let blocks = effective_block(set, one).cmp(&effective_block(set, two));
+fn compare(past: &Past, set: &[Draft], one: usize, two: usize) -> Ordering {
+    let blocks = effective_block(past, set, one).cmp(&effective_block(past, set, two));
     let priorities = match (set[one].explicit, set[two].explicit) {
         (Some(_), None) => Ordering::Less,
         (None, Some(_)) => Ordering::Greater,
@@ -66,15 +85,15 @@ fn compare(set: &[Draft], one: usize, two: usize) -> Ordering {
 }
 
 /// The log by the definition: the first of the listings of all executable deltas.
-fn first_listing(set: &[Draft]) -> Vec<usize> {
-    let all = listings(set);
+fn first_listing(past: &Past, set: &[Draft]) -> Vec<usize> {
+    let all = listings(past, set);
     let executable: BTreeSet<usize> = all.iter().filter_map(|l| l.last().copied()).collect();
     let whole = all
         .into_iter()
         .filter(|listing| listing.len() == executable.len());
     let place_by_place = |one: &Vec<usize>, two: &Vec<usize>| {
         let pairs = one.iter().zip(two);
-        let mut orders = pairs.map(|(a, b)| compare(set, *a, *b));
+        let mut orders = pairs.map(|(a, b)| compare(past, set, *a, *b));
         orders
             .find(|order| order.is_ne())
             .unwrap_or(Ordering::Equal)
@@ -89,32 +108,83 @@ fn the_log_is_the_first_listing() {
         let mut random = Random::new(seed);
         let count = random.within(1, 6);
         let set = drafts(&mut random, count);
-        with_choice += usize::from(listings(&set).len() > set.len() + 1);
-        let first = first_listing(&set);
-        let expected: Vec<Vec<u8>> = first.iter().map(|d| set[*d].bytes()).collect();
-        let mut held: Vec<&Draft> = Vec::new();
-        held.extend(
-            set.iter()
-                .enumerate()
-                .filter(|(d, _)| !first.contains(d))
-                .map(|(_, d)| d),
-        );
-        held.sort_by_key(|draft| draft.sequence());
-        let held: Vec<Vec<u8>> = held.iter().map(|draft| draft.bytes()).collect();
-        let station = Station::with(&set);
-        let (log_count, held_count) = (station.log_count(), station.held_count());
-        assert_eq!(
-            messages(&station.image, 0, log_count),
-            expected,
-            "seed {seed}"
-        );
-        assert_eq!(
-            messages(&station.image, log_count, held_count),
-            held,
-            "seed {seed}"
-        );
+        let past = Past::default();
+        with_choice += usize::from(listings(&past, &set).len() > set.len() + 1);
+        check(&Station::with(&set), &past, &set, seed);
     }
     assert!(with_choice > 7_000, "only {with_choice} sets left a choice");
+}
+
+/// The station's log is the first listing of a set, and the others are held.
+fn check(station: &Station, past: &Past, set: &[Draft], seed: u64) {
+    let first = first_listing(past, set);
+    let expected: Vec<Vec<u8>> = first.iter().map(|d| set[*d].bytes()).collect();
+    let rest = (0..set.len()).filter(|place| !first.contains(place));
+    let mut held: Vec<&Draft> = rest.map(|place| &set[place]).collect();
+    held.sort_by_key(|draft| draft.sequence());
+    let held: Vec<Vec<u8>> = held.iter().map(|draft| draft.bytes()).collect();
+    let (log_count, held_count) = (station.log_count(), station.held_count());
+    let log = messages(&station.image, 0, log_count);
+    assert_eq!(log, expected, "seed {seed}");
+    let rest = messages(&station.image, log_count, held_count);
+    assert_eq!(rest, held, "seed {seed}");
+}
+
+/// A floor for some lines of the set, at or beside one of its numbers, and a block that is
+/// below, at or above theirs.
+fn any_past(random: &mut Random, set: &[Draft]) -> Past {
+    let mut floors: BTreeMap<Line, u16> = BTreeMap::new();
+    for draft in set {
+        if random.chance(40) {
+            let number = draft.number.saturating_add(random.pick(&[0, 0, 1]));
+            let number = number.saturating_sub(random.pick(&[0, 1, 1]));
+            floors.insert(draft.line, number.max(1));
+        }
+    }
+    let blocks = set.iter().filter_map(|draft| draft.explicit);
+    let blocks: Vec<u32> = blocks.map(|(block, _)| block).chain([0, 2]).collect();
+    Past {
+        block: random.pick(&blocks) * u32::from(!floors.is_empty()),
+        floors: floors.into_iter().map(|(l, n)| sequence(l, n)).collect(),
+    }
+}
+
+/// With floors and a purged block: what is at or below a floor is in no log and not held.
+#[test]
+fn the_log_behind_floors_is_the_first_listing() {
+    let (mut below, mut freed, mut moved) = (0, 0, 0);
+    for seed in 0..20_000 {
+        let mut random = Random::new(3_000_000 + seed);
+        let count = random.within(1, 6);
+        let all = drafts(&mut random, count);
+        let past = any_past(&mut random, &all);
+        let image = Sketch {
+            floors: past.floors.clone(),
+            block: past.block,
+            ..Sketch::default()
+        };
+        let image = image.image();
+        let mut station = Station { image };
+        for draft in &all {
+            assert_eq!(station.code(&draft.bytes()), 0, "seed {seed}");
+        }
+        let mut set = all.clone();
+        set.retain(|draft| !past.has(&draft.sequence()));
+        check(&station, &past, &set, seed);
+        let nothing = Past::default();
+        let without_block = Past {
+            floors: past.floors.clone(),
+            block: 0,
+        };
+        let first = first_listing(&past, &set);
+        below += usize::from(set.len() < all.len());
+        freed += usize::from(first.len() > first_listing(&nothing, &set).len());
+        moved += usize::from(first != first_listing(&without_block, &set));
+    }
+    assert!(
+        below > 5_000 && freed > 3_000 && moved > 300,
+        "{below} {freed} {moved}"
+    );
 }
 
 #[test]
@@ -122,7 +192,7 @@ fn a_set_with_seven_deltas_and_many_listings() {
     for seed in 0..60 {
         let mut random = Random::new(1_000_000 + seed);
         let set = drafts(&mut random, 7);
-        let first = first_listing(&set);
+        let first = first_listing(&Past::default(), &set);
         let expected: Vec<Vec<u8>> = first.iter().map(|d| set[*d].bytes()).collect();
         let station = Station::with(&set);
         assert_eq!(messages(&station.image, 0, station.log_count()), expected);

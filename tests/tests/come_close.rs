@@ -175,7 +175,7 @@ fn one_that_refuses_a_place_in_the_log() {
     }
     let answer = SUBJECT.log_message(&image, 2);
     let part = (code(answer), offset(answer), length(answer));
-    assert_eq!(part, (0, 272 + 2 * 48, 48));
+    assert_eq!(part, (0, 544 + 2 * 48, 48));
     assert_eq!(code(wrong.log_message(&image, 2)), 12);
 }
 

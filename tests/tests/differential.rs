@@ -11,7 +11,7 @@ use bivamolune_tests::boundary::{length, offset, value, Reference};
 use bivamolune_tests::call::{Action, Call, Composing, Outcome, View, World};
 use bivamolune_tests::differential::{compare, difference, report, report_of, shrink};
 use bivamolune_tests::faulty::{Fault, Faulty, FAULTS};
-use bivamolune_tests::generate::case;
+use bivamolune_tests::generate::{case, is_with_floors};
 use common::SUBJECT;
 
 #[test]
@@ -80,7 +80,7 @@ fn what_a_call_reads_is_in_its_outcome() {
     assert_eq!(value(found.answer), 3);
     assert!(found.image == image);
     let (image, found) = perform(Action::LogMessage(0));
-    assert_eq!((offset(found.answer), length(found.answer)), (272, 48));
+    assert_eq!((offset(found.answer), length(found.answer)), (544, 48));
     assert!(found.image == image);
     texts_are_in_their_outcome(&mut perform);
 }
@@ -114,16 +114,18 @@ fn texts_are_in_their_outcome(perform: &mut dyn FnMut(Action) -> (Vec<u8>, Outco
     assert!(image == read.image && image == same && image == written.image);
 }
 
-/// Where the faults of texts begin among all.
-const TEXTS: usize = 40;
+/// Where the faults of floors begin among all.
+const FLOORS: usize = 40;
+/// Where the faults of texts begin, up to the end.
+const TEXTS: usize = 66;
 
 /// The most calls that the shortest list for a fault has.
 fn bound(fault: Fault) -> usize {
     match fault {
         // Empty, 63 deltas, and the one that is refused.
         Fault::FullAt63 => 65,
-        // Empty, 64 deltas, and a conflict.
-        Fault::FullBeforeConflict => 66,
+        // Empty, 64 deltas, and a conflict; an image with floors, 64 deltas, and a purged one.
+        Fault::FullBeforeConflict | Fault::FullBelowFloor => 66,
         // Empty alone, or empty and the refused message.
         Fault::TailNotCleared | Fault::RangeBeforeDependencies => 2,
         // Empty, eight ends of the log with all they need, and compose.
@@ -136,10 +138,13 @@ fn bound(fault: Fault) -> usize {
     }
 }
 
-/// The first of the seeds that shows a fault, with its calls.
+/// The first of the seeds that shows a fault, with its calls. One of floors shows only where
+/// there are some.
 fn find(fault: Fault) -> (u64, Vec<Call>) {
+    let of_floors = FAULTS[FLOORS..TEXTS].contains(&fault);
     let differs = |calls: &[Call]| compare(&Reference, &Faulty(fault), calls).is_some();
-    let found = (0..6_000).find(|seed| differs(&case(*seed)));
+    let mut seeds = (0..6_000).filter(|seed| !of_floors || is_with_floors(*seed));
+    let found = seeds.find(|seed| differs(&case(*seed)));
     let seed = found.unwrap_or_else(|| panic!("{fault:?} was not found"));
     (seed, case(seed))
 }
@@ -192,7 +197,10 @@ fn the_program_counts_what_it_ran() {
     let printed = String::from_utf8_lossy(&output.stdout);
     assert_eq!(output.status.code(), Some(0), "{printed}");
     assert!(printed.starts_with("no difference: "), "{printed}");
-    assert!(printed.contains("cases from seed 9, "), "{printed}");
+    assert!(
+        printed.contains("cases from seed 9 in steps of 1, "),
+        "{printed}"
+    );
     let words: Vec<&str> = printed.split(' ').collect();
     let at = words
         .iter()
@@ -205,6 +213,16 @@ fn the_program_counts_what_it_ran() {
         let count = before.rsplit(' ').next().and_then(|word| word.parse().ok());
         assert!(count > Some(10), "{printed}");
     }
+}
+
+#[test]
+fn the_program_takes_each_eighth_seed() {
+    let output = long_run(&["--deliveries", "200", "--start", "204", "--every", "8"]);
+    let printed = String::from_utf8_lossy(&output.stdout);
+    assert!(
+        printed.contains("cases from seed 204 in steps of 8, "),
+        "{printed}"
+    );
 }
 
 #[test]

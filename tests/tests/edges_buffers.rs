@@ -35,7 +35,7 @@ fn image_sizes() {
 
 #[test]
 fn a_refused_empty_writes_nothing() {
-    for size in [0, 16, 272, 16_383, 16_385] {
+    for size in [0, 16, 32, 272, 544, 16_383, 16_385] {
         let mut image = vec![PATTERN; size];
         assert_eq!(SUBJECT.empty(&mut image), 1);
         assert!(image.iter().all(|byte| *byte == PATTERN));
@@ -46,7 +46,7 @@ fn a_refused_empty_writes_nothing() {
 #[test]
 fn empty_writes_whatever_the_buffer_held() {
     let mut expected = vec![0; IMAGE];
-    expected[..10].copy_from_slice(&[0, 0, 0, 0, 0, 16, 1, 16, 1, 16]);
+    expected[..16].copy_from_slice(&[0, 0, 0, 0, 0, 32, 2, 32, 2, 32, 0, 0, 2, 32, 1, 32]);
     let lone: Vec<Draft> = (1..=64).map(|last| delta(last, 1)).collect();
     for held in [
         vec![0; IMAGE],
@@ -194,7 +194,7 @@ const WRONG: Request = Request {
 #[test]
 fn sizes_come_before_everything_else() {
     let mut station = Station::new();
-    station.image[15] = 1;
+    station.image[31] = 1;
     assert_eq!(station.deliver_into(&[], 10_159).0, 1);
     assert_eq!(station.deliver_into(&[], 10_160).0, 2);
     let short_line = Request {
@@ -204,7 +204,7 @@ fn sizes_come_before_everything_else() {
     assert_eq!(station.compose(&short_line).0, 1);
     assert_eq!(station.compose_into(&WRONG, 199).0, 1);
     assert_eq!(station.compose(&WRONG).0, 2);
-    station.image[15] = 0;
+    station.image[31] = 0;
     assert_eq!(station.compose(&WRONG).0, 3);
     assert_eq!(station.deliver_into(&[], 10_160).0, 3);
 }

@@ -26,14 +26,17 @@ fn codes(image: &[u8]) -> (u32, u32) {
 fn image(log: usize, held: usize, values: &[(usize, i32)], messages: &[Draft]) -> Vec<u8> {
     let mut image = vec![0; IMAGE];
     let bytes: Vec<u8> = messages.iter().flat_map(Draft::bytes).collect();
-    let used = 272 + bytes.len();
-    for (place, number) in [log, held, 16, 272, used].into_iter().enumerate() {
+    let used = 544 + bytes.len();
+    for (place, number) in [log, held, 32, 544, used, 0, 544, 288]
+        .into_iter()
+        .enumerate()
+    {
         image[2 * place..2 * place + 2].copy_from_slice(&(number as u16).to_be_bytes());
     }
     for (tag, value) in values {
-        image[16 + 4 * tag..20 + 4 * tag].copy_from_slice(&value.to_be_bytes());
+        image[32 + 4 * tag..36 + 4 * tag].copy_from_slice(&value.to_be_bytes());
     }
-    image[272..used].copy_from_slice(&bytes);
+    image[544..used].copy_from_slice(&bytes);
     image
 }
 
@@ -43,15 +46,15 @@ fn the_image_of_four_deltas() {
     let expected = image(2, 2, &[(3, 1480)], &messages);
     assert!(station().image == expected);
     assert_eq!(codes(&expected), (0, 0));
-    assert_eq!(expected[8..10], [0x01, 0xD0]);
+    assert_eq!(expected[8..10], [0x02, 0xE0]);
 }
 
 #[test]
-fn each_bit_of_header_setpoints_and_tail() {
+fn each_bit_of_header_setpoints_base_values_and_tail() {
     let right = station().image;
-    let used = 272 + 4 * 48;
+    let used = 544 + 4 * 48;
     let tail = [used, used + 1, used + 47, 9_000, IMAGE - 1];
-    for at in (0..272).chain(tail) {
+    for at in (0..544).chain(tail) {
         for bit in 0..8 {
             let mut wrong = right.clone();
             wrong[at] ^= 1 << bit;
@@ -117,7 +120,7 @@ fn sixty_four_longest_messages() {
     let long = |number| delta(A, number).naming(&needs).commands(&commands);
     let all: Vec<Draft> = (1..=64).map(long).collect();
     let station = Station::with(&all);
-    assert_eq!(station.image[..10], [0, 0, 0, 64, 0, 16, 1, 16, 0x33, 0x10]);
+    assert_eq!(station.image[..10], [0, 0, 0, 64, 0, 32, 2, 32, 0x34, 0x20]);
     assert!(station.image == image(0, 64, &[], &all));
 }
 
@@ -174,9 +177,9 @@ fn counts_that_overflow() {
 
 #[test]
 fn a_length_field_that_runs_past_the_end() {
-    for length in [0, 1, 5, 47, 49, 200, 16_112, 16_113, 65_535] {
+    for length in [0, 1, 5, 47, 49, 200, 15_840, 15_841, 65_535] {
         let mut wrong = Station::with(&[a1()]).image;
-        wrong[276..278].copy_from_slice(&(length as u16).to_be_bytes());
+        wrong[548..550].copy_from_slice(&(length as u16).to_be_bytes());
         assert_eq!(codes(&wrong), (2, 2), "length {length}");
     }
 }
@@ -192,11 +195,11 @@ fn buffers_of_one_byte() {
 fn a_message_changed_in_place_may_be_an_image_still() {
     let mut other = Station::with(&[a1()]).image;
     // The group of a lone delta does not show anywhere else.
-    other[272 + 27] = 9;
+    other[544 + 27] = 9;
     assert_eq!(codes(&other), (0, 0));
     // Its value does, at the setpoint.
-    other[272 + 47] = 0;
+    other[544 + 47] = 0;
     assert_eq!(codes(&other), (2, 2));
-    other[31] = 0;
+    other[47] = 0;
     assert_eq!(codes(&other), (0, 0));
 }

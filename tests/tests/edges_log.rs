@@ -321,7 +321,7 @@ fn log_message_and_setpoint() {
 fn the_part_lies_in_the_image() {
     let station = Station::with(&[b1(), a1()]);
     let part = log_message(&station.image, 1).as_ptr_range();
-    let expected = station.image[320..368].as_ptr_range();
+    let expected = station.image[592..640].as_ptr_range();
     assert_eq!(part, expected);
 }
 
@@ -330,7 +330,7 @@ fn the_part_lies_in_the_image() {
 fn the_part_is_empty_exactly_where_the_code_is_1_2_or_12() {
     let right = Station::with(&[a1(), b1(), delta(C, 2)]).image;
     let mut wrong = right.clone();
-    wrong[271] ^= 1;
+    wrong[287] ^= 1;
     let far = usize::MAX;
     let calls = [
         (&right[..], 0, 0, a1().bytes()),
@@ -367,7 +367,7 @@ fn a_buffer_that_is_no_image_gives_nothing() {
     let mut reader = Reader::new(&whole);
     assert_eq!(reader.next_message(), a1().bytes());
     // One setpoint is off; the messages are all there.
-    station.image[271] ^= 1;
+    station.image[287] ^= 1;
     assert_eq!(log_message_code(&station.image, 0), 2);
     assert!(log_message(&station.image, 0).is_empty());
     assert_eq!(setpoint(&station.image, 3), (2, 0));

@@ -25,7 +25,8 @@ fn a1_on_the_wire() {
 fn no_deltas() {
     let station = Station::new();
     let mut expected = vec![0; IMAGE];
-    expected[..10].copy_from_slice(&[0, 0, 0, 0, 0x00, 0x10, 0x01, 0x10, 0x01, 0x10]);
+    expected[4..10].copy_from_slice(&[0x00, 0x20, 0x02, 0x20, 0x02, 0x20]);
+    expected[12..16].copy_from_slice(&[0x02, 0x20, 0x01, 0x20]);
     assert!(station.image == expected);
 }
 
@@ -34,9 +35,10 @@ fn a1_alone() {
     let mut station = Station::new();
     assert_eq!(station.deliver_bytes(&A1), steps(0, "+A1"));
     let mut expected = vec![0; IMAGE];
-    expected[..10].copy_from_slice(&[0, 1, 0, 0, 0x00, 0x10, 0x01, 0x10, 0x01, 0x40]);
-    expected[28..32].copy_from_slice(&[0, 0, 0x05, 0xDC]);
-    expected[272..320].copy_from_slice(&A1);
+    expected[..10].copy_from_slice(&[0, 1, 0, 0, 0x00, 0x20, 0x02, 0x20, 0x02, 0x50]);
+    expected[12..16].copy_from_slice(&[0x02, 0x20, 0x01, 0x20]);
+    expected[44..48].copy_from_slice(&[0, 0, 0x05, 0xDC]);
+    expected[544..592].copy_from_slice(&A1);
     assert!(station.image == expected);
     assert_eq!((station.log().as_str(), station.value(3)), ("A1", 1500));
 }

@@ -14,7 +14,7 @@ use bivamolune_tests::generate::{
     nearly_right_sequences, nearly_right_text, LIMIT,
 };
 use bivamolune_tests::random::Random;
-use bivamolune_tests::view::{steps, Step};
+use bivamolune_tests::view::{floor_count, floors, steps, Step};
 use common::{delta, messages, u16_at, u32_at, Station, A, B, C, D, IMAGE};
 
 /// How often each (call, code) was answered, and each mark was seen.
@@ -37,6 +37,7 @@ impl Seen {
 fn name(action: &Action) -> &'static str {
     match action {
         Action::Empty => "empty",
+        Action::Begin(_) => "begin",
         Action::Deliver { .. } | Action::DeliverComposed { .. } => "deliver",
         Action::Compose(_) => "compose",
         Action::Setpoint(_) => "setpoint",
@@ -87,7 +88,7 @@ fn mark_delivery(seen: &mut Seen, outcome: &Outcome) {
     seen.mark("full", log + held == 64);
     seen.mark("full log", log == 64);
     let stop = 1_000_000_i32.to_be_bytes();
-    let values = &outcome.image[16..272];
+    let values = &outcome.image[32..288];
     seen.mark("a stop", values.chunks(4).any(|value| value == stop));
     let all = messages(&outcome.image, 0, log + held);
     let named = |message: &Vec<u8>| message[2] > 0;
@@ -116,18 +117,26 @@ fn crosses(messages: &[Vec<u8>]) -> bool {
     numbered(0x00FF).any(|low| numbered(0x0100).any(|high| low[12..22] == high[12..22]))
 }
 
-/// Which limit a compose refused by 10 would pass. That of the number is passed by
-/// none: in a log of at most 64, needs before users, no number is above 64.
+/// Which limit a compose refused by 10 would pass. That of the number is passed only where there
+/// is a floor: else in a log of at most 64, needs before users, no number is above 64.
 fn mark_limit(seen: &mut Seen, image: &[u8], composing: &Composing) {
     let log = messages(image, 0, u16_at(image, 0));
-    let highest = |at: usize| log.iter().map(|m| u32_at(m, at)).max().unwrap_or(0);
-    assert!(log.iter().all(|m| u16_at(m, 22) <= 64));
-    let by_block = composing.priority_flag == 1 && highest(28) == LIMIT;
+    let highest = |at: usize, purged: usize| {
+        let of_log = log.iter().map(|m| u32_at(m, at)).max().unwrap_or(0);
+        of_log.max(u32_at(image, purged))
+    };
+    let last_number =
+        |sequence: &[u8]| sequence[..10] == composing.line[..] && sequence[10..12] == [0xFF, 0xFF];
+    let by_number = floors(image).iter().any(|floor| last_number(floor))
+        || log.iter().any(|message| last_number(&message[12..24]));
+    assert!(floor_count(image) > 0 || log.iter().all(|m| u16_at(m, 22) <= 64));
+    let by_block = composing.priority_flag == 1 && highest(28, 16) == LIMIT;
     let by_group =
-        highest(24) == LIMIT && log.last().map_or(false, |m| m[12..22] > composing.line[..]);
-    assert!(by_block || by_group);
-    seen.mark("10 by block alone", by_block && !by_group);
-    seen.mark("10 by group alone", by_group && !by_block);
+        highest(24, 20) == LIMIT && log.last().map_or(true, |m| m[12..22] > composing.line[..]);
+    assert!(by_number || by_block || by_group);
+    seen.mark("10 by number alone", by_number && !by_block && !by_group);
+    seen.mark("10 by block alone", by_block && !by_group && !by_number);
+    seen.mark("10 by group alone", by_group && !by_block && !by_number);
 }
 
 /// Marks of a setpoint or a log message: far out, and far on in a log.
@@ -194,7 +203,8 @@ fn every_code_of_every_call_and_hard_logs() {
         run(seed, &mut seen);
     }
     println!("{:?}\n{:?}", seen.codes, seen.marks);
-    let lists: [(&str, &[u32]); 7] = [
+    let lists: [(&str, &[u32]); 8] = [
+        ("begin", &[0]),
         ("empty", &[0, 1]),
         ("deliver", &[0, 1, 2, 3, 4, 5, 6, 7, 8]),
         ("compose", &[0, 1, 2, 3, 6, 9, 10, 11]),
@@ -210,7 +220,7 @@ fn every_code_of_every_call_and_hard_logs() {
     for (call, count) in &seen.codes {
         assert!(*count >= 10, "{call:?} only {count} times");
     }
-    assert_eq!(seen.marks.len(), 36);
+    assert_eq!(seen.marks.len(), 37);
     for (mark, count) in &seen.marks {
         assert!(*count >= 10, "{mark} only {count} times");
     }
@@ -333,7 +343,7 @@ fn edits_do_what_they_say() {
         (instead.log(), instead.held()),
         ("A1 B1".into(), "D2".into())
     );
-    assert_eq!(u16_at(&instead.image, 8), 272 + 48 + 48 + 60);
+    assert_eq!(u16_at(&instead.image, 8), 544 + 48 + 48 + 60);
     assert_eq!(edited(Edit::Drop(2)).held_count(), 0);
     assert_eq!(edited(Edit::Drop(1)).log(), "A1");
     assert_eq!(edited(Edit::Border(true)).log(), "A1");
@@ -341,8 +351,8 @@ fn edits_do_what_they_say() {
     assert_eq!(edited(Edit::Border(false)).log(), "A1 B1 C2");
     assert_eq!(edited(Edit::Fill(65)).held_count(), 63);
     assert_eq!(edited(Edit::Setpoint(64, -1)).value(0), 0);
-    assert_eq!(edited(Edit::Tail(0, 3)).image[272 + 144], 3);
-    assert_eq!(edited(Edit::Message(1, 48 + 27, 6)).image[272 + 48 + 27], 7);
+    assert_eq!(edited(Edit::Tail(0, 3)).image[544 + 144], 3);
+    assert_eq!(edited(Edit::Message(1, 48 + 27, 6)).image[544 + 48 + 27], 7);
     assert_eq!(edited(Edit::Header(2, 0xFFFF)).held_count(), 0);
     assert_eq!(edited(Edit::Bit(9)).log_count(), 0);
     assert_eq!(edited(Edit::Byte(9, 7)).image[9], 7);

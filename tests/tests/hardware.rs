@@ -10,7 +10,7 @@ use std::collections::BTreeMap;
 use bivamolune_tests::boundary::{code, executions, undos};
 use bivamolune_tests::call::{Action, Call, Outcome, View, World};
 use bivamolune_tests::generate::case;
-use bivamolune_tests::view::{steps, values, Kind, Pair};
+use bivamolune_tests::view::{base_values, steps, values, Kind, Pair};
 use common::{messages, u16_at, u32_at, SUBJECT};
 
 /// The setpoints, and for each executed delta what each of its commands had found, the last
@@ -27,6 +27,24 @@ impl Hardware {
             setpoints: [0; 64],
             found: Vec::new(),
         }
+    }
+
+    /// As the log of an image leaves it, which is run from the base values.
+    fn of(image: &[u8]) -> Hardware {
+        let mut hardware = Hardware {
+            setpoints: base_values(image),
+            found: Vec::new(),
+        };
+        for message in messages(image, 0, u16_at(image, 0)) {
+            let mut found = Vec::new();
+            for command in message[40 + 12 * usize::from(message[2])..].chunks(8) {
+                let tag = usize::from(command[1]);
+                let value = after(command, hardware.setpoints[tag]);
+                found.extend(hardware.set(&[(tag, value)]));
+            }
+            hardware.found.push(found);
+        }
+        hardware
     }
 
     /// Each pair sets its tag to its value; what the tags had shown.
@@ -98,7 +116,8 @@ fn message(image: &[u8], sequence: &[u8]) -> Vec<u8> {
 
 /// Whether the call may change the station's image.
 fn is_of_the_station(call: &Call) -> bool {
-    call.view == View::Station && (call.action == Action::Empty || call.action.delivers())
+    let begins = matches!(call.action, Action::Empty | Action::Begin(_));
+    call.view == View::Station && (begins || call.action.delivers())
 }
 
 /// After each call the hardware shows the image's 64 values; each undo restores exactly what
@@ -112,8 +131,9 @@ fn pairs_lead_to_the_image_s_values() {
         for call in case(seed) {
             let outcome = world.perform(&SUBJECT, &call);
             if is_of_the_station(&call) && code(outcome.answer) == 0 {
-                match call.action {
+                match &call.action {
                     Action::Empty => hardware = Hardware::new(),
+                    Action::Begin(image) => hardware = Hardware::of(image),
                     _ => hardware.play(&outcome),
                 }
                 mark(&mut seen, &hardware, &outcome);

@@ -29,7 +29,7 @@ const PARTED: [(Hazard, [u64; 3]); 7] = [
 ];
 
 /// A seed in which a save in place leaves an image with a delta that nobody sent.
-const STRANGE: u64 = 733;
+const STRANGE: u64 = 148;
 
 /// The seeds that are run here; the program runs more. Full stations take long.
 fn seeds(hazard: Hazard) -> Range<u64> {
@@ -145,19 +145,20 @@ fn a_full_station_keeps_what_it_has() {
     }
 }
 
-/// A save in place that stops after the first sector can leave an image: of a held delta the
+/// A save in place that stops after the second sector can leave an image: of a held delta the
 /// value is missing, and zeros are a value too. The station runs what nobody sent, and
-/// refuses the right delta by 7.
+/// refuses the right delta by 7. (Three messages of 104 bytes and one of 124 lie from 544 on;
+/// the value is the last four bytes of 48 more, from 1,024 on.)
 #[test]
 fn a_torn_save_can_be_an_image() {
     let mut torn = station(A);
-    let commands = [set(0, 1); 3];
+    let commands = [set(0, 1); 8];
+    let first = [A, B, C].map(|letter| sequence(line(letter), 1));
     for held in [
         delta(A, 2).commands(&commands),
         delta(B, 2).commands(&commands),
-        delta(C, 3)
-            .naming(&[sequence(line(C), 1)])
-            .commands(&commands[1..]),
+        delta(C, 3).commands(&commands),
+        delta(C, 4).naming(&first).commands(&commands[..6]),
     ] {
         assert_eq!(deliver(&mut torn, &held.bytes()), 0);
     }
@@ -165,7 +166,7 @@ fn a_torn_save_can_be_an_image() {
     let last = delta(D, 2).commands(&[set(3, 1500)]).bytes();
     assert_eq!(deliver(&mut torn, &last), 0);
     let mut written = [false; SECTORS];
-    written[0] = true;
+    written[..2].fill(true);
     let left = torn.save_in_place(&SUBJECT, &written);
     assert_eq!(left, Ok(Left::Mixed));
     torn.restart();

@@ -30,7 +30,7 @@ fn noise(random: &mut Random, sizes: &[usize]) -> Vec<u8> {
 
 /// An image, or any bytes.
 fn any_image(random: &mut Random) -> Vec<u8> {
-    let sizes = [0, 1, 5, 271, 272, 277, IMAGE - 1, IMAGE, IMAGE + 1];
+    let sizes = [0, 1, 5, 31, 32, 543, 544, 549, IMAGE - 1, IMAGE, IMAGE + 1];
     match random.below(3) {
         0 => Station::new().image,
         _ => noise(random, &sizes),
@@ -89,7 +89,7 @@ fn nearly_right_delivery(random: &mut Random) -> (Station, u32, Vec<u8>) {
     let is_new = all.iter().all(|draft| draft.sequence() != new.sequence());
     match random.below(6) {
         0 => {
-            let at = random.pick(&[0, 9, 15, 16, 271, IMAGE - 1]);
+            let at = random.pick(&[0, 9, 15, 16, 31, 32, 287, 288, 543, IMAGE - 1]);
             station.image[at] ^= 1 << random.below(8);
             (station, 2, own.bytes())
         }

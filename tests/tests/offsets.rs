@@ -190,23 +190,18 @@ const SEEDS: u64 = 200;
 /// What was seen of each kind of call: how many there were, and their digest. These are of
 /// the library of commit cdb21c0, before change request 3.
 ///
+/// They are of calls on images alone, which change request 4 gave another layout: where nothing
+/// was purged, callers are given the same but for that, and `digest` takes it back. Damaged
+/// images have no such other form, so that their digests of then have no use any more.
+///
 /// They hang on the generator too. Whoever changes it takes the new lines, which the failing
 /// test prints, from a library that is otherwise unchanged. A request that changes what
 /// callers are given ends their use.
-const BEFORE: [(&str, &str, usize, u64); 14] = [
-    ("compose", "damaged", 7204, 0x9FE523763BBE34BE),
-    ("compose", "hostile", 1200, 0xF4462A950074F9A9),
+const BEFORE: [(&str, &str, usize, u64); 5] = [
     ("compose", "image", 1408, 0xC344969F14DF8D06),
-    ("deliver", "damaged", 10905, 0xE9A2371D61BF9766),
-    ("deliver", "hostile", 1800, 0x921180418537E0A9),
     ("deliver", "image", 4596, 0xBA35BAD626F49CC2),
-    ("log message", "damaged", 11174, 0x669C536A10F38FC0),
-    ("log message", "hostile", 1800, 0x993EC66E111A1D7A),
     ("log message", "image", 4183, 0x7B9683CAB1720634),
-    ("other", "damaged", 24, 0x18A834FAA7FDD92D),
     ("other", "image", 818, 0xDA09B344CEDA8210),
-    ("setpoint", "damaged", 7589, 0x7C987958623107F8),
-    ("setpoint", "hostile", 1200, 0x8C6ABD07032CE954),
     ("setpoint", "image", 3990, 0x6C294C7E938A028B),
 ];
 
@@ -237,7 +232,8 @@ fn lines(tallies: &Tallies) -> String {
 #[test]
 fn callers_are_given_what_they_were_given_before() {
     for (name, calls) in both() {
-        let found = tallies(calls, 0..SEEDS);
+        let mut found = tallies(calls, 0..SEEDS);
+        found.retain(|(_, image), _| *image == "image");
         let kinds = differing(&found, &before());
         assert!(
             kinds.is_empty(),

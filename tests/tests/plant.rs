@@ -189,7 +189,7 @@ fn hardware_is_fed_by_the_pairs_alone() {
     let mut b = station(B);
     let error = b.deliver(&wrong, &message).expect_err("wrong pairs");
     assert_eq!(error, "the hardware's setpoints are not the image's");
-    assert_eq!((b.hardware.setpoints[0], b.memory.image[19]), (0, 7));
+    assert_eq!((b.hardware.setpoints[0], b.memory.image[35]), (0, 7));
 }
 
 /// Begun again from a saved image, a station has its hardware at the values of that image, and

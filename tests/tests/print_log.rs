@@ -79,8 +79,8 @@ fn printed(drafts: &[Draft]) -> String {
 
 #[test]
 fn the_example() {
-    let first = "0 272 48 00000000000A000000010001 3 1500\n";
-    let second = "1 320 48 00000000000B000000010001 3 -20\n";
+    let first = "0 544 48 00000000000A000000010001 3 1500\n";
+    let second = "1 592 48 00000000000B000000010001 3 -20\n";
     assert_eq!(printed(&[a1()]), first);
     assert_eq!(printed(&[a1(), b1()]), format!("{first}{second}"));
     assert_eq!(printed(&[b1(), a1()]), format!("{first}{second}"));
@@ -94,7 +94,7 @@ fn no_deltas() {
 #[test]
 fn held_ones_are_not_printed() {
     assert_eq!(printed(&[delta(A, 2)]), "");
-    let expected = "0 272 48 00000000000B000000010001 3 -20\n";
+    let expected = "0 544 48 00000000000B000000010001 3 -20\n";
     assert_eq!(printed(&[delta(A, 2), b1()]), expected);
     let ring = [
         a1().naming(&[sequence(line(C), 1)]),
@@ -110,10 +110,10 @@ fn the_order_of_the_log() {
     let c1 = delta(C, 1)
         .commands(&[set(0, 0), set(63, 1)])
         .priority(1, 7);
-    let expected = "0 272 48 00000000000A000000010001 3 1500\n\
-                    1 320 56 00000000000C000000010001 0 0 63 1\n\
-                    2 376 48 00000000000B000000010001 3 -20\n\
-                    3 424 48 00000000000C000000010002 0 1\n";
+    let expected = "0 544 48 00000000000A000000010001 3 1500\n\
+                    1 592 56 00000000000C000000010001 0 0 63 1\n\
+                    2 648 48 00000000000B000000010001 3 -20\n\
+                    3 696 48 00000000000C000000010002 0 1\n";
     assert_eq!(printed(&[b1, c1, a1(), delta(C, 2)]), expected);
 }
 
@@ -131,7 +131,7 @@ fn eight_commands() {
         raise(9, -1),
         add(10, 100),
     ];
-    let expected = "0 272 104 00000000000A000000010001 \
+    let expected = "0 544 104 00000000000A000000010001 \
                     5 999990 5 20 5 -20 5 -1000000 63 1000000 0 0 9 -1 10 100\n";
     assert_eq!(printed(&[delta(A, 1).commands(&commands)]), expected);
 }
@@ -143,7 +143,7 @@ fn values_in_decimal() {
         99_999, 100_000, -100_000, 999_999, -999_999, 1_000_000, -1_000_000,
     ];
     for value in values {
-        let expected = format!("0 272 48 00000000000A000000010001 7 {value}\n");
+        let expected = format!("0 544 48 00000000000A000000010001 7 {value}\n");
         let draft = delta(A, 1).commands(&[set(7, value)]);
         assert_eq!(printed(&[draft]), expected);
     }
@@ -152,7 +152,7 @@ fn values_in_decimal() {
 #[test]
 fn every_tag() {
     for tag in 0..64 {
-        let expected = format!("0 272 48 00000000000A000000010001 {tag} -1\n");
+        let expected = format!("0 544 48 00000000000A000000010001 {tag} -1\n");
         let draft = delta(A, 1).commands(&[add(tag, -1)]);
         assert_eq!(printed(&[draft]), expected);
     }
@@ -174,7 +174,7 @@ fn sequences_as_text() {
         ([0xFF; 10], "FFFFFFFFFFFFFFFFFFFF"),
     ];
     for (line, digits) in lines {
-        let expected = format!("0 272 48 {digits}0001 0 1\n");
+        let expected = format!("0 544 48 {digits}0001 0 1\n");
         assert_eq!(printed(&[Draft::new(line, 1)]), expected);
     }
 }
@@ -196,7 +196,7 @@ fn eight_dependencies() {
         last.group(2_147_483_647)
             .priority(2_147_483_647, 2_147_483_647),
     );
-    let expected = "8 656 200 00000000000A000000010001 1 -2 1 -2 1 -2 1 -2 1 -2 1 -2 1 -2 1 -2";
+    let expected = "8 928 200 00000000000A000000010001 1 -2 1 -2 1 -2 1 -2 1 -2 1 -2 1 -2 1 -2";
     assert_eq!(printed(&drafts).lines().last(), Some(expected));
 }
 
@@ -207,11 +207,11 @@ fn a_full_log() {
     let printed = printed(&drafts);
     let lines: Vec<&str> = printed.lines().collect();
     assert_eq!(lines.len(), 64);
-    assert_eq!(lines[0], "0 272 48 00000000000A000000010001 0 1");
-    assert_eq!(lines[1], "1 320 48 00000000000A000000010002 0 1");
-    assert_eq!(lines[9], "9 704 48 00000000000A00000001000A 0 1");
-    assert_eq!(lines[10], "10 752 48 00000000000A00000001000B 0 1");
-    assert_eq!(lines[63], "63 3296 48 00000000000A000000010040 0 1");
+    assert_eq!(lines[0], "0 544 48 00000000000A000000010001 0 1");
+    assert_eq!(lines[1], "1 592 48 00000000000A000000010002 0 1");
+    assert_eq!(lines[9], "9 976 48 00000000000A00000001000A 0 1");
+    assert_eq!(lines[10], "10 1024 48 00000000000A00000001000B 0 1");
+    assert_eq!(lines[63], "63 3568 48 00000000000A000000010040 0 1");
 }
 
 /// The longest log: eight deltas of 104 bytes, then 56 of 200 that name them.
@@ -227,17 +227,19 @@ fn the_longest_log() {
     let starts = printed.lines().map(|line| line.strip_suffix(&commands));
     let starts: Vec<&str> = starts.collect::<Option<_>>().expect("all commands");
     assert_eq!(starts.len(), 64);
-    assert_eq!(starts[0], "0 272 104 000000000010000000010001");
-    assert_eq!(starts[7], "7 1000 104 000000000017000000010001");
-    assert_eq!(starts[8], "8 1104 200 000000000018000000010001");
-    assert_eq!(starts[9], "9 1304 200 000000000019000000010001");
-    assert_eq!(starts[63], "63 12104 200 00000000004F000000010001");
+    assert_eq!(starts[0], "0 544 104 000000000010000000010001");
+    assert_eq!(starts[7], "7 1272 104 000000000017000000010001");
+    assert_eq!(starts[8], "8 1376 200 000000000018000000010001");
+    assert_eq!(starts[9], "9 1576 200 000000000019000000010001");
+    assert_eq!(starts[63], "63 12376 200 00000000004F000000010001");
 }
 
 #[test]
 fn wrong_sizes_are_refused_by_1() {
     let image = Station::with(&[a1(), b1()]).image;
-    for size in [0, 1, 16, 272, 16_383, 16_385, 32_768, 40_000, 500_000] {
+    for size in [
+        0, 1, 16, 32, 272, 544, 16_383, 16_385, 32_768, 40_000, 500_000,
+    ] {
         let input: Vec<u8> = image.iter().copied().cycle().take(size).collect();
         assert_eq!(print_log(&input), "1\n", "{size} bytes");
         assert_eq!(print_log(&vec![0; size]), "1\n", "{size} zeros");
@@ -255,7 +257,8 @@ fn no_image_is_refused_by_2() {
     }
     let right = Station::with(&[a1(), b1(), delta(A, 3)]).image;
     for at in [
-        0, 1, 3, 5, 7, 9, 15, 16, 31, 271, 272, 277, 295, 319, 416, 16_383,
+        0, 1, 3, 5, 7, 9, 11, 13, 15, 16, 19, 20, 23, 24, 31, 32, 47, 287, 288, 543, 544, 549, 567,
+        591, 688, 16_383,
     ] {
         let mut wrong = right.clone();
         wrong[at] ^= 1;
@@ -267,7 +270,7 @@ fn no_image_is_refused_by_2() {
 #[test]
 fn a_byte_at_a_time() {
     let mut image = Station::with(&[a1()]).image;
-    let expected = "0 272 48 00000000000A000000010001 3 1500\n";
+    let expected = "0 544 48 00000000000A000000010001 3 1500\n";
     for program in programs() {
         let found = run_at(&program, Pace::Awaited, &image, 1);
         assert_eq!(found.as_deref(), Ok(expected), "{program:?}");
@@ -284,7 +287,7 @@ fn a_byte_at_a_time() {
 #[test]
 fn an_interrupted_read() {
     let image = Station::with(&[a1()]).image;
-    let expected = "0 272 48 00000000000A000000010001 3 1500\n";
+    let expected = "0 544 48 00000000000A000000010001 3 1500\n";
     for program in programs() {
         let found = run_at(&program, Pace::Interrupted, &image, 4_096);
         assert_eq!(found.as_deref(), Ok(expected), "{program:?}");
@@ -382,7 +385,7 @@ fn a_closed_output() {
 fn a_wrong_program_is_found() {
     let image = Station::with(&[delta(A, 1)]).image;
     let wrong = |script: &str| check(&Program::script(script), &image).unwrap_err();
-    let wanted = "Some(\"0 272 48 00000000000A000000010001 0 1\")";
+    let wanted = "Some(\"0 544 48 00000000000A000000010001 0 1\")";
     let nothing = format!("line 1: None, and wanted is {wanted}");
     assert_eq!(wrong("cat >/dev/null"), nothing);
     assert!(wrong("cat").ends_with(&format!("and wanted is {wanted}")));

@@ -8,10 +8,14 @@ use std::collections::BTreeMap;
 
 use bivamolune_tests::boundary::{code, executions, length, undos, Calls};
 use bivamolune_tests::call::{Action, Composing, View, World};
-use bivamolune_tests::generate::{case, conflicting, damaged_message, drafts, edit};
+use bivamolune_tests::generate::{
+    case, conflicting, damaged_message, drafts, edit, is_with_floors,
+};
 use bivamolune_tests::random::Random;
 use bivamolune_tests::reference::plain::PlainStation;
+use bivamolune_tests::reference::purged::Purged;
 use bivamolune_tests::reference::reader::Reader;
+use bivamolune_tests::view::{all_messages, base_values, floors};
 use bivamolune_tests::wire::{Draft, Sequence};
 use common::{
     log_message, log_message_code, messages, setpoint, u16_at, u32_at, Station, PATTERN, STEP,
@@ -112,6 +116,72 @@ fn whole_runs_agree_with_the_plain_station() {
     );
 }
 
+/// The plain station of an image: what was purged as the image has it, and its messages.
+fn plain_of(image: &[u8]) -> PlainStation {
+    let floor = |floor: Sequence| {
+        let line = floor[..10].try_into().expect("ten bytes");
+        (line, u16_at(&floor, 10) as u16)
+    };
+    let mut plain = PlainStation::after(Purged {
+        floors: floors(image).into_iter().map(floor).collect(),
+        base: base_values(image),
+        block: u32_at(image, 16),
+        group: u32_at(image, 20),
+    });
+    for message in all_messages(image) {
+        assert_eq!(plain.deliver(&message, STEPS), Ok(()));
+    }
+    plain
+}
+
+/// The same from images with floors: what is at or below one is answered by 0 and changes
+/// nothing, however many there are.
+#[test]
+fn whole_runs_from_images_with_floors() {
+    let mut seen: BTreeMap<&str, usize> = BTreeMap::new();
+    for seed in (0..6_000).filter(|seed| is_with_floors(*seed)) {
+        let calls = case(seed);
+        let mut image = match &calls[0].action {
+            Action::Begin(image) => image.clone(),
+            other => panic!("begins with {other:?}"),
+        };
+        let mut plain = plain_of(&image);
+        let mut played = log(&image);
+        for call in calls {
+            let (message, steps) = match &call.action {
+                Action::Deliver { message, steps } => (message, *steps),
+                _ => continue,
+            };
+            let delivery = deliver(&image, message, steps);
+            image.clone_from(&delivery.new);
+            let expected = plain.deliver(message, steps);
+            let number = expected.map_or_else(|code| code.number(), |()| 0);
+            assert_eq!(code(delivery.answer), number, "seed {seed}");
+            check_buffers(&delivery);
+            check_counts(&delivery);
+            play(&mut played, &delivery);
+            assert!(image == plain.image(), "seed {seed}");
+            assert_eq!(played, log(&image), "seed {seed}");
+            let below = number == 0 && is_purged(&image, message);
+            let full = u16_at(&image, 0) + u16_at(&image, 2) == 64;
+            let mut mark = |name, is: bool| *seen.entry(name).or_default() += usize::from(is);
+            mark("purged", below);
+            mark("purged with 64", below && full);
+            mark("undos", undos(delivery.answer) > 0);
+            mark("not purged", number == 0 && !below);
+        }
+    }
+    assert_eq!(seen.len(), 4);
+    assert!(seen.values().all(|count| *count > 300), "{seen:?}");
+}
+
+/// Whether a message is at or below a floor of an image.
+fn is_purged(image: &[u8], message: &[u8]) -> bool {
+    let own = &message[12..24];
+    let mut floors = floors(image).into_iter();
+    floors.any(|floor| floor[..10] == own[..10] && floor[10..] >= own[10..])
+}
+
 /// Delivers to an image, with a step buffer of nonzero bytes.
 fn deliver<'a>(image: &[u8], message: &'a [u8], size: usize) -> Delivery<'a> {
     let before: Vec<u8> = (0..size).map(|at| at as u8 | 1).collect();
@@ -149,7 +219,7 @@ fn check_counts(delivery: &Delivery) {
     let mut kept = new.clone();
     kept.retain(|sequence| old.contains(sequence));
     assert_eq!(kept, old);
-    if code(delivery.answer) == 0 {
+    if code(delivery.answer) == 0 && !is_purged(&delivery.old, delivery.message) {
         let own = delivery.message[12..24].to_vec();
         let held = messages(&delivery.new, new.len(), u16_at(&delivery.new, 2));
         assert!(new.contains(&own) || held.contains(&delivery.message.to_vec()));
@@ -227,24 +297,32 @@ fn expected(image: &[u8], composing: &Composing) -> Composed {
     draft.commands = commands
         .map(|command| command.try_into().expect("eight bytes"))
         .collect();
-    // With needs before users, a line's deltas in the log are numbered from 1 on.
-    draft.number += log.iter().filter(|m| m[12..22] == *line).count() as u16;
-    draft.group = group(&log, &draft.sequence());
+    // With needs before users, a line's deltas in the log are numbered from its floor on.
+    let floor = floors(image).into_iter().find(|floor| floor[..10] == *line);
+    let floor = floor.map_or(0, |floor| u16_at(&floor, 10));
+    let number = floor + log.iter().filter(|m| m[12..22] == *line).count() + 1;
+    if number > 0xFFFF {
+        return Composed::refused(10);
+    }
+    draft.number = number as u16;
+    draft.group = group(&log, u32_at(image, 20), &draft.sequence());
     if composing.priority_flag == 1 {
-        // The highest effective block is the highest block of all.
-        let highest = log.iter().map(|m| u32_at(m, 28)).max().unwrap_or(0);
+        // The highest effective block is the highest block of all, the purged one included.
+        let blocks = log.iter().map(|m| u32_at(m, 28));
+        let highest = blocks.fold(u32_at(image, 16), u32::max);
         draft.explicit = Some((highest + 1, composing.priority));
     }
     draft.dependencies = ends(&log, &draft);
     judged(&draft)
 }
 
-/// 1 on an empty log, else the highest, plus one if the last sequence is above.
-fn group(log: &[Vec<u8>], own: &[u8]) -> u32 {
-    let highest = log.iter().map(|m| u32_at(m, 24)).max().unwrap_or(0);
+/// The highest, the purged one included, plus one if the last sequence is above, or there is
+/// none.
+fn group(log: &[Vec<u8>], purged: u32, own: &[u8]) -> u32 {
+    let highest = log.iter().map(|m| u32_at(m, 24)).fold(purged, u32::max);
     match log.last() {
         Some(last) => highest + u32::from(last[12..24] > *own),
-        None => 1,
+        None => highest + 1,
     }
 }
 
@@ -322,7 +400,7 @@ fn an_image_is_what_its_messages_give() {
 /// The image of the messages a buffer counts, if all are there, new and accepted.
 fn given_by_messages(image: &[u8]) -> Option<Vec<u8>> {
     let mut station = Station::new();
-    let mut at = 272;
+    let mut at = 544;
     for number in 1..=u16_at(image, 0) + u16_at(image, 2) {
         let size = u16_at(image.get(at..at + 6)?, 4);
         if station.code(image.get(at..at + size)?) != 0 {

@@ -6,8 +6,8 @@ use std::fmt;
 use crate::bench::{places, texts};
 use crate::boundary::{Calls, Reference};
 use crate::edit::Edit;
-use crate::reference::image::SIZE;
 use crate::reference::steps::BUFFER;
+use crate::sketch::Sketch;
 use crate::wire::{command, line, sequence, set, Command, Draft, Sequence};
 
 /// How many deltas the images hold.
@@ -41,6 +41,10 @@ pub enum Shape {
     /// Each delta names the next eight of a ring and has eight commands: all held, and
     /// all messages of 200 bytes.
     RingLongest,
+    /// A chain, the longest and a ring of the longest behind 32 floors of other lines.
+    ChainFloors,
+    LongestFloors,
+    RingFloors,
     /// No deltas: a text is read.
     Read,
     /// No deltas: sequences are written as text.
@@ -104,7 +108,7 @@ pub struct Case {
 }
 
 /// The pairs of shape and arrival that are measured at each count.
-pub const GROWING: [(Shape, Arrival); 16] = [
+pub const GROWING: [(Shape, Arrival); 20] = [
     (Shape::Chain, Arrival::Latest),
     (Shape::Chain, Arrival::Earliest),
     (Shape::Waiting, Arrival::First),
@@ -121,6 +125,17 @@ pub const GROWING: [(Shape, Arrival); 16] = [
     (Shape::Waiting, Arrival::Held),
     (Shape::Ring, Arrival::Held),
     (Shape::RingLongest, Arrival::Held),
+    (Shape::ChainFloors, Arrival::Latest),
+    (Shape::LongestFloors, Arrival::Latest),
+    (Shape::LongestFloors, Arrival::Earliest),
+    (Shape::RingFloors, Arrival::Held),
+];
+
+/// The shapes behind floors, each with the one that differs from it in that alone.
+pub const FLOORED: [(Shape, Shape); 3] = [
+    (Shape::ChainFloors, Shape::Chain),
+    (Shape::LongestFloors, Shape::Longest),
+    (Shape::RingFloors, Shape::RingLongest),
 ];
 
 /// All cases.
@@ -211,10 +226,16 @@ impl Spec {
 }
 
 impl Shape {
+    /// The shape without its floors.
+    fn without_floors(self) -> Shape {
+        let floored = FLOORED.iter().find(|(floored, _)| *floored == self);
+        floored.map_or(self, |(_, plain)| *plain)
+    }
+
     /// The delta at a place of the image.
     fn member(self, place: usize) -> Draft {
         let number = place as u16;
-        let draft = match self {
+        let draft = match self.without_floors() {
             Shape::Chain => Draft::new(line(FIRST_LINE), number + 1),
             Shape::Waiting => Draft::new(line(FIRST_LINE), number + 2),
             _ => Draft::new(own_line(place), 1),
@@ -229,7 +250,7 @@ impl Shape {
 
     /// What the delta at a place names, ascending.
     fn names(self, place: usize) -> Vec<Sequence> {
-        let mut places: Vec<usize> = match self {
+        let mut places: Vec<usize> = match self.without_floors() {
             Shape::Needs | Shape::Longest => (place.saturating_sub(8)..place).collect(),
             Shape::Fan => (0..place.min(8)).collect(),
             Shape::Ring => vec![(place + 1) % RING],
@@ -243,7 +264,7 @@ impl Shape {
 
     /// One command or eight, of all three operations over all tags.
     fn commands(self, place: usize) -> Vec<Command> {
-        let count = match self {
+        let count = match self.without_floors() {
             Shape::Longest | Shape::Fan | Shape::RingLongest => 8,
             _ => 1,
         };
@@ -263,11 +284,20 @@ impl Shape {
         }
     }
 
+    /// The image of no members: with no floor or with 32, of lines above all others.
+    fn first_image(self) -> Vec<u8> {
+        let mut sketch = Sketch::default();
+        if self != self.without_floors() {
+            let lines = (0xC0..0xE0).map(line);
+            sketch.floors = lines.map(|line| sequence(line, 9)).collect();
+        }
+        sketch.image()
+    }
+
     /// The image of the first so many members.
     pub fn image(self, count: usize) -> Vec<u8> {
-        let mut image = vec![0; SIZE];
+        let mut image = self.first_image();
         let mut steps = vec![0; BUFFER];
-        Reference.empty(&mut image);
         for place in 0..count {
             Reference.deliver(&mut image, &self.member(place).bytes(), &mut steps);
         }
@@ -311,6 +341,9 @@ impl fmt::Display for Shape {
             Shape::Fan => "fan",
             Shape::Ring => "ring",
             Shape::RingLongest => "ring200",
+            Shape::ChainFloors => "chain32",
+            Shape::LongestFloors => "longest32",
+            Shape::RingFloors => "ring32",
             Shape::Read => "read",
             Shape::Write => "write",
             Shape::Log => "log",

@@ -34,7 +34,7 @@ pub fn build(spec: &Spec) -> Case {
         Arrival::Whole => (0, last),
         _ => (last, last),
     };
-    let part = |place| packed(256 * LENGTH, 272 + LENGTH * place);
+    let part = |place| packed(256 * LENGTH, 544 + LENGTH * place);
     let mut answer = (first..=last).map(part).sum();
     if spec.arrival == Arrival::Refused(2) {
         USED_ONE_MORE.apply(&mut image);

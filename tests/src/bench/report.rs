@@ -1,6 +1,6 @@
 //! The tables of the benchmark.
 
-use crate::bench::cases::{Arrival, Case, Shape, Spec, GROWING};
+use crate::bench::cases::{Arrival, Case, Shape, Spec, COUNTS, FLOORED, GROWING};
 use crate::bench::measure::{clock, measure, Effort, Timing};
 use crate::bench::sides::{FIRST, NAMES};
 
@@ -24,6 +24,7 @@ pub fn run(specs: &[Spec], effort: Effort) -> Result<Vec<Row>, String> {
         rest = later;
     }
     print_growth(&rows);
+    print_floors(&rows);
     print_extremes(&rows);
     Ok(rows)
 }
@@ -130,6 +131,34 @@ fn print_growth(rows: &[Row]) {
             println!();
         }
     }
+}
+
+/// What 32 floors cost: the time of a case behind them over that of the same without.
+fn print_floors(rows: &[Row]) {
+    let mut lines = Vec::new();
+    for (shape, arrival) in GROWING {
+        let plain = FLOORED.iter().find(|(floored, _)| *floored == shape);
+        for count in COUNTS {
+            let with = time(rows, shape, arrival, count);
+            let without = plain.and_then(|(_, plain)| time(rows, *plain, arrival, count));
+            if let (Some(with), Some(without)) = (with, without) {
+                let name = format!("{shape}-{arrival}-{count}");
+                lines.push(format!("{name:<22}{}", ratios(with, without)));
+            }
+        }
+    }
+    if !lines.is_empty() {
+        println!();
+        println!("32 floors: the time of a case over that of the same without floors, {NAMES:?}.");
+        lines.iter().for_each(|line| println!("{line}"));
+    }
+}
+
+/// The ratio of two timings, for each side.
+fn ratios(one: &Timing, other: &Timing) -> String {
+    let sides = one.sides.iter().zip(&other.sides);
+    let ratios = sides.map(|(one, other)| format!("{:>10.2}", one.median / other.median));
+    ratios.collect()
 }
 
 /// What was measured of a shape and an arrival at a count.

@@ -1,8 +1,9 @@
 //! Compares the library with the second implementation over seeds, for a number of
 //! deliveries or of minutes.
 //!
-//! `long_run --deliveries N` or `--minutes N`, with `--start SEED`; or `--seed SEED`
-//! to run one seed and print each of its calls. `--fault N` compares the second
+//! `long_run --deliveries N` or `--minutes N`, with `--start SEED`, and with `--every N`
+//! only each Nth seed from there on (`--start 204 --every 8`: those that begin from an
+//! image with floors); or `--seed SEED` to run one seed and print each of its calls. `--fault N` compares the second
 //! implementation with its Nth deliberately wrong variant instead, to see that a
 //! difference is found. A build without the library compares nothing, and says so;
 //! with `--self` it compares the second implementation with itself, to see that the
@@ -27,13 +28,14 @@ struct Options {
     deliveries: Option<u64>,
     minutes: Option<u64>,
     start: u64,
+    every: Option<u64>,
     seed: Option<u64>,
     fault: Option<usize>,
     itself: bool,
 }
 
 const USAGE: &str = "usage: long_run [--deliveries N] [--minutes N] [--start SEED] \
-                     [--seed SEED] [--fault N] [--self]";
+                     [--every N] [--seed SEED] [--fault N] [--self]";
 
 fn main() -> ExitCode {
     match options().and_then(|options| run(&options)) {
@@ -61,6 +63,7 @@ fn options() -> Result<Options, String> {
             "--deliveries" => options.deliveries = Some(number),
             "--minutes" => options.minutes = Some(number),
             "--start" => options.start = number,
+            "--every" => options.every = Some(number),
             "--seed" => options.seed = Some(number),
             "--fault" => options.fault = Some(number as usize),
             _ => return Err(USAGE.to_string()),
@@ -126,9 +129,10 @@ fn many_seeds(other: &Counted, options: &Options, what: &str) -> bool {
         (None, Some(_)) => u64::MAX,
         (None, None) => 100_000,
     };
+    let every = options.every.unwrap_or(1);
     let (mut cases, mut all_calls) = (0_u64, 0_u64);
     while other.deliver.get() < most && begin.elapsed() < time {
-        let seed = options.start.wrapping_add(cases);
+        let seed = options.start.wrapping_add(cases.wrapping_mul(every));
         let calls = case(seed);
         if compare(&Reference, other, &calls).is_some() {
             print!("{}", report(&Reference, other, seed, &calls));
@@ -138,7 +142,7 @@ fn many_seeds(other: &Counted, options: &Options, what: &str) -> bool {
         all_calls += calls.len() as u64;
     }
     println!(
-        "no difference: {cases} cases from seed {}, {all_calls} calls, {} deliveries, {} empties, \
+        "no difference: {cases} cases from seed {} in steps of {every}, {all_calls} calls, {} deliveries, {} empties, \
          {} composes, {} setpoints, {} log messages, {} texts read, {} texts written, {} s; \
          compared: {what}",
         options.start,

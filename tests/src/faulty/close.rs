@@ -9,6 +9,7 @@ use crate::reference::code::Code;
 use crate::reference::image::{self, listed, read_sized, SIZE};
 use crate::reference::message::{Delta, Sequence, COMMAND};
 use crate::reference::order::{key, order, Order, Placed, Set};
+use crate::reference::purged::Purged;
 use crate::reference::setpoints::{run, Setpoints};
 use crate::reference::station::is_new;
 use crate::reference::steps::{self, run_log, steps, Ran, Steps};
@@ -21,6 +22,7 @@ pub fn has_own_rule(fault: Fault) -> bool {
         Fault::KeyAlone,
         Fault::WaitsBehindHeld,
         Fault::Subtracts,
+        Fault::PurgedJoins,
     ];
     own.contains(&fault) || narrow::orders(fault)
 }
@@ -38,11 +40,12 @@ pub fn deliver(
     let before = image.to_vec();
     let (mut set, old) = read_own(fault, &before)?;
     let delta = Delta::check(message)?;
-    if !is_new(&set, &delta)? {
+    let purged = old.purged.has(&delta.sequence()) && fault != Fault::PurgedJoins;
+    if purged || !is_new(&set, &delta)? {
         return Ok(0);
     }
     set.insert(delta.sequence(), delta);
-    let new = arranged(fault, &set, &old.log_sequences());
+    let new = arranged(fault, &set, &old.purged, &old.log_sequences());
     let mut all = steps(&run_log(&old), &run_log(&new));
     image.copy_from_slice(&image::write(&new));
     if fault == Fault::Subtracts {
@@ -63,8 +66,8 @@ fn read_own(fault: Fault, image: &[u8]) -> Result<(Set<'_>, Order<'_>), Code> {
     if fault == Fault::Subtracts {
         return read_sized(image);
     }
-    let set = listed(image).ok_or(Code::Image)?;
-    let order = arranged(fault, &set, &view::log(image));
+    let (set, purged) = listed(image).ok_or(Code::Image)?;
+    let order = arranged(fault, &set, &purged, &view::log(image));
     match image::write(&order) == image {
         true => Ok((set, order)),
         false => Err(Code::Image),
@@ -72,19 +75,20 @@ fn read_own(fault: Fault, image: &[u8]) -> Result<(Set<'_>, Order<'_>), Code> {
 }
 
 /// The log and the held ones of a set, as the fault's rule has them where this log was before.
-fn arranged<'a>(fault: Fault, set: &Set<'a>, before: &[Sequence]) -> Order<'a> {
-    let mut right = order(set);
+fn arranged<'a>(fault: Fault, set: &Set<'a>, purged: &Purged, before: &[Sequence]) -> Order<'a> {
+    let mut right = order(set, purged);
     match fault {
         Fault::HoldsAll => Order {
             log: Vec::new(),
             held: set.values().copied().collect(),
+            purged: purged.clone(),
         },
         Fault::KeyAlone => {
             right.log.sort_by_key(key);
             right
         }
         Fault::WaitsBehindHeld => waiting(set, right, before),
-        fault if narrow::orders(fault) => narrow::arrange(fault, set),
+        fault if narrow::orders(fault) => narrow::arrange(fault, set, purged),
         _ => right,
     }
 }
@@ -103,7 +107,11 @@ fn waiting<'a>(set: &Set<'a>, right: Order<'a>, before: &[Sequence]) -> Order<'a
     let mut held = right.held;
     held.extend(late.iter().map(|placed| placed.delta));
     held.sort_by_key(Delta::sequence);
-    Order { log, held }
+    Order {
+        log,
+        held,
+        purged: right.purged,
+    }
 }
 
 /// What these deltas need, and what that needs, of a set.

@@ -2,6 +2,7 @@
 //! differential runner finds its fault.
 
 mod close;
+mod floors;
 mod narrow;
 mod pairs;
 mod printing;
@@ -15,10 +16,10 @@ use crate::boundary::{code, executions, length, packed, undos, value, Calls, Ref
 use crate::reference::bytes::{i32_at, put, u16_at};
 use crate::reference::code::Code;
 use crate::reference::compose::Request;
-use crate::reference::image::{self, read_sized, SETPOINTS};
+use crate::reference::image::{self, first_message, listed, read_sized, BASE, SETPOINTS};
 use crate::reference::message::Delta;
-use crate::reference::order::{order, Set};
 use crate::reference::setpoints::{run, Setpoints};
+use crate::reference::station::empty_image;
 use crate::reference::steps::{self, run_log, Steps, STEP};
 use crate::view::messages;
 
@@ -105,6 +106,58 @@ pub enum Fault {
     EightHidePredecessor,
     /// Takes a message for a repeat whose first 140 bytes are equal.
     First140Compared,
+    /// A need counts as placed where its line has a floor, whatever its number.
+    NeedsByLineAlone,
+    /// A need at its floor does not count as placed, one below it does.
+    NeedAtFloorMissing,
+    /// A need below its floor does not count as placed, one at it does.
+    NeedBelowFloorMissing,
+    /// An effective block may be below the greatest purged one.
+    PurgedBlockUncounted,
+    /// The values of an image are those of its log run from zero.
+    BaseUnused,
+    /// The pairs of steps are those of the log run from zero.
+    BaseUnusedInSteps,
+    /// A delivery at or below its floor joins the set.
+    PurgedJoins,
+    /// A delivery of a line with a floor is taken for purged, whatever its number.
+    DeliveryByLineAlone,
+    /// Answers 7 to a delivery at or below its floor.
+    ConflictBelowFloor,
+    /// With 64 present, answers 8 to a delivery at or below its floor.
+    FullBelowFloor,
+    /// Compose does not count the line's floor.
+    NumberWithoutFloor,
+    /// Compose takes group 1 on an empty log, whatever was purged.
+    GroupOneOnEmptied,
+    /// Compose does not count the purged group where there is a log.
+    PurgedGroupUncounted,
+    /// Compose does not count the purged block.
+    BlockOfLogAlone,
+    /// Answers a setpoint of an image with a message at or below a floor.
+    MessageBelowFloorPasses,
+    /// The same of one with two floors of one line.
+    FloorTwicePasses,
+    /// The same of one whose floors are in another order.
+    FloorsUnordered,
+    /// The same of one with a floor of number 0.
+    FloorZeroPasses,
+    /// The same of one with more than 32 floors.
+    ThirtyThreeFloors,
+    /// The same of one with a base value and no floor.
+    BaseWithoutFloor,
+    /// The same of one with a purged block and no floor.
+    BlockWithoutFloor,
+    /// The same of one with a purged group and no floor.
+    GroupWithoutFloor,
+    /// The same of one with a base value out of range.
+    BaseOutOfRangePasses,
+    /// The same of one whose purged block is above the limit.
+    PurgedBlockAboveLimit,
+    /// The same of one whose purged group is above the limit.
+    PurgedGroupAboveLimit,
+    /// The same of one whose header bytes 24-31 are not zero.
+    HeaderEndUnchecked,
     /// The reader takes small letters.
     SmallLettersRead,
     /// The reader takes G, as a 0.
@@ -152,7 +205,7 @@ pub enum Fault {
 }
 
 /// Every fault. Those that the paper names as programs that come close are among them.
-pub const FAULTS: [Fault; 62] = [
+pub const FAULTS: [Fault; 88] = [
     Fault::FullAt63,
     Fault::KeyAlone,
     Fault::TailNotCleared,
@@ -193,6 +246,32 @@ pub const FAULTS: [Fault; 62] = [
     Fault::GroupOf24Bits,
     Fault::EightHidePredecessor,
     Fault::First140Compared,
+    Fault::NeedsByLineAlone,
+    Fault::NeedAtFloorMissing,
+    Fault::NeedBelowFloorMissing,
+    Fault::PurgedBlockUncounted,
+    Fault::BaseUnused,
+    Fault::BaseUnusedInSteps,
+    Fault::PurgedJoins,
+    Fault::DeliveryByLineAlone,
+    Fault::ConflictBelowFloor,
+    Fault::FullBelowFloor,
+    Fault::NumberWithoutFloor,
+    Fault::GroupOneOnEmptied,
+    Fault::PurgedGroupUncounted,
+    Fault::BlockOfLogAlone,
+    Fault::MessageBelowFloorPasses,
+    Fault::FloorTwicePasses,
+    Fault::FloorsUnordered,
+    Fault::FloorZeroPasses,
+    Fault::ThirtyThreeFloors,
+    Fault::BaseWithoutFloor,
+    Fault::BlockWithoutFloor,
+    Fault::GroupWithoutFloor,
+    Fault::BaseOutOfRangePasses,
+    Fault::PurgedBlockAboveLimit,
+    Fault::PurgedGroupAboveLimit,
+    Fault::HeaderEndUnchecked,
     Fault::SmallLettersRead,
     Fault::LetterG,
     Fault::ColonRead,
@@ -226,7 +305,7 @@ impl Calls for Faulty {
         let before = image.to_vec();
         let answer = Reference.empty(image);
         if self.0 == Fault::TailNotCleared && answer == 0 {
-            image[272..].copy_from_slice(&before[272..]);
+            image[BASE..].copy_from_slice(&before[BASE..]);
         }
         answer
     }
@@ -237,6 +316,9 @@ impl Calls for Faulty {
         }
         if self.0 == Fault::ShortRoom && buffer.len() + 1 == steps::BUFFER {
             return pairs::with_short_room(image, message, buffer);
+        }
+        if let Some(other) = self.of_floors(image, message, buffer) {
+            return other;
         }
         if close::has_own_rule(self.0) {
             let answer = close::deliver(self.0, image, message, buffer);
@@ -267,6 +349,10 @@ impl Calls for Faulty {
             (Fault::RangeBeforeDependencies, 5) if range_is_wrong(message) => 6,
             (Fault::TailUnchecked, 2) => without_tail(image, message, buffer),
             (Fault::SetpointsUnchecked, 2) => without_setpoints(image, message, buffer),
+            (Fault::BaseUnused, 0) if *image != before[..] => {
+                forget_base(image);
+                answer
+            }
             (Fault::LeavesImage, 0) => {
                 image.copy_from_slice(&before);
                 answer
@@ -292,7 +378,7 @@ impl Calls for Faulty {
                 message.copy_from_slice(&before);
                 return 11;
             }
-            _ => {}
+            fault => floors::compose(fault, image, message),
         }
         answer
     }
@@ -302,9 +388,12 @@ impl Calls for Faulty {
         match (self.0, code(answer)) {
             (Fault::TagWraps, 12) => Reference.setpoint(image, tag % 64),
             (Fault::SetpointUnjudged, 2) if tag < 64 => {
-                packed(0, i32_at(image, 16 + 4 * tag as usize) as u32)
+                packed(0, i32_at(image, SETPOINTS + 4 * tag as usize) as u32)
             }
             (Fault::SignLost, 0) => packed(0, value(answer).unsigned_abs()),
+            (fault, 2) if tag < 64 && floors::passes(fault, image) => {
+                packed(0, i32_at(image, SETPOINTS + 4 * tag as usize) as u32)
+            }
             _ => answer,
         }
     }
@@ -314,7 +403,7 @@ impl Calls for Faulty {
         match (self.0, code(answer)) {
             (Fault::LastPlaceRefused, 0) if place + 1 == u32::from(u16_at(image, 0)) => 12,
             (Fault::HeldAsLog, 12) if place < u32::from(count(image)) => held_as_log(image, place),
-            (Fault::OffsetFromMessages, 0) => answer - packed(0, 272),
+            (Fault::OffsetFromMessages, 0) => answer - packed(0, first_message(image) as u32),
             _ => answer,
         }
     }
@@ -329,12 +418,18 @@ impl Calls for Faulty {
 }
 
 impl Faulty {
+    /// The answer to a right delivery of a fault that takes floors for something else.
+    fn of_floors(&self, image: &[u8], message: &[u8], buffer: &[u8]) -> Option<u32> {
+        let taken = buffer.len() >= steps::BUFFER && Delta::check(message).is_ok();
+        taken.then(|| floors::delivery(self.0, image, message))?
+    }
+
     /// The answer of a fault that writes no steps where a delivery is accepted; the image is
     /// made to fit.
     fn without_steps(&self, before: &[u8], image: &mut [u8]) -> Option<u32> {
         match self.0 {
             Fault::EchoesLater if count(before) > 0 => image.copy_from_slice(before),
-            Fault::SameLog => image.copy_from_slice(&image::write(&order(&Set::new()))),
+            Fault::SameLog => image.copy_from_slice(&empty_image()),
             Fault::RefusesAll => image.copy_from_slice(before),
             _ => return None,
         }
@@ -345,7 +440,7 @@ impl Faulty {
 /// The message at a place of log and held ones together.
 fn held_as_log(image: &[u8], place: u32) -> u64 {
     let before = messages(image, 0, place as usize);
-    let offset = 272 + before.concat().len();
+    let offset = first_message(image) + before.concat().len();
     packed(256 * u32::from(u16_at(image, offset + 4)), offset as u32)
 }
 
@@ -421,8 +516,8 @@ fn without_setpoints(image: &mut [u8], message: &[u8], buffer: &mut [u8]) -> u32
 
 /// The image with its setpoints computed anew, if that makes it one.
 fn rebuilt(image: &[u8]) -> Option<Vec<u8>> {
-    let mut setpoints = [0; 64];
-    let mut at = 272;
+    let mut setpoints = listed(image)?.1.base;
+    let mut at = first_message(image);
     for _ in 0..u16_at(image, 0).min(64) {
         let length = usize::from(u16_at(image, at + 4));
         let delta = Delta::check(image.get(at..at + length)?).ok()?;
@@ -438,6 +533,15 @@ fn rebuilt(image: &[u8]) -> Option<Vec<u8>> {
 fn write_setpoints(image: &mut [u8], setpoints: &Setpoints) {
     for (tag, setpoint) in setpoints.iter().enumerate() {
         put(image, SETPOINTS + 4 * tag, &setpoint.to_be_bytes());
+    }
+}
+
+/// Writes the setpoints of the log run from zero.
+fn forget_base(image: &mut [u8]) {
+    let before = image.to_vec();
+    if let Ok((_, order)) = read_sized(&before) {
+        let from_zero = image::write(&floors::without_base(&order));
+        image[SETPOINTS..BASE].copy_from_slice(&from_zero[SETPOINTS..BASE]);
     }
 }
 

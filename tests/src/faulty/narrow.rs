@@ -4,9 +4,10 @@
 use std::cmp::Reverse;
 use std::collections::BTreeMap;
 
-use super::Fault;
+use super::{floors, Fault};
 use crate::reference::message::{Delta, Sequence};
 use crate::reference::order::{Order, Placed, Set};
+use crate::reference::purged::Purged;
 use crate::view::{all_messages, sequence_of};
 
 /// The effective blocks of the deltas that are placed.
@@ -22,31 +23,39 @@ pub fn orders(fault: Fault) -> bool {
         Fault::GroupOf24Bits,
         Fault::EightHidePredecessor,
     ];
-    own.contains(&fault)
+    own.contains(&fault) || floors::orders(fault)
 }
 
 /// The log and the held ones of a set: at each place the lowest key, as the fault sees it, of
 /// those whose needs stand before.
-pub fn arrange<'a>(fault: Fault, set: &Set<'a>) -> Order<'a> {
+pub fn arrange<'a>(fault: Fault, set: &Set<'a>, purged: &Purged) -> Order<'a> {
     let mut held = set.clone();
     let mut blocks = Blocks::new();
     let mut log = Vec::new();
-    while let Some(placed) = first(fault, &held, &blocks) {
+    while let Some(placed) = first(fault, &held, purged, &blocks) {
         let sequence = placed.delta.sequence();
         blocks.insert(sequence, placed.effective_block);
         held.remove(&sequence);
         log.push(placed);
     }
     let held = held.into_values().collect();
-    Order { log, held }
+    Order {
+        log,
+        held,
+        purged: purged.clone(),
+    }
 }
 
 /// The delta of the lowest key among those that can be placed.
-fn first<'a>(fault: Fault, rest: &Set<'a>, blocks: &Blocks) -> Option<Placed<'a>> {
-    let ready = |delta: &&Delta| delta.needs().all(|need| blocks.contains_key(&need));
+fn first<'a>(fault: Fault, rest: &Set<'a>, purged: &Purged, blocks: &Blocks) -> Option<Placed<'a>> {
+    let stands = |need: Sequence| {
+        blocks.contains_key(&need) || floors::counts_as_placed(fault, purged, &need)
+    };
+    let ready = |delta: &&Delta| delta.needs().all(stands);
+    let least = floors::least_block(fault, purged);
     let placed = rest.values().filter(ready).map(|delta| Placed {
         delta: *delta,
-        effective_block: effective_block(fault, delta, blocks),
+        effective_block: effective_block(fault, delta, blocks).max(least),
     });
     placed.min_by_key(|placed| key(fault, placed))
 }

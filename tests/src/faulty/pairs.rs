@@ -2,6 +2,7 @@
 
 use std::mem::swap;
 
+use super::floors::without_base;
 use super::Fault;
 use crate::boundary::{Calls, Reference};
 use crate::reference::bytes::{i32_at, u8_at};
@@ -30,6 +31,7 @@ pub fn spoil(fault: Fault, images: Images, untouched: &[u8], buffer: &mut [u8]) 
         Fault::StillLeftOut => rewrite(images, buffer, |all, _| {
             every(all).for_each(|ran| ran.changes.retain(|c| c.before != c.after));
         }),
+        Fault::BaseUnusedInSteps => from_zero(images, buffer),
         Fault::CountsEight => each_record(images, buffer, |record, _| record[3] = 8),
         Fault::UnusedNotCleared => each_record(images, buffer, |record, at| {
             let used = 16 + 8 * usize::from(record[3]);
@@ -43,6 +45,14 @@ pub fn spoil(fault: Fault, images: Images, untouched: &[u8], buffer: &mut [u8]) 
 fn steps_between<'a>(images: Images<'a>) -> Option<(Steps, Set<'a>)> {
     let ((_, old), (set, new)) = (read_sized(images.0).ok()?, read_sized(images.1).ok()?);
     Some((steps(&run_log(&old), &run_log(&new)), set))
+}
+
+/// Writes the steps between two logs that are run from zero.
+fn from_zero(images: Images, buffer: &mut [u8]) {
+    if let (Ok((_, old)), Ok((_, new))) = (read_sized(images.0), read_sized(images.1)) {
+        let ran = |order| run_log(&without_base(order));
+        steps::write(&steps(&ran(&old), &ran(&new)), buffer);
+    }
 }
 
 /// The undos and the executions.

@@ -2,8 +2,8 @@
 //! that have one, and in what is refused.
 
 use crate::reference::code::Code;
-use crate::reference::image::{read_sized, MESSAGES, SIZE};
-use crate::view::{messages, sequence_of, u16_at, u32_at};
+use crate::reference::image::{read_sized, SIZE};
+use crate::view::{first_message, messages, sequence_of, u16_at, u32_at};
 use crate::wire::text;
 
 /// What is wrong with the program.
@@ -125,7 +125,7 @@ impl Printer {
 
     fn lines(&self, image: &[u8]) -> String {
         let held = usize::from(self.has(PrintFault::HeldPrinted)) * u16_at(image, 2);
-        let mut offset = MESSAGES;
+        let mut offset = self.first_offset(image);
         let mut lines = Vec::new();
         for (place, message) in (0..).zip(messages(image, 0, u16_at(image, 0) + held)) {
             lines.push(self.fields(place, offset, &message).join(" "));
@@ -142,12 +142,19 @@ impl Printer {
         }
     }
 
+    /// The offset that the first line gives.
+    fn first_offset(&self, image: &[u8]) -> usize {
+        match self.0 {
+            Some(PrintFault::OffsetFromMessages) => 0,
+            _ => first_message(image),
+        }
+    }
+
     /// The fields of a message's line.
     fn fields(&self, place: usize, offset: usize, message: &[u8]) -> Vec<String> {
         let place = place + usize::from(self.has(PrintFault::PlaceFromOne));
         let offset = match self.0 {
             Some(PrintFault::OffsetOfNext) => offset + message.len(),
-            Some(PrintFault::OffsetFromMessages) => offset - MESSAGES,
             _ => offset,
         };
         let mut fields = vec![place.to_string(), offset.to_string()];

@@ -5,7 +5,7 @@ use crate::boundary::{code, length, offset, packed, Calls, Reference};
 use crate::edit::Edit;
 use crate::reference::bytes::{put, u16_at, u8_at};
 use crate::reference::compose::Request;
-use crate::reference::image::{read_sized, MESSAGES, SETPOINTS, SIZE};
+use crate::reference::image::{first_message, read_sized, SETPOINTS, SIZE};
 
 /// What is wrong with the walk.
 #[derive(Clone, Copy, Debug, PartialEq, Eq)]
@@ -90,7 +90,7 @@ impl FaultyWalk {
             WalkFault::UsedOneMore => Edit::Header(8, 0xFFFF).apply(&mut right),
             WalkFault::UsedOneLess => Edit::Header(8, 1).apply(&mut right),
             WalkFault::LengthUnchecked => lengths_by_counts(&mut right),
-            WalkFault::FirstOffsetUnchecked => put_number(&mut right, 6, MESSAGES),
+            WalkFault::FirstOffsetUnchecked => put_number(&mut right, 6, first_message(image)),
             WalkFault::HeldUncounted => count_held(&mut right),
             _ => {}
         }
@@ -100,11 +100,12 @@ impl FaultyWalk {
     /// Offset and length of a message that is there, as the fault has them.
     fn misplaced(&self, image: &[u8], place: usize, answer: u64) -> u64 {
         let (at, size) = (offset(answer), length(answer));
-        let first = length_at(image, MESSAGES);
+        let start = first_message(image);
+        let first = length_at(image, start);
         match self.0 {
-            WalkFault::FromHeader => part(at - MESSAGES + SETPOINTS, size),
+            WalkFault::FromHeader => part(at - start + SETPOINTS, size),
             WalkFault::LengthTwice if place > 0 => part(at + first, size),
-            WalkFault::FirstLengthAlways => part(MESSAGES + place * first, size),
+            WalkFault::FirstLengthAlways => part(start + place * first, size),
             WalkFault::LengthOfNext => part(at, length_at(image, at + size)),
             _ => answer,
         }
@@ -127,13 +128,13 @@ fn by_lengths_alone(image: &[u8], place: u32) -> u64 {
         return 12;
     }
     let next = |at, _| at + length_at(image, at);
-    let at = (0..place).fold(MESSAGES, next);
+    let at = (0..place).fold(first_message(image), next);
     part(at, length_at(image, at))
 }
 
 /// Writes into each message the length that its counts give.
 fn lengths_by_counts(image: &mut [u8]) {
-    let mut at = MESSAGES;
+    let mut at = first_message(image);
     for _ in 0..usize::from(u16_at(image, 0)) + usize::from(u16_at(image, 2)) {
         let (dependencies, commands) = (u8_at(image, at + 2), u8_at(image, at + 3));
         let length = 40 + 12 * usize::from(dependencies) + 8 * usize::from(commands);
@@ -145,7 +146,7 @@ fn lengths_by_counts(image: &mut [u8]) {
 /// Makes the held count that of the messages up to the bytes used, less the log's.
 fn count_held(image: &mut [u8]) {
     let used = usize::from(u16_at(image, 8)).min(image.len());
-    let (mut at, mut count) = (MESSAGES, 0);
+    let (mut at, mut count) = (first_message(image), 0);
     while at < used && length_at(image, at) > 0 {
         at += length_at(image, at);
         count += 1_usize;

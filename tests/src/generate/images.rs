@@ -1,12 +1,10 @@
 //! Inputs of the program that prints a log: images of all shapes, damaged ones, and bytes
 //! that are none.
 
-use super::{any_draft, drafts, edit};
+use super::{any_draft, drafts, edit, floors, image_with, is_with_floors};
 use crate::edit::Edit;
 use crate::random::Random;
-use crate::reference::image;
-use crate::reference::message::Delta;
-use crate::reference::order::{order, Set};
+use crate::reference::purged::Purged;
 use crate::wire::Draft;
 
 /// The size of an image.
@@ -17,6 +15,9 @@ const SIZES: [usize; 7] = [0, 1, 272, SIZE - 1, SIZE + 1, 2 * SIZE, 40_000];
 /// The input of a seed.
 pub fn image_input(seed: u64) -> Vec<u8> {
     let mut random = Random::new(seed);
+    if is_with_floors(seed) {
+        return floors::any_image(&mut random);
+    }
     match random.below(20) {
         0..=10 => image(&mut random),
         11..=16 => damaged_image(&mut random).1,
@@ -47,10 +48,7 @@ fn repeat_commands(draft: &mut Draft) {
 
 /// The image of these deltas; of two with one sequence the later is taken.
 pub fn image_of(drafts: &[Draft]) -> Vec<u8> {
-    let messages: Vec<Vec<u8>> = drafts.iter().map(Draft::bytes).collect();
-    let deltas = messages.iter().filter_map(|bytes| Delta::check(bytes).ok());
-    let set: Set = deltas.map(|delta| (delta.sequence(), delta)).collect();
-    image::write(&order(&set))
+    image_with(drafts, &Purged::nothing())
 }
 
 /// An image with an edit, and the edit. Some edits make another image of it.

@@ -1,6 +1,7 @@
 //! Hard inputs from a seed: sets of deltas, wrong messages, edits, texts, lists of calls,
 //! streams, images.
 
+mod floors;
 mod images;
 mod limits;
 mod right;
@@ -9,6 +10,7 @@ mod streams;
 mod texts;
 mod wrong;
 
+pub use floors::{image_with, is_with_floors};
 pub use images::{damaged_image, image_input};
 pub use limits::{is_at_limits, wrong_images};
 pub use right::any_draft;
@@ -56,10 +58,13 @@ pub fn edit(random: &mut Random) -> Edit {
     }
 }
 
-/// A list of calls from a seed. It begins with an empty station.
+/// A list of calls from a seed. It begins with an empty station, or with one that has floors.
 pub fn case(seed: u64) -> Vec<Call> {
     if is_at_limits(seed) {
         return limits::case(seed);
+    }
+    if is_with_floors(seed) {
+        return floors::case(seed);
     }
     let mut random = Random::new(seed);
     let style = Style::new(&mut random);

@@ -4,12 +4,14 @@
 pub mod trial;
 
 /// The tests that are run on each change first: those of few inputs.
-pub const QUICK: [&str; 17] = [
+pub const QUICK: [&str; 19] = [
     "examples",
     "codes",
     "edges_message",
     "edges_image",
     "edges_log",
+    "edges_floors",
+    "floors",
     "edges_compose",
     "edges_buffers",
     "edges_steps",
@@ -27,10 +29,11 @@ pub const QUICK: [&str; 17] = [
 /// The tests that are run after those: of many inputs. The tests of the differential runner
 /// are not among them, as they would compare the second implementation with itself. The
 /// last one sees nearly every change by digests, which name no rule.
-pub const SLOW: [&str; 11] = [
+pub const SLOW: [&str; 12] = [
     "accepted",
     "generator",
     "limits",
+    "limits_floors",
     "brute_force",
     "hostile",
     "round_trips",

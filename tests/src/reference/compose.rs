@@ -89,31 +89,32 @@ fn header(order: &Order, own: &Line, request: &Request) -> Result<Header, Code> 
     })
 }
 
-/// One more than the line's greatest number in the log, or 0001.
+/// One more than the line's greatest number in the log, or than its floor, or 0001.
 fn next_number(order: &Order, own: &Line) -> Result<u16, Code> {
     let sequences = order.log.iter().map(|placed| placed.delta.sequence());
     let greatest = sequences
         .filter(|s| line(s) == *own)
         .map(|s| number(&s))
         .max();
-    greatest.unwrap_or(0).checked_add(1).ok_or(Code::Limit)
+    let greatest = greatest.unwrap_or(0).max(order.purged.floor(own));
+    greatest.checked_add(1).ok_or(Code::Limit)
 }
 
-/// 1 on an empty log; the highest plus one if the last delta's sequence is above
-/// the new one; else the highest.
+/// The highest, of log and purged part, plus one on an empty log, or if the last delta's
+/// sequence is above the new one; else the highest.
 fn next_group(order: &Order, new: &Sequence) -> Result<u32, Code> {
-    let highest = order.log.iter().map(|p| p.delta.group()).max();
-    match (order.log.last(), highest) {
-        (Some(last), Some(highest)) if last.delta.sequence() > *new => below_limit(highest),
-        (Some(_), Some(highest)) => Ok(highest),
-        _ => Ok(1),
+    let groups = order.log.iter().map(|placed| placed.delta.group());
+    let highest = groups.fold(order.purged.group, u32::max);
+    match order.log.last() {
+        Some(last) if last.delta.sequence() <= *new => Ok(highest),
+        _ => below_limit(highest),
     }
 }
 
-/// The highest effective block of the log plus one, 1 on an empty log.
+/// The highest effective block, of log and purged part, plus one.
 fn next_block(order: &Order) -> Result<u32, Code> {
-    let highest = order.log.iter().map(|placed| placed.effective_block).max();
-    below_limit(highest.unwrap_or(0))
+    let blocks = order.log.iter().map(|placed| placed.effective_block);
+    below_limit(blocks.fold(order.purged.block, u32::max))
 }
 
 /// One more, or code 10.

@@ -2,9 +2,7 @@
 
 use super::bytes::u16_at;
 use super::code::Code;
-use super::image;
-use super::order::{order, Set};
-use super::station::{deliver, Counts};
+use super::station::{deliver, empty_image, Counts};
 use super::steps;
 
 /// Bytes beyond these are dropped.
@@ -13,7 +11,7 @@ pub const INPUT: usize = 60_000;
 /// What the program prints for an input.
 pub fn listing(input: &[u8]) -> String {
     let mut rest = input.get(..INPUT).unwrap_or(input);
-    let mut image = image::write(&order(&Set::new()));
+    let mut image = empty_image();
     let mut buffer = vec![0; steps::BUFFER];
     let mut printed = String::new();
     for number in 1.. {

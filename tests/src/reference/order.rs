@@ -4,6 +4,7 @@ use std::cmp::Reverse;
 use std::collections::BTreeMap;
 
 use super::message::{Delta, Sequence};
+use super::purged::Purged;
 
 /// Received deltas, each sequence once.
 pub type Set<'a> = BTreeMap<Sequence, Delta<'a>>;
@@ -15,11 +16,13 @@ pub struct Placed<'a> {
     pub effective_block: u32,
 }
 
-/// A set of deltas, ordered: the log, and the held ones by ascending sequence.
+/// A set of deltas, ordered: the log, and the held ones by ascending sequence. The purged part
+/// lies before them.
 #[derive(Clone, Debug)]
 pub struct Order<'a> {
     pub log: Vec<Placed<'a>>,
     pub held: Vec<Delta<'a>>,
+    pub purged: Purged,
 }
 
 impl Order<'_> {
@@ -60,19 +63,19 @@ pub fn key(placed: &Placed) -> Key {
 /// The log and the held deltas of a set.
 ///
 /// At each place of the log stands the delta of lowest key among those whose needs
-/// all stand before. Any such choice leaves a listing of the rest, so this is the
-/// first of all listings. What never becomes ready has no listing that ends in it.
-pub fn order<'a>(set: &Set<'a>) -> Order<'a> {
-    let users = users(set);
+/// all stand before or are purged. Any such choice leaves a listing of the rest, so this is
+/// the first of all listings. What never becomes ready has no listing that ends in it.
+pub fn order<'a>(set: &Set<'a>, purged: &Purged) -> Order<'a> {
+    let users = users(set, purged);
     let mut missing: BTreeMap<Sequence, usize> = BTreeMap::new();
     let mut ready: BTreeMap<Key, Placed<'a>> = BTreeMap::new();
     let mut blocks: BTreeMap<Sequence, u32> = BTreeMap::new();
     let mut log = Vec::with_capacity(set.len());
     for (sequence, delta) in set {
-        let count = delta.needs().count();
+        let count = open_needs(delta, purged).count();
         missing.insert(*sequence, count);
         if count == 0 {
-            make_ready(&mut ready, &blocks, *delta);
+            make_ready(&mut ready, &blocks, purged.block, *delta);
         }
     }
     while let Some(placed) = take_first(&mut ready) {
@@ -83,7 +86,7 @@ pub fn order<'a>(set: &Set<'a>) -> Order<'a> {
             if let Some(count) = missing.get_mut(&user.sequence()) {
                 *count -= 1;
                 if *count == 0 {
-                    make_ready(&mut ready, &blocks, *user);
+                    make_ready(&mut ready, &blocks, purged.block, *user);
                 }
             }
         }
@@ -93,7 +96,11 @@ pub fn order<'a>(set: &Set<'a>) -> Order<'a> {
         .filter(|delta| !blocks.contains_key(&delta.sequence()))
         .copied()
         .collect();
-    Order { log, held }
+    Order {
+        log,
+        held,
+        purged: purged.clone(),
+    }
 }
 
 /// Takes out the delta of lowest key.
@@ -102,26 +109,33 @@ fn take_first<'a>(ready: &mut BTreeMap<Key, Placed<'a>>) -> Option<Placed<'a>> {
     ready.remove(&first)
 }
 
-/// For each needed sequence, the deltas of the set that need it.
-fn users<'a>(set: &Set<'a>) -> BTreeMap<Sequence, Vec<Delta<'a>>> {
+/// The needs that have to stand in the log: one at or below its floor counts as placed.
+fn open_needs<'a>(delta: &Delta<'a>, purged: &'a Purged) -> impl Iterator<Item = Sequence> + 'a {
+    delta.needs().filter(move |need| !purged.has(need))
+}
+
+/// For each sequence that has to stand in the log, the deltas of the set that need it.
+fn users<'a>(set: &Set<'a>, purged: &Purged) -> BTreeMap<Sequence, Vec<Delta<'a>>> {
     let mut users: BTreeMap<Sequence, Vec<Delta<'a>>> = BTreeMap::new();
     for delta in set.values() {
-        for need in delta.needs() {
+        for need in open_needs(delta, purged) {
             users.entry(need).or_default().push(*delta);
         }
     }
     users
 }
 
-/// Enters a delta whose needs all stand in the log. Its effective block is the
-/// greater of its own block and the effective blocks of its needs.
+/// Enters a delta whose needs all stand in the log or are purged. Its effective block is the
+/// greatest of its own block, the effective blocks of its needs and the purged one.
 fn make_ready<'a>(
     ready: &mut BTreeMap<Key, Placed<'a>>,
     blocks: &BTreeMap<Sequence, u32>,
+    purged_block: u32,
     delta: Delta<'a>,
 ) {
     let needed = delta.needs().filter_map(|need| blocks.get(&need)).max();
-    let effective_block = delta.block().max(needed.copied().unwrap_or(0));
+    let needed = needed.copied().unwrap_or(0);
+    let effective_block = delta.block().max(needed).max(purged_block);
     let placed = Placed {
         delta,
         effective_block,

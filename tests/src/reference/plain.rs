@@ -1,4 +1,5 @@
-//! The plain station of "Demand 3 over a whole run": a set of messages, nothing else.
+//! The plain station of "Demand 3 over a whole run": a set of messages, and what was purged
+//! before them.
 
 use std::collections::BTreeMap;
 
@@ -6,21 +7,40 @@ use super::code::Code;
 use super::image;
 use super::message::{Delta, Sequence};
 use super::order::{order, Order, Set};
+use super::purged::Purged;
 use super::steps;
 
-/// The accepted messages by their sequence.
-#[derive(Clone, Debug, Default)]
+/// The accepted messages by their sequence. A station begins with none and with no floor.
+#[derive(Clone, Debug)]
 pub struct PlainStation {
     messages: BTreeMap<Sequence, Vec<u8>>,
+    purged: Purged,
+}
+
+impl Default for PlainStation {
+    fn default() -> PlainStation {
+        PlainStation::after(Purged::nothing())
+    }
 }
 
 impl PlainStation {
+    /// A station of no messages, before which this was purged.
+    pub fn after(purged: Purged) -> PlainStation {
+        PlainStation {
+            messages: BTreeMap::new(),
+            purged,
+        }
+    }
+
     /// Takes a delivery's message and the length of its step buffer.
     pub fn deliver(&mut self, message: &[u8], step_buffer: usize) -> Result<(), Code> {
         if step_buffer < steps::BUFFER {
             return Err(Code::Size);
         }
         let sequence = Delta::check(message)?.sequence();
+        if self.purged.has(&sequence) {
+            return Ok(());
+        }
         let present = self.messages.get(&sequence);
         if present.map_or(false, |bytes| bytes != message) {
             return Err(Code::Conflict);
@@ -48,6 +68,6 @@ impl PlainStation {
             .filter_map(|message| Delta::check(message).ok())
             .map(|delta| (delta.sequence(), delta))
             .collect();
-        order(&set)
+        order(&set, &self.purged)
     }
 }

@@ -1,6 +1,6 @@
 //! The log reader: the lent image together with the offset of the next message.
 
-use super::image::{read_sized, MESSAGES};
+use super::image::{first_message, read_sized, SIZE};
 use super::message::cut_at;
 
 /// Hands out the log's messages one after another.
@@ -11,12 +11,19 @@ pub struct Reader<'a> {
 }
 
 impl<'a> Reader<'a> {
-    /// Starts at the first message of the log.
+    /// Starts at the first message of the log, past as many floors as the buffer counts. In
+    /// one of wrong size it has nowhere to start, and stays at 0.
     pub fn new(image: &'a [u8]) -> Reader<'a> {
-        Reader {
-            image,
-            next: MESSAGES,
-        }
+        let next = match image.len() {
+            SIZE => first_message(image),
+            _ => 0,
+        };
+        Reader { image, next }
+    }
+
+    /// The offset of the next message.
+    pub fn offset(&self) -> usize {
+        self.next
     }
 
     /// The next message of the log. Past the last one, or on a buffer that answers
@@ -36,7 +43,7 @@ fn log_end(image: &[u8]) -> usize {
     match read_sized(image) {
         Ok((_, order)) => {
             let lengths = order.log.iter().map(|p| p.delta.bytes().len());
-            MESSAGES + lengths.sum::<usize>()
+            first_message(image) + lengths.sum::<usize>()
         }
         Err(_) => 0,
     }

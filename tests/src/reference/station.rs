@@ -5,6 +5,7 @@ use super::code::Code;
 use super::image::{read, read_sized, write, CAPACITY, SETPOINTS, SIZE};
 use super::message::Delta;
 use super::order::{order, Order, Set};
+use super::purged::Purged;
 use super::setpoints::COUNT;
 use super::steps;
 
@@ -20,22 +21,28 @@ pub fn empty(image: &mut [u8]) -> Result<(), Code> {
     if image.len() != SIZE {
         return Err(Code::Size);
     }
-    image.copy_from_slice(&write(&order(&Set::new())));
+    image.copy_from_slice(&empty_image());
     Ok(())
 }
 
-/// Takes a message into the set of the image, and writes the steps.
+/// The image of no deltas, with no floor.
+pub fn empty_image() -> Vec<u8> {
+    write(&order(&Set::new(), &Purged::nothing()))
+}
+
+/// Takes a message into the set of the image, and writes the steps. One at or below its floor
+/// joins no set, and 7 and 8 are not looked for.
 pub fn deliver(image: &mut [u8], message: &[u8], buffer: &mut [u8]) -> Result<Counts, Code> {
     if image.len() != SIZE || buffer.len() < steps::BUFFER {
         return Err(Code::Size);
     }
     let (mut set, old) = read(image)?;
     let delta = Delta::check(message)?;
-    if !is_new(&set, &delta)? {
+    if old.purged.has(&delta.sequence()) || !is_new(&set, &delta)? {
         return Ok(Counts::default());
     }
     set.insert(delta.sequence(), delta);
-    let new = order(&set);
+    let new = order(&set, &old.purged);
     let (counts, bytes) = (write_steps(&old, &new, buffer), write(&new));
     image.copy_from_slice(&bytes);
     Ok(counts)

@@ -4,7 +4,7 @@
 use super::bytes::put;
 use super::message::Sequence;
 use super::order::Order;
-use super::setpoints::{run, Change, COUNT};
+use super::setpoints::{run, Change};
 
 /// Length of a step record.
 pub const STEP: usize = 80;
@@ -31,9 +31,9 @@ pub struct Steps {
     pub executions: Vec<Ran>,
 }
 
-/// Runs a log on setpoints that are all zero at first.
+/// Runs a log on setpoints that are the base values at first.
 pub fn run_log(order: &Order) -> Vec<Ran> {
-    let mut setpoints = [0; COUNT];
+    let mut setpoints = order.purged.base;
     let mut log = Vec::with_capacity(order.log.len());
     for placed in &order.log {
         let (after, changes) = run(placed.delta.commands(), setpoints);

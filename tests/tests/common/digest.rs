@@ -1,12 +1,15 @@
-//! Everything that can be seen of many calls of each kind, as one number a kind.
+//! Everything that can be seen of many calls of each kind, as one number a kind. Images with no
+//! floor, and the offsets in them, are taken as they were before change request 4, so that
+//! numbers of an earlier library can be held against them.
 
 use std::collections::BTreeMap;
 use std::ops::Range;
 
-use bivamolune_tests::boundary::Calls;
+use bivamolune_tests::boundary::{code, packed, Calls};
 use bivamolune_tests::call::{Action, Call, Outcome, View, World};
 use bivamolune_tests::generate::{any_draft, case};
 use bivamolune_tests::random::Random;
+use bivamolune_tests::view::u16_at;
 
 use super::common::IMAGE;
 use super::known::{wrong_header, Edits, Known, MESSAGES};
@@ -92,7 +95,10 @@ impl Run<'_> {
         let outcome = self.world.perform(self.calls, call);
         let kind = (name(&call.action), image);
         let tally = self.tallies.entry(kind).or_insert(Tally::NONE);
-        tally.note(&outcome);
+        match image {
+            "image" => tally.note(&as_before(&call.action, outcome.clone())),
+            _ => tally.note(&outcome),
+        }
         self.world.follow(call, &outcome);
     }
 
@@ -124,6 +130,29 @@ impl Run<'_> {
     }
 }
 
+/// What change request 4 moved the messages by.
+const MOVED: usize = 272;
+
+/// The outcome of a call on an image, as it was when the header had 16 bytes and there were no
+/// base values: header bytes 4 to 15 are those of then, values and messages follow, and the
+/// offset that log message gives is counted so.
+fn as_before(action: &Action, mut outcome: Outcome) -> Outcome {
+    let image = outcome.image;
+    let mut before = image[..4].to_vec();
+    for (at, less) in [(4, 16), (6, MOVED), (8, MOVED)] {
+        before.extend((u16_at(&image, at) as u16 - less as u16).to_be_bytes());
+    }
+    before.resize(16, 0);
+    before.extend(&image[32..288]);
+    before.extend(&image[MESSAGES..]);
+    before.resize(IMAGE, 0);
+    outcome.image = before;
+    if matches!(action, Action::LogMessage(_)) && code(outcome.answer) == 0 {
+        outcome.answer = outcome.answer.wrapping_sub(packed(0, MOVED as u32));
+    }
+    outcome
+}
+
 /// Wrong numbers: those of the header, those that fit each other, and some of all.
 fn some_damage(random: &mut Random, known: &Known) -> Vec<Edits> {
     let mut damage = known.wrong_numbers();
@@ -141,7 +170,8 @@ fn name(action: &Action) -> &'static str {
         Action::Compose(_) => "compose",
         Action::Setpoint(_) => "setpoint",
         Action::LogMessage(_) => "log message",
-        Action::Empty | Action::ReadSequences { .. } | Action::WriteSequences { .. } => "other",
+        Action::Empty | Action::Begin(_) => "other",
+        Action::ReadSequences { .. } | Action::WriteSequences { .. } => "other",
     }
 }
 
@@ -159,8 +189,9 @@ fn hostile(random: &mut Random) -> Vec<u8> {
         .collect();
     let end = MESSAGES + messages.len();
     let used = random.pick(&[end, end, end + 1, end - 1, MESSAGES, 65_535]);
-    let numbers = [log, count - log, 16, MESSAGES, used, 0, 0, 0];
-    let header = numbers.map(|number| (number as u16).to_be_bytes()).concat();
+    let numbers = [log, count - log, 32, MESSAGES, used, 0, MESSAGES, 288];
+    let mut header = numbers.map(|number| (number as u16).to_be_bytes()).concat();
+    header.resize(32, 0);
     let values = noise(random, mask, MESSAGES - header.len());
     let rest = noise(random, mask, IMAGE - end);
     [header, values, messages, rest].concat()

@@ -11,8 +11,8 @@ use bivamolune_tests::wire::{line, sequence, set, Draft, Sequence};
 
 use super::common::{Station, STEPS};
 
-/// Where the messages of an image begin.
-pub const MESSAGES: usize = 272;
+/// Where the messages of an image with no floor begin.
+pub const MESSAGES: usize = 544;
 
 /// Dependencies and commands of the deltas of a set, in turn.
 type Sizes = &'static [(usize, usize)];
@@ -158,7 +158,7 @@ impl Known {
 /// Both counts, the offset of messages and the bytes used one more and one less, and the
 /// offset where the header ends or a second message may begin.
 pub fn wrong_header() -> Vec<Edits> {
-    let mut edits = vec![number_made(6, MESSAGES, 16), number_made(6, MESSAGES, 320)];
+    let mut edits = vec![number_made(6, MESSAGES, 32), number_made(6, MESSAGES, 592)];
     for at in [0, 2, 6, 8] {
         edits.extend([1, 0xFFFF].map(|add| Edit::Header(at, add)));
     }

@@ -9,7 +9,7 @@ pub use bivamolune_tests::boundary::SUBJECT;
 use bivamolune_tests::boundary::{code, executions, length, offset, packed, undos, value, Calls};
 use bivamolune_tests::reference::compose::Request;
 pub use bivamolune_tests::view::{messages, u16_at, u32_at};
-use bivamolune_tests::view::{steps as steps_of, Kind, Step};
+use bivamolune_tests::view::{steps as steps_of, Kind, Step, SETPOINTS};
 use bivamolune_tests::wire::{add, line, set, Draft, Line};
 
 pub const A: u8 = 0x0A;
@@ -178,7 +178,7 @@ impl Station {
 
     /// A setpoint as it stands in the image.
     pub fn value(&self, tag: usize) -> i32 {
-        u32_at(&self.image, 16 + 4 * tag) as i32
+        u32_at(&self.image, SETPOINTS + 4 * tag) as i32
     }
 }
 

@@ -3,6 +3,8 @@
 use bivamolune_tests::boundary::{code, Calls, Reference};
 use bivamolune_tests::reference::compose::Request;
 
+use bivamolune_tests::view::first_message;
+
 use super::common::{messages, u16_at};
 
 /// Keeps held deltas in the order in which they came.
@@ -57,9 +59,10 @@ fn sort_held(image: &mut [u8]) {
 fn put_held(image: &mut [u8], held: &[Vec<u8>]) {
     let log = messages(image, 0, u16_at(image, 0));
     let all = [log.concat(), held.concat()].concat();
-    let used = 272 + all.len();
+    let first = first_message(image);
+    let used = first + all.len();
     image[2..4].copy_from_slice(&(held.len() as u16).to_be_bytes());
     image[8..10].copy_from_slice(&(used as u16).to_be_bytes());
-    image[272..used].copy_from_slice(&all);
+    image[first..used].copy_from_slice(&all);
     image[used..].fill(0);
 }
