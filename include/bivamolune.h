@@ -7,7 +7,7 @@
  * - The lowest code that applies is answered. A refused call changes no byte of any buffer, and its counts, length, offset
  *   and value are 0.
  * - An accepted call writes what the paper says and leaves every other byte. Compose, setpoint and log message only read the
- *   image.
+ *   image. So does a delivery at or below a floor, which writes no step either.
  * - A composed message that is delivered to the image it was composed on, if that holds fewer than 64 deltas, is accepted
  *   with no undo, and its execution is the first step.
  * - The pairs of a delivery's steps, each of which sets its tag to its value, lead in turn from the image's 64 values before
@@ -19,6 +19,8 @@
  *   size 0 it may be NULL.
  * - The buffers of a call do not overlap.
  * - One call at a time on an image, and nobody else writes the image meanwhile. Calls on different images are free.
+ * - A host writes no byte of an image itself. Floors and base values of its own making pass code 2, which asks only whether they
+ *   are in order: they swallow deltas with answer 0, and part the station from the others for good.
  * - An answer is several numbers in one. `if (bivamolune_deliver(..) != 0)` takes most successes for failures: ask
  *   bivamolune_accepted(answer), or bivamolune_code(answer). Those of setpoint and log message have 64 bits and functions of
  *   their own; in a variable of 32 bits nothing but the code is left of them.
@@ -39,14 +41,27 @@
  *   old one it would use sequences again.
  * - The transport checks that messages come as they were sent. A changed bit can make another right delta, under a sequence
  *   that is in use or a new one, and no code finds that.
+ * - An image that a library of before 0.5.0 wrote, with a header of 16 bytes, is no image now (code 2). A host that has one
+ *   delivers its messages to an empty image, those of the log in order and then the held ones, saves that one and goes on from
+ *   it; the old one is kept until then. tests/c/carry.h has this, to be copied; it refuses what was no image before, and carries
+ *   what code 2 did not find then. A host that begins anew on its old line instead uses sequences again.
  * - Code 7 of a delivery is never retried: two deltas have one sequence, since one of these duties was not kept. Each station
  *   has the one that came to it first, and those that differ in it differ for good. Keep both messages, the refused one and
  *   the one in the image, for a human to decide, with the names of the stations that have each. A station with the wrong one
- *   begins again with empty and a new line, and gets every delta from a station with the right one.
+ *   begins again with empty and a new line, and gets every delta from a station with the right one, as long as that one has no
+ *   floor (what is at or below a floor is in no image, and 7 is not looked for there).
  * - Code 8 of a delivery does not go away either: until there is a call that purges, a station keeps 64 deltas and no more,
  *   and one that is full differs for good from those that accepted the delta. So share the 64 out among the stations: one
  *   that has composed its share composes no more and tells the operators. Compose does not ask for room; a message that the
  *   station's own image refuses is not sent.
+ *
+ * Floors
+ * - A floor is a line and the highest number of it that was purged. An image has at most 32, and beside them the base values,
+ *   from which its log is run, and the greatest effective block and group of what was purged.
+ * - A delta at or below the floor of its line is purged: it ran before all that the image has. One that needs it does not wait
+ *   for it, and no effective block counts below the greatest purged one.
+ * - No call makes a floor yet: empty writes an image without one, and deliver keeps those that are there. Every call on an image
+ *   takes one with floors.
  */
 #ifndef BIVAMOLUNE_H
 #define BIVAMOLUNE_H
@@ -60,9 +75,9 @@ extern "C" {
 
 /* The version of this header and of the archive that it goes with. */
 #define BIVAMOLUNE_VERSION_MAJOR 0
-#define BIVAMOLUNE_VERSION_MINOR 4
+#define BIVAMOLUNE_VERSION_MINOR 5
 #define BIVAMOLUNE_VERSION_PATCH 0
-#define BIVAMOLUNE_VERSION "0.4.0"
+#define BIVAMOLUNE_VERSION "0.5.0"
 
 /* Sizes in bytes. */
 #define BIVAMOLUNE_IMAGE_SIZE 16384  /* an image, exactly */
@@ -72,8 +87,26 @@ extern "C" {
 #define BIVAMOLUNE_PAIR_SIZE 8       /* a pair of a step: tag and value, four bytes each */
 #define BIVAMOLUNE_SEQUENCE_SIZE 12  /* a sequence: endpoint UID 6, creator identifier 4, number 2 */
 #define BIVAMOLUNE_LINE_SIZE 10      /* a line: a sequence without its number */
-#define BIVAMOLUNE_VALUES_AT 16      /* where the 64 values of an image begin, four bytes each */
 #define BIVAMOLUNE_STACK 65536       /* more than any call takes of the stack */
+
+/* An image: a header of 32 bytes, the 64 values, the 64 base values, F floors, then the messages of the log in order, the held
+ * ones by ascending sequence, and zeros to the end. In the header, with big-endian numbers as everywhere:
+ *
+ *     0-1, 2-3      log count, held count
+ *     4-5, 6-7      where the values begin, 32; where the messages begin, 544 + 12 F
+ *     8-9           bytes used: where the messages end. 544 without floors and deltas
+ *     10-11         F, the number of floors
+ *     12-13, 14-15  where the floors begin, 544; where the base values begin, 288. So also if F is 0
+ *     16-19, 20-23  the greatest purged effective block; the greatest purged group
+ *     24-31         zero
+ *
+ * A floor is a line and its highest purged number, at least 1; lines are strictly ascending. */
+#define BIVAMOLUNE_HEADER_SIZE 32        /* bytes of an image's header */
+#define BIVAMOLUNE_VALUES_AT 32          /* where the 64 values of an image begin, four bytes each */
+#define BIVAMOLUNE_BASE_VALUES_AT 288    /* where the 64 base values begin, four bytes each */
+#define BIVAMOLUNE_FLOORS_AT 544         /* where the floors begin, or without floors the messages */
+#define BIVAMOLUNE_FLOOR_SIZE 12         /* bytes: a line and a number, as a sequence has them */
+#define BIVAMOLUNE_FLOORS_MOST 32
 
 /* A message has 40 bytes, 12 for each dependency and 8 for each command. */
 #define BIVAMOLUNE_MESSAGE_LEAST 48      /* bytes: no dependency, one command */
@@ -111,16 +144,20 @@ enum bivamolune_result {
     BIVAMOLUNE_ACCEPTED = 0,
     BIVAMOLUNE_WRONG_SIZE = 1,         /* an image, a step buffer, compose's message buffer or a line of wrong size; a buffer
                                           for sequences under 96 bytes, or for their text under 199 */
-    BIVAMOLUNE_NO_IMAGE = 2,           /* the buffer is no image of a set of at most 64 right deltas */
+    BIVAMOLUNE_NO_IMAGE = 2,           /* the buffer is no image of a set of at most 64 right deltas: also if it has over 32
+                                          floors, floors out of order or two of a line, one of number 0000, a message at or
+                                          below a floor, a base value, purged block or purged group out of range, or without
+                                          a floor one of these that is not zero */
     BIVAMOLUNE_WRONG_LAYOUT = 3,       /* kind, byte 1, counts, length, offsets or zeros of the message; compose: commands
                                           that are not 8 to 64 bytes by eights */
     BIVAMOLUNE_WRONG_NUMBER = 4,       /* a sequence number 0000 */
     BIVAMOLUNE_WRONG_DEPENDENCIES = 5, /* dependencies out of order, equal, own or predecessor */
     BIVAMOLUNE_WRONG_CONTENT = 6,      /* group, block, priority, compose's flag, operation, tag, zeros or value */
-    BIVAMOLUNE_CONFLICT = 7,           /* the sequence is present with other bytes */
-    BIVAMOLUNE_FULL = 8,               /* 64 deltas are present and this one is new */
+    BIVAMOLUNE_CONFLICT = 7,           /* the sequence is present with other bytes; not looked for at or below a floor */
+    BIVAMOLUNE_FULL = 8,               /* 64 deltas are present and this one is new; not looked for at or below a floor */
     BIVAMOLUNE_HELD_LINE = 9,          /* compose: the line has a held delta */
-    BIVAMOLUNE_PAST_LIMIT = 10,        /* compose: number, group or block would pass its limit */
+    BIVAMOLUNE_PAST_LIMIT = 10,        /* compose: number, group or block would pass its limit; so a line with floor FFFF has
+                                          no next number */
     BIVAMOLUNE_MANY_DEPENDENCIES = 11, /* compose: over eight dependencies */
     BIVAMOLUNE_NOT_THERE = 12,         /* a place that the log has not, or a tag above 63 */
     BIVAMOLUNE_WRONG_FORM = 13,        /* a wrong character, length or comma of a text; sequences to write that are not 12 to
@@ -155,15 +192,19 @@ uint32_t bivamolune_empty(uint8_t *image, size_t image_size);
 
 /* Delivers a message to a station. On acceptance the image is the new one, and the steps stand at the front of the step
  * buffer: first the undos, then the executions, each with the values that its commands restore or give. The bytes behind
- * them are unchanged. A delta that is there already with equal bytes is accepted with no step. Take the answer and the steps
- * apart with the functions below. */
+ * them are unchanged. A delta that is there already with equal bytes is accepted with no step. So is one at or below the floor
+ * of its line, whatever its bytes if none of codes 1 to 6 applies, and however many deltas are there: nothing is written, and
+ * it joins nothing. Take the answer and the steps apart with the functions below. */
 uint32_t bivamolune_deliver(uint8_t *image, size_t image_size,
                             const uint8_t *message, size_t message_size,
                             uint8_t *steps, size_t steps_size);
 
 /* Composes the next delta of a line on top of the log, and writes it to the front of the message buffer; the bytes behind
  * it are unchanged. The commands are handed over end to end. The flag is 0, then the priority is 0 as well, or 1 with a
- * priority. The image is not changed: deliver the message to it, save the image, then send. */
+ * priority. The number is one more than the line's greatest in the log or its floor, whichever is the higher. What was purged
+ * counts for group and block as if the log had it at its front, but is never a dependency; on a log that purging emptied, the
+ * group is the greatest purged one plus one, and with priority the block is the greatest purged one plus one. The image is not
+ * changed: deliver the message to it, save the image, then send. */
 uint32_t bivamolune_compose(const uint8_t *image, size_t image_size,
                             const uint8_t *line, size_t line_size,
                             const uint8_t *commands, size_t commands_size,
@@ -256,6 +297,24 @@ static inline int32_t bivamolune_value(const uint8_t *image, uint32_t tag) {
     if (tag >= BIVAMOLUNE_TAGS) return 0;
     return bivamolune_signed(bivamolune_four_bytes_at(image, at));
 }
+/* The base value of a setpoint, from which the log is run; 0 where the tag is above 63. */
+static inline int32_t bivamolune_base_value(const uint8_t *image, uint32_t tag) {
+    size_t at = BIVAMOLUNE_BASE_VALUES_AT + 4u * (size_t)tag;
+    if (tag >= BIVAMOLUNE_TAGS) return 0;
+    return bivamolune_signed(bivamolune_four_bytes_at(image, at));
+}
+/* How many floors the image has. */
+static inline uint32_t bivamolune_floor_count(const uint8_t *image) { return bivamolune_two_bytes_at(image, 10); }
+/* A floor, counted from 0, BIVAMOLUNE_FLOOR_SIZE bytes of the image itself: the line, then the number, which
+ * bivamolune_two_bytes_at(floor, BIVAMOLUNE_LINE_SIZE) reads. NULL where the image has no such floor, and past the 32nd,
+ * whatever the count says. It is the floor until the image is written again. */
+static inline const uint8_t *bivamolune_floor(const uint8_t *image, uint32_t floor) {
+    if (floor >= BIVAMOLUNE_FLOORS_MOST || floor >= bivamolune_floor_count(image)) return NULL;
+    return image + BIVAMOLUNE_FLOORS_AT + BIVAMOLUNE_FLOOR_SIZE * (size_t)floor;
+}
+/* The greatest effective block and the greatest group of what was purged; both are 0 where nothing was. */
+static inline uint32_t bivamolune_purged_block(const uint8_t *image) { return bivamolune_four_bytes_at(image, 16); }
+static inline uint32_t bivamolune_purged_group(const uint8_t *image) { return bivamolune_four_bytes_at(image, 20); }
 
 #ifdef __cplusplus
 }

@@ -1,5 +1,5 @@
 #!/bin/sh
-# Faults of c/save.h, planted one at a time: one of its two hosts must fail, by the check that is named.
+# Faults of c/save.h and c/carry.h, planted one at a time: the host that is named must fail, by the check that is named.
 #
 #   sh save_faults.sh ARCHIVE
 #
@@ -12,14 +12,16 @@ trap 'rm -rf "$build"' EXIT
 export TMPDIR="$build"
 tried=0
 
-# try_fault HOST CHECK EDIT: what the edit makes of save.h is seen by the host. It is written down in a folder of its own.
+# try_fault HOST CHECK EDIT: what the edit makes of the host's module is seen by it. It is written down in a folder of its own.
 try_fault() {
     own="$build/$tried"
+    module=save.h
+    [ "$1" != carrying ] || module=carry.h
     mkdir "$own"
-    cp station.h caught.h storage.h "$1.c" "$own"
-    sed "$3" save.h >"$own/save.h"
+    cp ./*.h "$1.c" "$own"
+    sed "$3" "$module" >"$own/$module"
     gcc -O2 -std=c11 -I../../include "$own/$1.c" "$archive" -o "$own/host"
-    if ! cmp -s save.h "$own/save.h" && "$own/host" | grep -q "^failed: .*$2"; then
+    if ! cmp -s "$module" "$own/$module" && "$own/host" | grep -q "^failed: .*$2"; then
         touch "$own/found"
     else
         echo "not found by $1: $3"
@@ -64,6 +66,21 @@ finds saving 'made invalid and flushed' 's/at) \&\& bivamolune_flush(file) ? BIV
 finds saving 'written again' '/if (!bivamolune_write_at(file, place, BIVAMOLUNE_PLACE_SIZE, newest.at))/d'
 finds saving 'in places, a failure of call 3' 's/ : BIVAMOLUNE_SAVE_UNSURE);/ : BIVAMOLUNE_NOT_SAVED);/'
 finds torn 'no number after it' 's/ || newest.number == UINT64_MAX//'
+# Carrying: another size, header, count, bytes used, value or order is not looked for, nor what is behind the messages, or its last
+# byte; the buffer is not that of no deltas at first; a refusal leaves it. That the count and a length have an end is for memory's
+# sake alone: what the image then says is refused anyhow.
+finds carrying 'a byte more' 's/old_size == BIVAMOLUNE_OLD_IMAGE_SIZE/old_size >= BIVAMOLUNE_OLD_IMAGE_SIZE/'
+finds carrying 'a damaged header' '/BIVAMOLUNE_OLD_OFFSET_OF_VALUES_AT) ==/d'
+finds carrying 'a damaged header' '/BIVAMOLUNE_OLD_OFFSET_OF_MESSAGES_AT) ==/d'
+finds carrying 'a damaged header' 's/&& bivamolune_old_is_zero(old, BIVAMOLUNE_OLD_ZEROS_AT.*;/;/'
+finds carrying 'a damaged header' 's/return at == bivamolune_old_bytes_used(old);/return 1;/'
+finds carrying 'one of the log among the held' 's/return bivamolune_log_count(image) ==.*/return 1/; /&& bivamolune_held_count(image) ==/d'
+finds carrying 'a damaged value' '/memcmp(image + BIVAMOLUNE_VALUES_AT/d'
+finds carrying 'A2 before A1' '/memcmp(image + bivamolune_bytes_used/d'
+finds carrying 'a byte behind the last message' 's/&& bivamolune_old_is_zero(old, bivamolune_old_bytes_used(old).*;/;/'
+finds carrying 'a byte behind the last message' 's/return from >= end;/return from + 1 >= end;/'
+finds carrying 'carried over' 's/bivamolune_empty(image, BIVAMOLUNE_IMAGE_SIZE) == BIVAMOLUNE_ACCEPTED/1/'
+finds carrying 'a damaged header' '/memset(image, 0, BIVAMOLUNE_IMAGE_SIZE);/d'
 
 wait
 passed=$(find "$build" -name found | wc -l)

@@ -112,6 +112,52 @@ static void run_compose_codes(void) {
     check(refuses(right, 2), "a damaged count");
 }
 
+/* The same request with a priority of 5. */
+static struct request urgently(struct request r) {
+    r.flag = 1;
+    r.priority = 5;
+    return r;
+}
+
+/* On a log above floors: A6, with the purged group 9 and the purged block 4. */
+static void run_past_floors(void) {
+    struct delta b1 = delta(11, 1, 2, 3, -20);
+
+    lay_floors();
+    check(composes(request(10, b1), 0, grouped(delta(10, 7, 2, 3, -20), 9)), "the purged group counts");
+    check(composes(request(11, b1), 0, grouped(naming(b1, 10, 6), 9)), "a dependency above floors");
+    check(composes(request(9, b1), 0, grouped(naming(delta(9, 1, 2, 3, -20), 10, 6), 10)), "past the purged group");
+    check(composes(urgently(request(11, b1)), 0, prioritised(grouped(naming(b1, 10, 6), 9), 5, 5)), "past the purged block");
+    check(refuses(request(12, b1), 10), "a floor at the last number");
+    check(answers(deliver(grouped(naming(b1, 10, 6), 9)), 0, 0, 1, "xB1 3=700"), "delivered above floors, it is the first step");
+    check(composes(request(10, b1), 0, grouped(naming(delta(10, 7, 2, 3, -20), 11, 1), 10)), "a group of the log as high");
+    deliver(delta(10, 9, 1, 3, 1));
+    check(refuses(request(10, b1), 9), "A9 held above its floor");
+    lay_floors();
+    image[20] = 0x7F, image[21] = image[22] = image[23] = 0xFF;
+    check(composes(request(10, b1), 0, grouped(delta(10, 7, 2, 3, -20), BIVAMOLUNE_NUMBER_MOST)), "the last group");
+    check(refuses(request(9, b1), 10), "past the last group");
+    lay_floors();
+    image[16] = 0x7F, image[17] = image[18] = image[19] = 0xFF;
+    check(composes(request(10, b1), 0, grouped(delta(10, 7, 2, 3, -20), 9)), "the last block");
+    check(refuses(urgently(request(10, b1)), 10), "past the last block");
+}
+
+/* On a log that purging emptied. */
+static void run_emptied(void) {
+    struct delta b1 = delta(11, 1, 2, 3, -20);
+
+    lay_emptied();
+    check(composes(request(10, b1), 0, grouped(delta(10, 6, 2, 3, -20), 10)), "past the floor, on an emptied log");
+    check(composes(request(9, b1), 0, grouped(delta(9, 1, 2, 3, -20), 10)), "a line without a floor, on an emptied log");
+    check(composes(urgently(request(11, b1)), 0, prioritised(grouped(b1, 10), 5, 5)), "with priority, on an emptied log");
+    check(refuses(request(12, b1), 10), "a floor at the last number, on an emptied log");
+    deliver(delta(13, 2, 1, 3, 1));
+    check(composes(request(10, b1), 0, grouped(delta(10, 6, 2, 3, -20), 10)), "an emptied log and a held delta");
+    image[20] = 0x7F, image[21] = image[22] = image[23] = 0xFF;
+    check(refuses(request(10, b1), 10), "past the last group, on an emptied log");
+}
+
 /* An image of 16,383, and null with size 0 for each buffer and for all. */
 static void run_compose_sizes(void) {
     struct delta a1 = delta(10, 1, 1, 3, 1500);
@@ -150,6 +196,8 @@ static void run_setpoint(void) {
     check(bivamolune_setpoint(NULL, 0, 3) == 1, "no image");
     image[1] = 1;
     check(value_is(sizeof image, 3, 2, 0) && value_is(sizeof image, 64, 2, 0), "a damaged count");
+    lay_floors();
+    check(value_is(sizeof image, 3, 0, 720) && value_is(sizeof image, 63, 0, -20), "values above floors");
 }
 
 /* The answer of log message, and the bytes of the part; the image is as it was. */
@@ -170,18 +218,23 @@ static void run_log_message(void) {
     deliver(b1);
     check(part_is(sizeof image, 0, 12, 0, nothing), "a held delta is not in the log");
     deliver(a1);
-    check(part_is(sizeof image, 0, 0, 272, a1), "the first message");
-    check(part_is(sizeof image, 1, 0, 320, b1), "the second message");
+    check(part_is(sizeof image, 0, 0, 544, a1), "the first message");
+    check(part_is(sizeof image, 1, 0, 592, b1), "the second message");
     check(part_is(sizeof image, 2, 12, 0, nothing) && part_is(sizeof image, 0xFFFFFFFFu, 12, 0, nothing), "no such place");
     check(part_is(sizeof image - 1, 0, 1, 0, nothing) && part_is(0, 9, 1, 0, nothing), "an image of 16,383 and of nothing");
     check(bivamolune_log_message(NULL, 0, 0) == 1, "no image to look into");
     image[1] = 1;
     check(part_is(sizeof image, 0, 2, 0, nothing) && part_is(sizeof image, 9, 2, 0, nothing), "a damaged count");
+    lay_floors();
+    check(part_is(sizeof image, 0, 0, 568, delta(10, 6, 2, 3, 20)) && part_is(sizeof image, 1, 12, 0, nothing),
+        "the messages stand behind the floors");
 }
 
 int main(void) {
     run_composed();
     run_compose_codes();
+    run_past_floors();
+    run_emptied();
     run_compose_sizes();
     run_setpoint();
     run_log_message();

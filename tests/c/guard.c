@@ -232,7 +232,7 @@ static void run_input(void) {
 /* ---- hostile sizes and starts */
 static const uint8_t a1[48] = {1, 0, 0, 1, 0, 48, 0, 40, 0, 40, 0, 0, 0, 0, 0, 0, 0, 10, 0, 0, 0, 1, 0, 1,
                                0, 0, 0, 1, 0, 0, 0, 0, 0, 0, 0, 0, 0, 0, 0, 0, 1, 3, 0, 0, 0, 0, 5, 220};
-static const size_t image_sizes[] = {0, 1, 2, 15, 16, 17, 271, 272, 273, 16383, 16384, 16385, 20000};
+static const size_t image_sizes[] = {0, 1, 2, 31, 32, 33, 287, 288, 289, 543, 544, 545, 16383, 16384, 16385, 20000};
 static const size_t message_sizes[] = {0, 1, 2, 11, 39, 40, 41, 47, 48, 49, 199, 200, 201, 4096};
 static const size_t step_sizes[] = {0, 1, 79, 80, 81, 2032, 10159, 10160, 10161, 20480};
 static const size_t line_sizes[] = {0, 1, 9, 10, 11, 12};
@@ -272,6 +272,38 @@ static void run_sizes(const uint8_t *right) {
                     compose(grown, image_sizes[i], &request, room_sizes[r]);
                 }
     }
+}
+
+/* Images that claim floors: right numbers of them, one too many, those that end at the image's end or just past it, and all that
+ * a header can say. Lines ascend, as far as the image goes. Each has no message, one or 64, by its count. */
+static const size_t claims[] = {1, 31, 32, 33, 1319, 1320, 1321, 5416, 65535};
+static const uint8_t claimed_counts[] = {0, 1, 64};
+
+static void put_two(uint8_t *at, size_t value) {
+    at[0] = (uint8_t)(value / 256);
+    at[1] = (uint8_t)value;
+}
+
+static void run_claims(const uint8_t *right, const struct request *plain) {
+    static uint8_t claiming[BIVAMOLUNE_IMAGE_SIZE];
+    for EACH(c, claims)
+        for EACH(l, claimed_counts) {
+            size_t end = BIVAMOLUNE_FLOORS_AT + BIVAMOLUNE_FLOOR_SIZE * claims[c];
+            memcpy(claiming, right, sizeof claiming);
+            claiming[1] = claimed_counts[l];
+            put_two(claiming + 6, end);
+            put_two(claiming + 8, end);
+            put_two(claiming + 10, claims[c]);
+            for (size_t i = 0; i < claims[c] && i < 1320; i++) {
+                uint8_t *floor = claiming + BIVAMOLUNE_FLOORS_AT + BIVAMOLUNE_FLOOR_SIZE * i;
+                put_two(floor, i);
+                put_two(floor + BIVAMOLUNE_LINE_SIZE, 65535);
+            }
+            deliver(claiming, sizeof claiming, a1, sizeof a1, BIVAMOLUNE_STEP_ROOM);
+            compose(claiming, sizeof claiming, plain, BIVAMOLUNE_MESSAGE_ROOM);
+            setpoint(claiming, sizeof claiming, 63);
+            log_message(claiming, sizeof claiming, 0);
+        }
 }
 
 /* Texts and sequences of four kinds: right, of zeros and commas, all ones, and random. */
@@ -327,10 +359,12 @@ static void run_hostile(void) {
     bivamolune_empty(right, sizeof right);
     place = AT_END;
     run_sizes(right);
+    run_claims(right, &plain);
     run_texts();
     run_nulls(right);
     place = AT_START;
     run_sizes(right);
+    run_claims(right, &plain);
     run_texts();
     place = UNALIGNED;
     for (shift = 1; shift < 16; shift++) {

@@ -1,19 +1,19 @@
-/* A host in C, which C++ reads as well: begins a station, delivers the paper's examples, reads and writes sequences as text,
- * and checks answers, images, steps and what the header gives beside the calls. */
+/* A host in C, which C++ reads as well: begins a station, delivers the paper's examples, and to images with floors, reads and
+ * writes sequences as text, and checks answers, images, steps and what the header gives beside the calls. */
 #include "station.h"
 
 static void run_examples(void) {
     struct delta a1 = delta(10, 1, 1, 3, 1500), b1 = delta(11, 1, 2, 3, -20), a2 = delta(10, 2, 1, 3, 7);
 
     begin();
-    check(counts(0, 0, 272), "no deltas");
+    check(counts(0, 0, 544), "no deltas");
 
     check(answers(deliver(a1), 0, 0, 1, "xA1 3=1500") && setpoint(3) == 1500, "A1");
     check(answers(deliver(a1), 0, 0, 0, ""), "A1 again");
 
     begin();
-    check(answers(deliver(a2), 0, 0, 0, "") && counts(0, 1, 320), "A2 is held");
-    check(answers(deliver(a1), 0, 0, 2, "xA1 3=1500,xA2 3=7") && counts(2, 0, 368), "then A1");
+    check(answers(deliver(a2), 0, 0, 0, "") && counts(0, 1, 592), "A2 is held");
+    check(answers(deliver(a1), 0, 0, 2, "xA1 3=1500,xA2 3=7") && counts(2, 0, 640), "then A1");
 
     begin();
     check(answers(deliver(b1), 0, 0, 1, "xB1 3=-20"), "B1");
@@ -23,11 +23,11 @@ static void run_examples(void) {
     deliver(prioritised(b1, 1, 5));
     deliver(prioritised(delta(12, 1, 2, 4, 20), 1, 7));
     check(answers(deliver(a1), 0, 2, 3, "uB1 3=0,uC1 4=0,xA1 3=1500,xC1 4=20,xB1 3=1480"), "priorities");
-    check(answers(deliver(delta(12, 2, 2, 4, 1)), 0, 0, 1, "xC2 4=21") && counts(4, 0, 464), "with plain C2");
+    check(answers(deliver(delta(12, 2, 2, 4, 1)), 0, 0, 1, "xC2 4=21") && counts(4, 0, 736), "with plain C2");
 
     begin();
     deliver(naming(a1, 11, 1));
-    check(answers(deliver(naming(b1, 10, 1)), 0, 0, 0, "") && counts(0, 2, 392), "a ring");
+    check(answers(deliver(naming(b1, 10, 1)), 0, 0, 0, "") && counts(0, 2, 664), "a ring");
 }
 
 static void run_refusals(void) {
@@ -54,11 +54,155 @@ static void run_refusals(void) {
     check(memcmp(before, image, sizeof image) == 0, "a refusal writes nothing");
 
     for (uint8_t line = 11; line < 74; line++) deliver(delta(line, 1, 1, 3, line));
-    check(counts(64, 0, 272 + 64 * 48), "64 deltas");
+    check(counts(64, 0, 544 + 64 * 48), "64 deltas");
     check(answers(deliver(delta(74, 1, 1, 3, 1)), 8, 0, 0, ""), "a 65th");
 
     image[1] = 65;
     check(answers(deliver(a1), 2, 0, 0, ""), "a damaged count");
+}
+
+/* ---- floors */
+static void run_floor_readers(void) {
+    lay_floors();
+    check(judge(image) == 0 && counts(1, 0, 616), "an image with floors");
+    check(bivamolune_floor_count(image) == 2 && bivamolune_purged_block(image) == 4 && bivamolune_purged_group(image) == 9,
+        "what was purged");
+    check(bivamolune_floor(image, 0) == image + 544 && bivamolune_floor(image, 1) == image + 556
+        && bivamolune_floor(image, 2) == NULL, "two floors");
+    check(setpoint(3) == 720 && bivamolune_base_value(image, 3) == 700 && bivamolune_base_value(image, 63) == -20
+        && bivamolune_base_value(image, 0) == 0, "base values");
+    lay_emptied();
+    check(judge(image) == 0 && counts(0, 0, 568) && setpoint(3) == 700, "an image that purging emptied");
+    begin();
+    check(bivamolune_floor_count(image) == 0 && bivamolune_floor(image, 0) == NULL && bivamolune_base_value(image, 3) == 0
+        && bivamolune_purged_block(image) == 0 && bivamolune_purged_group(image) == 0, "nothing was purged");
+}
+
+/* Whether a delivery answers 0 with no step, and image and step buffer are as they were. */
+static int leaves(struct delta d) {
+    uint8_t before[BIVAMOLUNE_IMAGE_SIZE];
+    memcpy(before, image, sizeof image);
+    return deliver(d) == 0 && answers(0, 0, 0, 0, "") && memcmp(before, image, sizeof image) == 0;
+}
+
+/* Whether it leaves each of these: at and below both floors, with all kinds of bytes. */
+static int leaves_purged(void) {
+    struct delta eight = delta(10, 5, 1, 0, -1);
+    for (uint8_t tag = 1; tag < 8; tag++) eight = commanding(eight, 3, tag, 1000);
+    return leaves(delta(10, 5, 1, 3, 1)) && leaves(delta(10, 5, 2, 3, 1)) && leaves(eight) && leaves(delta(10, 1, 1, 63, 9))
+        && leaves(prioritised(delta(10, 4, 1, 3, 1), BIVAMOLUNE_NUMBER_MOST, 0)) && leaves(naming(delta(10, 2, 1, 3, 1), 20, 7))
+        && leaves(naming(delta(10, 5, 1, 3, 1), 10, 6)) && leaves(delta(12, 0xFFFF, 1, 3, 1)) && leaves(delta(12, 1, 1, 3, 1));
+}
+
+static void run_purged(void) {
+    struct delta a5 = delta(10, 5, 1, 3, 1), a6 = delta(10, 6, 2, 3, 20);
+
+    lay_floors();
+    check(leaves_purged(), "at and below a floor");
+    check(leaves(a6), "above it, A6 again");
+    check(answers(deliver(delta(10, 6, 2, 3, 21)), 7, 0, 0, ""), "above it, A6 with another value");
+    check(answers(deliver(delta(10, 0, 1, 3, 1)), 4, 0, 0, "") && answers(deliver(naming(a5, 10, 4)), 5, 0, 0, "")
+        && answers(deliver(delta(10, 5, 1, 64, 1)), 6, 0, 0, ""), "codes 4 to 6 are looked for below a floor");
+    check(bivamolune_deliver(image, sizeof image, a5.bytes, 47, steps, sizeof steps) == 3
+        && bivamolune_deliver(image, sizeof image, a5.bytes, 48, steps, sizeof steps - 1) == 1, "as are 1 and 3");
+    for (uint8_t line = 20; line < 83; line++) deliver(delta(line, 1, 1, 3, line));
+    check(counts(64, 0, 568 + 64 * 48), "64 deltas above floors");
+    check(leaves_purged(), "64 are there, at and below a floor");
+    check(answers(deliver(delta(10, 7, 1, 3, 1)), 8, 0, 0, ""), "64 are there, above it");
+    image[31] = 1;
+    check(answers(deliver(a5), 2, 0, 0, ""), "as is 2");
+}
+
+/* Needs that were purged, the purged block, and base values. */
+static void run_above_floors(void) {
+    struct delta d1 = delta(13, 1, 1, 3, 5);
+
+    lay_floors();
+    check(answers(deliver(delta(10, 7, 2, 3, 1)), 0, 0, 1, "xA7 3=721") && counts(2, 0, 664), "the next of a line past its floor");
+    check(answers(deliver(naming(delta(11, 1, 2, 63, 1), 10, 5)), 0, 0, 1, "xB1 63=-19"), "a need at its floor");
+    check(answers(deliver(naming(delta(13, 1, 2, 63, 1), 10, 1)), 0, 0, 1, "xD1 63=-18"), "a need below its floor");
+    check(answers(deliver(naming(delta(14, 1, 2, 63, 1), 12, 0xFFFF)), 0, 0, 1, "xE1 63=-17"), "a need at the last number");
+    check(answers(deliver(naming(delta(15, 1, 2, 63, 1), 10, 8)), 0, 0, 0, "") && counts(5, 1, 904), "a need above its floor");
+    check(bivamolune_floor_count(image) == 2 && bivamolune_base_value(image, 3) == 700 && bivamolune_base_value(image, 63) == -20
+        && bivamolune_purged_block(image) == 4 && bivamolune_purged_group(image) == 9, "a delivery keeps what was purged");
+
+    lay_floors();
+    check(answers(deliver(prioritised(d1, 2, 0)), 0, 1, 2, "uA6 3=700,xD1 3=5,xA6 3=25"), "no block below the purged one");
+    lay_floors();
+    check(answers(deliver(prioritised(d1, 5, 0)), 0, 0, 1, "xD1 3=5"), "a block above the purged one");
+    lay_emptied();
+    check(answers(deliver(delta(13, 2, 2, 3, 1)), 0, 0, 0, "") && counts(0, 1, 616) && setpoint(3) == 700, "held, the log emptied");
+    check(answers(deliver(delta(13, 1, 2, 3, 1)), 0, 0, 2, "xD1 3=701,xD2 3=702"), "run from the base values");
+}
+
+/* A byte of the image with floors that is another one: the code that judges the image. */
+static const struct {
+    size_t at;
+    uint8_t byte;
+    uint32_t code;
+    const char *what;
+} floor_bytes[] = {
+    {5, 16, 2, "values at another place"},
+    {7, 32, 2, "messages where the floors begin"},
+    {9, 103, 2, "a byte less in use"},
+    {11, 1, 2, "a floor less"},
+    {11, 3, 2, "a floor more"},
+    {10, 1, 2, "256 floors more"},
+    {13, 33, 2, "floors at another place"},
+    {15, 33, 2, "base values at another place"},
+    {16, 0x7F, 0, "a great purged block"},
+    {16, 0x80, 2, "a purged block past its limit"},
+    {19, 0, 0, "a purged block of 0"},
+    {20, 0x7F, 0, "a great purged group"},
+    {20, 0x80, 2, "a purged group past its limit"},
+    {23, 0, 0, "a purged group of 0"},
+    {24, 1, 2, "a byte behind the purged group"},
+    {31, 1, 2, "the last byte of the header"},
+    {303, 189, 2, "a base value that does not lead to the value"},
+    {555, 4, 2, "a floor below the need of a log delta"},
+    {555, 6, 2, "a message at its floor"},
+    {555, 7, 2, "a message below its floor"},
+    {554, 1, 2, "a message far below its floor"},
+    {555, 0, 2, "a floor of number 0000"},
+    {561, 10, 2, "two floors of a line"},
+    {561, 9, 2, "floors that descend"},
+    {561, 11, 0, "another line's floor"},
+    {566, 0, 0, "a floor of number 00FF"},
+    {616, 1, 2, "a byte behind the last message"},
+};
+
+static void run_floor_bytes(void) {
+    for (size_t i = 0; i < sizeof floor_bytes / sizeof floor_bytes[0]; i++) {
+        lay_floors();
+        image[floor_bytes[i].at] = floor_bytes[i].byte;
+        check(judge(image) == floor_bytes[i].code, floor_bytes[i].what);
+    }
+}
+
+/* The code that judges an image with no delta, with floors of so many lines and tag 0 at a base value. */
+static uint32_t judge_base(uint8_t floors, int32_t value) {
+    begin();
+    for (uint8_t i = 0; i < floors; i++) put_sequence(image + 544 + 12 * (size_t)i, i, 1);
+    image[11] = floors;
+    put(image + 6, 544u + 12u * floors, 2);
+    put(image + 8, 544u + 12u * floors, 2);
+    put(image + 32, (uint32_t)value, 4);
+    put(image + 288, (uint32_t)value, 4);
+    return judge(image);
+}
+
+static void run_floor_limits(void) {
+    check(judge_base(1, 0) == 0 && judge_base(31, 0) == 0 && judge_base(32, 0) == 0, "up to 32 floors");
+    check(judge_base(33, 0) == 2 && judge_base(255, 0) == 2, "33 floors");
+    check(judge_base(1, 1000000) == 0 && judge_base(32, -1000000) == 0, "the ends of base values");
+    check(judge_base(1, 1000001) == 2 && judge_base(1, -1000001) == 2, "base values past their ends");
+    check(judge_base(0, 0) == 0 && judge_base(0, 1) == 2 && judge_base(0, -1) == 2, "a base value and no floor");
+    begin();
+    image[19] = 1;
+    check(judge(image) == 2, "a purged block and no floor");
+    begin();
+    image[23] = 1;
+    check(judge(image) == 2, "a purged group and no floor");
 }
 
 /* The steps of B1 and then A1, written out, and the bytes past them. */
@@ -263,6 +407,10 @@ static void run_header(void) {
     check(BIVAMOLUNE_MESSAGE_LEAST == 40 + 8 && BIVAMOLUNE_STEP_ROOM == BIVAMOLUNE_STEPS_MOST * BIVAMOLUNE_STEP_SIZE
         && BIVAMOLUNE_MESSAGE_MOST == 40 + 12 * BIVAMOLUNE_DEPENDENCIES_MOST + 8 * BIVAMOLUNE_COMMANDS_MOST
         && BIVAMOLUNE_MESSAGE_ROOM == BIVAMOLUNE_MESSAGE_MOST, "limits");
+    check(BIVAMOLUNE_HEADER_SIZE == 32 && BIVAMOLUNE_VALUES_AT == BIVAMOLUNE_HEADER_SIZE
+        && BIVAMOLUNE_BASE_VALUES_AT == BIVAMOLUNE_VALUES_AT + 4 * BIVAMOLUNE_TAGS
+        && BIVAMOLUNE_FLOORS_AT == BIVAMOLUNE_BASE_VALUES_AT + 4 * BIVAMOLUNE_TAGS && BIVAMOLUNE_FLOORS_AT == 544
+        && BIVAMOLUNE_FLOOR_SIZE == BIVAMOLUNE_LINE_SIZE + 2 && BIVAMOLUNE_FLOORS_MOST == 32, "parts of an image");
     check(BIVAMOLUNE_STEP_ROOM == 10160 && BIVAMOLUNE_STEP_SIZE == 80 && BIVAMOLUNE_PAIRS_MOST == BIVAMOLUNE_COMMANDS_MOST
         && BIVAMOLUNE_STEP_SEQUENCE_AT + BIVAMOLUNE_SEQUENCE_SIZE == BIVAMOLUNE_STEP_PAIRS_AT
         && BIVAMOLUNE_STEP_PAIRS_AT + BIVAMOLUNE_PAIRS_MOST * BIVAMOLUNE_PAIR_SIZE == BIVAMOLUNE_STEP_SIZE, "parts of a step");
@@ -295,9 +443,9 @@ static void run_answers(void) {
     check(bivamolune_setpoint_value(0x80000000u * high) == INT32_MIN
         && bivamolune_setpoint_value(0x7FFFFFFFu * high) == INT32_MAX, "the ends of four bytes");
     check(bivamolune_setpoint_code(12) == BIVAMOLUNE_NOT_THERE && bivamolune_setpoint_value(12) == 0, "no value");
-    check(bivamolune_log_message_offset(320 * high + 200 * 256) == 320
-        && bivamolune_log_message_length(320 * high + 200 * 256) == 200
-        && bivamolune_log_message_code(320 * high + 200 * 256) == 0, "a part of 200 bytes at 320");
+    check(bivamolune_log_message_offset(592 * high + 200 * 256) == 592
+        && bivamolune_log_message_length(592 * high + 200 * 256) == 200
+        && bivamolune_log_message_code(592 * high + 200 * 256) == 0, "a part of 200 bytes at 592");
     check(bivamolune_log_message_code(2) == BIVAMOLUNE_NO_IMAGE && bivamolune_log_message_length(2) == 0
         && bivamolune_log_message_offset(2) == 0, "no part");
 }
@@ -305,6 +453,11 @@ static void run_answers(void) {
 int main(void) {
     run_examples();
     run_refusals();
+    run_floor_readers();
+    run_purged();
+    run_above_floors();
+    run_floor_bytes();
+    run_floor_limits();
     run_step_bytes();
     run_pairs();
     run_hardware();

@@ -264,29 +264,81 @@ static void run_pairs(void) {
 static uint32_t log_count(const uint8_t *bytes, size_t begin) { return begin == 0 ? bivamolune_log_count(bytes) : 0; }
 static uint32_t held_count(const uint8_t *bytes, size_t begin) { return begin == 2 ? bivamolune_held_count(bytes) : 0; }
 static uint32_t bytes_used(const uint8_t *bytes, size_t begin) { return begin == 8 ? bivamolune_bytes_used(bytes) : 0; }
+static uint32_t floor_count(const uint8_t *bytes, size_t begin) { return begin == 10 ? bivamolune_floor_count(bytes) : 0; }
 
 static void run_image_counts(void) {
     check(counts_up(log_count, 0), "every count of the log");
     check(counts_up(held_count, 2), "every count of the held ones");
     check(counts_up(bytes_used, 8), "every number of bytes used");
+    check(counts_up(floor_count, 10), "every number of floors");
 }
 
-static void run_image_values(void) {
+/* A reader of 64 values, of which the first begins there and the last ends there. */
+static void run_image_values(int32_t (*reader)(const uint8_t *, uint32_t), size_t first, size_t end) {
     static const uint32_t beyond[] = {64, 65, 127, 255, 256, 4092, 65536, 1073741820, 1073741824, 2147483648u, 4294967295u};
     uint8_t bytes[BIVAMOLUNE_IMAGE_SIZE];
-    uint8_t *begin = bytes + 16;
+    uint8_t *begin = bytes + first;
     for (uint32_t tag = 0; tag < 64; tag++, begin += 4) {
         int right = 1;
         for (size_t i = 0; i < NUMBERS; i++) {
             memset(bytes, 0xEE, sizeof bytes);
             memcpy(begin, numbers[i].bytes, 4);
-            right = right && bivamolune_value(bytes, tag) == numbers[i].value;
+            right = right && reader(bytes, tag) == numbers[i].value;
         }
         check(right, "values of a tag");
     }
-    check(begin == bytes + 272, "the values end where the messages begin");
-    for (size_t i = 0; i < sizeof beyond / sizeof beyond[0]; i++)
-        check(bivamolune_value(bytes, beyond[i]) == 0, "a tag above 63");
+    check(begin == bytes + end, "where the values end");
+    for (size_t i = 0; i < sizeof beyond / sizeof beyond[0]; i++) check(reader(bytes, beyond[i]) == 0, "a tag above 63");
+}
+
+/* A reader of a number of four bytes that begins there, between other bytes. */
+static void run_image_number(uint32_t (*reader)(const uint8_t *), size_t begin) {
+    uint8_t bytes[BIVAMOLUNE_IMAGE_SIZE];
+    for (size_t i = 0; i < NUMBERS; i++) {
+        memset(bytes, 0xEE, sizeof bytes);
+        memcpy(bytes + begin, numbers[i].bytes, 4);
+        check(reader(bytes) == numbers[i].word, "a number of what was purged");
+    }
+}
+
+/* Where each of 32 floors begins. */
+static const size_t floor_begins[32] = {544, 556, 568, 580, 592, 604, 616, 628, 640, 652, 664, 676, 688, 700, 712, 724,
+                                        736, 748, 760, 772, 784, 796, 808, 820, 832, 844, 856, 868, 880, 892, 904, 916};
+
+/* Whether an image of so many floors has these and no other. One that claims more than 32 has 32. */
+static int has_floors(uint8_t high, uint8_t low, uint32_t count) {
+    static const uint32_t beyond[] = {32, 33, 255, 256, 1320, 65535, 65536, 357913941, 357913942, 2147483648u, 4294967295u};
+    uint8_t bytes[BIVAMOLUNE_IMAGE_SIZE];
+    int right = 1;
+    memset(bytes, 0xEE, sizeof bytes);
+    bytes[10] = high;
+    bytes[11] = low;
+    for (uint32_t i = 0; i < 32; i++)
+        right = right && bivamolune_floor(bytes, i) == (i < count ? bytes + floor_begins[i] : NULL);
+    for (size_t i = 0; i < sizeof beyond / sizeof beyond[0]; i++) right = right && bivamolune_floor(bytes, beyond[i]) == NULL;
+    return right;
+}
+
+static void run_floors(void) {
+    for (uint8_t count = 0; count <= 32; count++) check(has_floors(0, count, count), "so many floors");
+    check(has_floors(0, 33, 32) && has_floors(0, 255, 32) && has_floors(1, 0, 32) && has_floors(1, 1, 32)
+        && has_floors(0x80, 0, 32) && has_floors(0xFF, 0xFF, 32), "no 33rd floor");
+}
+
+/* Two floors, byte by byte: a line and a number, of which all bytes differ, and the last floor of all. */
+static void run_floor_bytes(void) {
+    static const uint8_t first[12] = {0xE9, 0x64, 0x14, 0x19, 0xD1, 0x8C, 0x02, 0xB9, 0x49, 0x5F, 0x12, 0x34};
+    static const uint8_t last[12] = {0xFF, 0xFE, 0xFD, 0xFC, 0xFB, 0xFA, 0xF9, 0xF8, 0xF7, 0xF6, 0xFF, 0xFF};
+    uint8_t bytes[BIVAMOLUNE_IMAGE_SIZE];
+    memset(bytes, 0xEE, sizeof bytes);
+    bytes[10] = 0;
+    bytes[11] = 32;
+    memcpy(bytes + 544, first, 12);
+    memcpy(bytes + 916, last, 12);
+    check(memcmp(bivamolune_floor(bytes, 0), first, 12) == 0 && memcmp(bivamolune_floor(bytes, 31), last, 12) == 0,
+        "the bytes of a floor");
+    check(bivamolune_two_bytes_at(bivamolune_floor(bytes, 0), BIVAMOLUNE_LINE_SIZE) == 4660
+        && bivamolune_two_bytes_at(bivamolune_floor(bytes, 31), BIVAMOLUNE_LINE_SIZE) == 65535, "the number of a floor");
 }
 
 int main(void) {
@@ -300,6 +352,11 @@ int main(void) {
     run_kinds_and_counts();
     run_pairs();
     run_image_counts();
-    run_image_values();
+    run_image_values(bivamolune_value, 32, 288);
+    run_image_values(bivamolune_base_value, 288, 544);
+    run_image_number(bivamolune_purged_block, 16);
+    run_image_number(bivamolune_purged_group, 20);
+    run_floors();
+    run_floor_bytes();
     return report();
 }

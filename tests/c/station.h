@@ -100,6 +100,54 @@ static inline uint32_t deliver(struct delta d) {
     return bivamolune_deliver(image, sizeof image, d.bytes, d.size, steps, sizeof steps);
 }
 
+/* A station whose old end was purged, by hand, as no call makes it. Its floors are A5 and CFFFF, the greatest purged block is 4
+ * and the greatest purged group 9. Purged deltas left tag 3 at 700 and tag 63 at -20; the log is A6, which adds 20 to tag 3. */
+static inline void lay_floors(void) {
+    static const uint8_t header[32] = {
+        0, 1, 0, 0,          /* one in the log, none held */
+        0, 32, 2, 56,        /* values at 32, messages at 568 */
+        2, 104, 0, 2,        /* 616 bytes used, two floors */
+        2, 32, 1, 32,        /* floors at 544, base values at 288 */
+        0, 0, 0, 4,          /* the purged block */
+        0, 0, 0, 9,          /* the purged group */
+        0, 0, 0, 0, 0, 0, 0, 0,
+    };
+    static const uint8_t floors[24] = {
+        0, 0, 0, 0, 0, 10, 0, 0, 0, 1, 0, 5,
+        0, 0, 0, 0, 0, 12, 0, 0, 0, 1, 0xFF, 0xFF,
+    };
+    static const uint8_t a6[48] = {
+        1, 0, 0, 1, 0, 48, 0, 40, 0, 40, 0, 0,   /* plain, one command */
+        0, 0, 0, 0, 0, 10, 0, 0, 0, 1, 0, 6,     /* A6 */
+        0, 0, 0, 1, 0, 0, 0, 0, 0, 0, 0, 0, 0, 0, 0, 0, /* group 1 */
+        2, 3, 0, 0, 0, 0, 0, 20,                 /* adds 20 to tag 3 */
+    };
+    static const uint8_t seven_hundred[4] = {0, 0, 2, 188}, more[4] = {0, 0, 2, 208}, less[4] = {0xFF, 0xFF, 0xFF, 0xEC};
+    memset(image, 0, sizeof image);
+    memset(steps, 0xEE, sizeof steps);
+    memcpy(image, header, sizeof header);
+    memcpy(image + 44, more, 4);            /* tag 3 */
+    memcpy(image + 284, less, 4);           /* tag 63 */
+    memcpy(image + 300, seven_hundred, 4);  /* base value of tag 3 */
+    memcpy(image + 540, less, 4);           /* base value of tag 63 */
+    memcpy(image + 544, floors, sizeof floors);
+    memcpy(image + 568, a6, sizeof a6);
+}
+
+/* The same with no delta left. */
+static inline void lay_emptied(void) {
+    lay_floors();
+    image[1] = 0;
+    image[9] = 56;
+    memcpy(image + 44, image + 300, 4);
+    memset(image + 568, 0, 48);
+}
+
+/* The code that judges the image. */
+static inline uint32_t judge(const uint8_t *bytes) {
+    return bivamolune_setpoint_code(bivamolune_setpoint(bytes, BIVAMOLUNE_IMAGE_SIZE, 0));
+}
+
 static inline int32_t setpoint(uint32_t tag) { return bivamolune_value(image, tag); }
 
 /* Counts: L, H and the bytes used. */

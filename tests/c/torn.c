@@ -158,8 +158,6 @@ static enum bivamolune_saving save_over(const char *in, const char *name, const 
 static const struct way over = {"over", save_over, bivamolune_load_by_rename};
 enum { WRITE_OVER = 3, WRITE_RENAMED = 3, WRITE_PLACE = 7 }; /* which call of each way writes the second image */
 
-static uint32_t judge(const uint8_t *bytes) { return bivamolune_setpoint_code(bivamolune_setpoint(bytes, sizeof image, 0)); }
-
 /* Killed within the write at each sector: as far as the images differ, what is left is neither. */
 static void run_over(void) {
     const size_t used = bivamolune_bytes_used(saved[1]);
@@ -188,8 +186,8 @@ static struct delta create(uint8_t *station, uint8_t line, int32_t value, uint8_
     return d;
 }
 
-/* Station A has C1 and its own A1, and saves. B2 comes, which sets tag 11 to 1500; B1 was lost, so it is held. B2's last value
- * are the first four bytes of the second sector. A saves again. */
+/* Station A has C1 and its own A1, A2 and A3, and saves. B2 comes, which sets tag 11 to 1500; B1 was lost, so it is held. B2's
+ * last value are the first four bytes of the third sector. A saves again. */
 static void make_held(struct delta *b1, struct delta *b2) {
     static uint8_t at_b[BIVAMOLUNE_IMAGE_SIZE], at_c[BIVAMOLUNE_IMAGE_SIZE];
     memcpy(at_b, fresh, sizeof at_b);
@@ -197,38 +195,40 @@ static void make_held(struct delta *b1, struct delta *b2) {
     *b1 = create(at_b, 11, 900, 1);
     *b2 = create(at_b, 11, 1500, 6);
     begin();
-    deliver(create(at_c, 12, 40, 1));
-    create(image, 10, 700, 7);
-    check(counts(2, 0, 428), "C1 and A1");
+    deliver(create(at_c, 12, 40, 8));
+    create(image, 10, 800, 8);
+    create(image, 10, 1600, 8);
+    create(image, 10, 700, 4);
+    check(counts(4, 0, 940), "C1, A1, A2 and A3");
     memcpy(saved[0], image, sizeof image);
-    check(answers(deliver(*b2), 0, 0, 0, "") && counts(2, 1, 516), "B2 is held");
+    check(answers(deliver(*b2), 0, 0, 0, "") && counts(4, 1, 1028), "B2 is held");
     memcpy(saved[1], image, sizeof image);
 }
 
-/* The second save is cut past its first sector: what is left is an image, and nobody had it. */
+/* The second save is cut past its second sector: what is left is an image, and nobody had it. */
 static void run_held(void) {
     struct delta b1, b2;
-    const uint8_t *step = steps + 3 * BIVAMOLUNE_STEP_SIZE;
+    const uint8_t *step = steps + 5 * BIVAMOLUNE_STEP_SIZE;
     make_held(&b1, &b2);
-    check(kill_save(&over, 1, KILL_WITHIN, WRITE_OVER, SECTOR) == 'x', "neither the old image nor the new one");
+    check(kill_save(&over, 1, KILL_WITHIN, WRITE_OVER, 2 * SECTOR) == 'x', "neither the old image nor the new one");
     memcpy(image, loaded, sizeof image);
-    check(judge(image) == BIVAMOLUNE_ACCEPTED && counts(2, 1, 516), "and yet an image");
-    check(memcmp(image + 428, b2.bytes, 84) == 0 && bivamolune_four_bytes_at(b2.bytes, 84) == 1500
-        && bivamolune_four_bytes_at(image, 512) == 0, "with a B2 that nobody sent");
+    check(judge(image) == BIVAMOLUNE_ACCEPTED && counts(4, 1, 1028), "and yet an image");
+    check(memcmp(image + 940, b2.bytes, 84) == 0 && bivamolune_four_bytes_at(b2.bytes, 84) == 1500
+        && bivamolune_four_bytes_at(image, 1024) == 0, "with a B2 that nobody sent");
     check(answers(deliver(b2), BIVAMOLUNE_CONFLICT, 0, 0, ""), "the true B2 is refused");
-    check(deliver(b1) == 2 * 256 + 4 * 65536, "then B1 comes");
+    check(deliver(b1) == 4 * 256 + 6 * 65536, "then B1 comes");
     check(bivamolune_step_kind(step) == BIVAMOLUNE_EXECUTE && memcmp(bivamolune_step_sequence(step), b2.bytes + 12, 12) == 0
         && bivamolune_pair_tag(step, 5) == 11 && bivamolune_pair_value(step, 5) == 0, "the wrong B2 is executed");
     check(setpoint(11) == 0, "and tag 11 is 0");
     check(answers(deliver(b2), BIVAMOLUNE_CONFLICT, 0, 0, ""), "and the true one refused for good");
 
     memcpy(image, saved[1], sizeof image);
-    check(deliver(b1) == 2 * 256 + 4 * 65536 && setpoint(11) == 1500, "a station that was not torn");
+    check(deliver(b1) == 4 * 256 + 6 * 65536 && setpoint(11) == 1500, "a station that was not torn");
     memcpy(image, saved[1], sizeof image);
-    memcpy(image, saved[0], SECTOR);
-    check(judge(image) == BIVAMOLUNE_NO_IMAGE, "the second sector without the first is no image");
-    check(kill_save(&by_rename, 1, KILL_WITHIN, WRITE_RENAMED, SECTOR) == 'o', "the same cut by rename");
-    check(kill_save(&in_places, 1, KILL_WITHIN, WRITE_PLACE, SECTOR) == 'o', "the same cut in places");
+    memcpy(image, saved[0], 2 * SECTOR);
+    check(judge(image) == BIVAMOLUNE_NO_IMAGE, "the third sector without those before is no image");
+    check(kill_save(&by_rename, 1, KILL_WITHIN, WRITE_RENAMED, 2 * SECTOR) == 'o', "the same cut by rename");
+    check(kill_save(&in_places, 1, KILL_WITHIN, WRITE_PLACE, 2 * SECTOR) == 'o', "the same cut in places");
 }
 
 int main(void) {
