@@ -10,11 +10,12 @@ use Rattle.model.specs.Bytes.{number}
 use Rattle.model.specs.Message.{Message}
 use Rattle.model.specs.Order.{State, stateOf, takeIn, sequencesOf, logOf}
 use Rattle.model.specs.Setpoints.{setpointsOf}
+use Rattle.model.specs.Purge.{purgeFirst}
 use Rattle.model.specs.Image.{imageOf, messagesStartIn, stateIn, logIn}
 use Rattle.model.specs.Steps.{undosOf, executionsOf, recordsBetween, recordsBytes}
 use Rattle.model.specs.Compose.{composed}
 use Rattle.model.specs.Text.{textOf, sequenceBytesIn}
-use Rattle.model.specs.Codes.{lowestCode, wrongSize, emptyConditions, deliverConditions, composeConditions, readConditions, logMessageConditions, setpointConditions, readSequencesConditions, writeSequencesConditions}
+use Rattle.model.specs.Codes.{lowestCode, wrongSize, emptyConditions, deliverConditions, composeConditions, readConditions, logMessageConditions, setpointConditions, purgeConditions, readSequencesConditions, writeSequencesConditions}
 
 -- New bytes at the front of a buffer, the rest unchanged.
 abbrev pub written : List ℕ → List ℕ → List ℕ
@@ -65,6 +66,21 @@ deliverCode b m room = lowestCode (deliverConditions b m room)
 
 unfoldable pub deliver : List ℕ → Message → List ℕ → Delivered
 deliver b m steps = deliverAnswer (deliverCode b m (length steps)) (stateIn b) b m steps
+
+-- ---- purge: image and K
+pub record Purged : Type 0 where
+  pub code : ℕ
+  pub image : List ℕ
+
+abbrev pub purgeAnswer : ℕ → State → List ℕ → ℕ → Purged
+purgeAnswer zero S b K = record { code = 0; image = imageOf (purgeFirst K S) }
+purgeAnswer (suc n) S b K = record { code = suc n; image = b }
+
+unfoldable pub purgeCode : List ℕ → ℕ → ℕ
+purgeCode b K = lowestCode (purgeConditions b K)
+
+unfoldable pub purge : List ℕ → ℕ → Purged
+purge b K = purgeAnswer (purgeCode b K) (stateIn b) b K
 
 -- ---- compose: image, line, commands, flag, priority and message buffer; the image is only read
 pub record Composed : Type 0 where

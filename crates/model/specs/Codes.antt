@@ -6,9 +6,10 @@ use lib.ListN.{length}
 use lib.Dec.{eqb, ltb, leb}
 use Rattle.model.specs.Lists.{has, every, some?, same}
 use Rattle.model.specs.Bytes.{isBytes, number, parts}
-use Rattle.model.specs.Layout.{imageSize, stepRoom, messageRoom, lineSize, capacity, tagCount, commandSize, mostCommands, fieldLimit, numbersOfLine, mostDependencies, sequencesRoom, textRoom}
+use Rattle.model.specs.Layout.{imageSize, stepRoom, messageRoom, lineSize, capacity, tagCount, commandSize, mostCommands, fieldLimit, numbersOfLine, mostDependencies, mostFloors, sequencesRoom, textRoom}
 use Rattle.model.specs.Message.{Message, layoutRight, numbersRight, dependenciesRight, contentRight, commandRight, sequenceOf, lineOf}
-use Rattle.model.specs.Order.{State, purged, sequencesOf, find, heldOf}
+use Rattle.model.specs.Order.{State, purged, sequencesOf, find, logOf, heldOf}
+use Rattle.model.specs.Purge.{purgeFirst}
 use Rattle.model.specs.Image.{isImage, stateIn, logCount}
 use Rattle.model.specs.Compose.{newNumber, newSequence, newGroup, newBlock, newDependencies}
 use Rattle.model.specs.Text.{textRight, sequencesRight, sequenceBytesIn, allNumbered}
@@ -89,6 +90,16 @@ logMessageConditions b place = readConditions b ++ (12, leb (logCount b) place) 
 
 abbrev pub setpointConditions : List ℕ → ℕ → Conditions
 setpointConditions b tag = readConditions b ++ (12, leb tagCount tag) ∷ []
+
+-- ---- purge. 15: "if K exceeds L"; 16: "if over 32 floors would result"
+abbrev pub exceedsLog : State → ℕ → Bool
+exceedsLog S K = ltb (length (logOf S)) K
+
+abbrev pub manyFloors : State → ℕ → Bool
+manyFloors S K = ltb mostFloors (length (purgeFirst K S .origin .floors))
+
+abbrev pub purgeConditions : List ℕ → ℕ → Conditions
+purgeConditions b K = readConditions b ++ (15, exceedsLog (stateIn b) K) ∷ (16, manyFloors (stateIn b) K) ∷ []
 
 -- ---- read sequences and write sequences. 1: "an output buffer under 96 bytes for the reader or 199 for the writer"
 abbrev pub readSequencesConditions : List ℕ → ℕ → Conditions

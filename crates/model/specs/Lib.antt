@@ -6,6 +6,7 @@ pub mod Tops
 pub mod Listing
 pub mod Order
 pub mod Setpoints
+pub mod Purge
 pub mod Image
 pub mod Steps
 pub mod Compose

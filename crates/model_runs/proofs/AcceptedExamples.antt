@@ -5,9 +5,11 @@ use mathlib.Core.List.{List, [], _∷_, List·Memᴰ·head, List·Memᴰ·tail}
 use native.Mathlib.Omega.{arith}
 use lib.IntN.{pos}
 use Rattle.model.specs.Lists.{_∈_}
-use Rattle.model.specs.Message.{Message, sequenceOf}
-use Rattle.model.specs.Steps.{execute}
-use Rattle.model_runs.specs.Run.{Event, acceptedIn, SameStation}
+use Rattle.model.specs.Message.{Message, sequenceOf, layoutRight, numbersRight, dependenciesRight, contentRight, commandRight, passes}
+use Rattle.model.specs.Order.{takeIn}
+use Rattle.model.specs.Steps.{execute, recordBytes}
+use Rattle.model.specs.PlainStation.{accepts, receive}
+use Rattle.model_runs.specs.Run.{Event, acceptedIn, SameAccepted, SameStation}
 use Rattle.model.proofs.ExampleMessages.{B, a1, b1, c1, c2}
 use Rattle.model.proofs.RecordExamples.{setting}
 use Rattle.model_runs.proofs.ExampleEvents.{given, image, event, first-a1}
@@ -35,11 +37,17 @@ twice a b m (List·Memᴰ·tail (List·Memᴰ·head e)) = List·Memᴰ·head e
 pub in-either : (m : Message) → m ∈ a1 ∷ a1 ∷ b1 ∷ [] ↔ m ∈ b1 ∷ a1 ∷ []
 in-either m = (once a1 b1 m, twice a1 b1 m)
 
-same-set : SameStation given (wrong-c1 ∷ a1-again ∷ two) given a1-first
+same-set : SameAccepted (wrong-c1 ∷ a1-again ∷ two) a1-first
 same-set = record { accepted = in-either }
+
+-- nothing was purged: so they are promised equal images
+pub same-station : SameStation given (wrong-c1 ∷ a1-again ∷ two) given a1-first
+unfolding accepts receive takeIn passes layoutRight numbersRight dependenciesRight contentRight commandRight recordBytes
+same-station = record { floors = refl; base = refl; block = refl; group = refl; remaining = in-either }
 
 not-a1 : b1 ∈ a1 ∷ [] → ⊥
 not-a1 (List·Memᴰ·head e) = let sequences : sequenceOf b1 ≡ sequenceOf a1 = ap sequenceOf e in omega arith
 
 other-set : SameStation given a1-first given (first-a1 ∷ []) → ⊥
-other-set same = not-a1 (same .accepted b1 .0 (List·Memᴰ·head refl))
+unfolding accepts receive takeIn passes layoutRight numbersRight dependenciesRight contentRight commandRight recordBytes
+other-set same = not-a1 (same .remaining b1 .0 (List·Memᴰ·head refl))

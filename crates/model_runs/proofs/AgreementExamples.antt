@@ -81,7 +81,7 @@ module _ (begins : Given → List ℕ → Type 0) (answers : List ℕ → Call �
   lagging = event b1 0 0 1 (setting (execute (B 1)) (pos 1480) ∷ []) (image (a1 ∷ []))
 
   images-differ : Run answers start (a1-again ∷ two) → Run answers start (lagging ∷ first-a1 ∷ []) → ⊥
-  unfolding logOf needs imageOf usedOf sectionsOf headerOf
+  unfolding accepts receive takeIn passes layoutRight numbersRight dependenciesRight contentRight commandRight logOf needs imageOf usedOf sectionsOf headerOf recordBytes
   images-differ run other =
-      let logs : 2 ≡ logCount (image (a1 ∷ [])) = ap logCount (agreement .equal given given start start begun begun (a1-again ∷ two) (lagging ∷ first-a1 ∷ []) run other (record { accepted = in-either })) in
+      let logs : 2 ≡ logCount (image (a1 ∷ [])) = ap logCount (agreement .equal given given start start begun begun (a1-again ∷ two) (lagging ∷ first-a1 ∷ []) run other (record { floors = refl; base = refl; block = refl; group = refl; remaining = in-either })) in
       omega arith

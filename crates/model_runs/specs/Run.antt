@@ -1,34 +1,43 @@
--- Demand 3 over a whole run, and what Paper 1 of document 02 adds to it, as one record, `Agreement`: `CallAgrees` of each call, `ListAgrees`
--- after each list, and equal images of two lists. It says what has to hold of an empty and a deliver call that are known by what they
--- promise: `begins given b`, that empty was given this, answered 0 and wrote b, and `answers b c a`, that the call c on the image b
--- answered a. `Begins` and `Answers` are those of the definitions; of the code they are the postconditions of its functions.
+-- Demand 3 over a whole run, and what Papers 1 and 4 of document 02 add to it, as one record, `Agreement`: `CallAgrees` of each call,
+-- `ListAgrees` after each list, equal images of two lists, and what was purged ahead of the rest. It says what has to hold of empty,
+-- deliver and purge calls that are known by what they promise: `begins given b`, that empty was given this, answered 0 and wrote b, and
+-- `answers b c a`, that the call c on the image b answered a. `Begins` and `Answers` are those of the definitions; of the code they are the postconditions of its functions.
 -- A list of calls is a list of events, the latest first. `RunExamples`, in this crate's proofs, works one through, call by call;
 -- `NearMisses` has lists that no station in agreement can have.
 use mathlib.Core.Path.{_≡_}
 use mathlib.Core.Logic.{_↔_}
-use mathlib.Core.Bool.{Bool, cond}
+use mathlib.Core.Bool.{Bool, true, false, cond, not, _&&_}
 use mathlib.Core.Option.{Option, some}
 use mathlib.Core.List.{List, [], _∷_, _++_, map}
-use Prim.Native.Nat.{ℕ, _+_, _≤_}
-use lib.ListN.{length}
+use Prim.Native.Nat.{ℕ, _+_, _-_, _≤_}
+use lib.ListN.{length, take, drop}
 use lib.Dec.{T, eqb}
 use lib.IntN.{ℤ}
-use Rattle.model.specs.Lists.{_∈_}
-use Rattle.model.specs.Message.{Message}
-use Rattle.model.specs.Order.{State, sequencesOf, logOf}
+use Rattle.model.specs.Lists.{_∈_, every, keep}
+use Rattle.model.specs.Message.{Message, sequenceOf, numbered}
+use Rattle.model.specs.Order.{State, purged as purgedAt, sequencesOf, logOf}
 use Rattle.model.specs.Setpoints.{startValues}
 use Rattle.model.specs.Image.{imageOf, valuesIn, logIn}
 use Rattle.model.specs.Steps.{Step, undo, execute, undosOf, executionsOf, StepRecord, recordsOf, readRecords, readSteps, Plays, Standing, PlaysPairs}
-use Rattle.model.specs.Calls.{Delivered, emptyState, empty, deliverCode, deliver}
-use Rattle.model.specs.PlainStation.{accepts, receive}
+use Rattle.model.specs.Calls.{Delivered, Purged, emptyState, empty, deliverCode, deliver, purgeCode, purge}
+use Rattle.model.specs.PlainStation.{accepts, receive, acceptsPurge, receivePurge}
 
 -- What empty was given: the buffer as lent.
 pub record Given : Type 0 where
   pub buffer : List ℕ
 
--- A call of a list: deliver, with its message and its step buffer as lent.
+-- A call of a list: deliver, with its message and its step buffer as lent; or purge, with its K.
 pub data Call : Type 0 where
   delivery : Message → List ℕ → Call
+  purging : ℕ → Call
+
+abbrev pub isDelivery : Call → Bool
+isDelivery (delivery m steps) = true
+isDelivery (purging K) = false
+
+-- "A purge gives no step": its answer, as one of a list.
+abbrev pub withoutSteps : Purged → Delivered
+withoutSteps p = record { code = p .code; undos = 0; executions = 0; image = p .image; steps = [] }
 
 -- A call with what it answered and left in its buffers.
 pub record Event : Type 0 where
@@ -47,6 +56,7 @@ Run answers begun (e ∷ earlier) = answers (imageAfter begun earlier) (e .call)
 -- ---- the plain station beside it
 abbrev pub accepts? : State → Call → Bool
 accepts? S (delivery m steps) = accepts S m (length steps)
+accepts? S (purging K) = acceptsPurge S K
 
 -- "Its state is a set of messages, empty at first."
 abbrev pub stateBegun : Given → State
@@ -54,6 +64,7 @@ stateBegun given = emptyState
 
 abbrev pub stateNext : State → Call → State
 stateNext S (delivery m steps) = receive S m (length steps)
+stateNext S (purging K) = receivePurge S K
 
 abbrev pub stateAfter : Given → List Event → State
 stateAfter given [] = stateBegun given
@@ -63,9 +74,11 @@ stateAfter given (e ∷ earlier) = stateNext (stateAfter given earlier) (e .call
 abbrev pub logAfter : Given → List Event → List ℕ
 logAfter given events = sequencesOf (logOf (stateAfter given events))
 
--- the log that a call's steps are played from, by the call's code; a delivery's: the log as it was left, whatever its code
+-- the log that a call's steps are played from, by the call's code; a delivery's: the log as it was left, whatever its code. "A purge gives
+-- no step; the log that the steps are played on loses the same K": where the purge was accepted
 abbrev pub playedFrom : {A : Type 0} → Call → ℕ → List A → List A
 playedFrom (delivery m steps) code log = log
+playedFrom (purging K) code log = cond (eqb code 0) (drop K log) log
 
 -- a call's old log: the one before it, as its steps find it
 abbrev pub oldLog : State → Call → ℕ → List Message
@@ -74,19 +87,43 @@ oldLog S c code = playedFrom c code (logOf S)
 -- the lowest number that applies
 abbrev pub codeFor : List ℕ → Call → ℕ
 codeFor b (delivery m steps) = deliverCode b m (length steps)
+codeFor b (purging K) = purgeCode b K
 
 -- the messages that a call brings
 abbrev pub messagesOfCall : Call → List Message
 messagesOfCall (delivery m steps) = m ∷ []
+messagesOfCall (purging K) = []
 
 -- the messages of the calls that were answered with 0
 abbrev pub acceptedIn : List Event → List Message
 acceptedIn [] = []
 acceptedIn (e ∷ earlier) = cond (eqb (e .answer .code) 0) (messagesOfCall (e .call) ++ acceptedIn earlier) (acceptedIn earlier)
 
--- what two stations have to share to be promised equal images: that they accepted the same messages (what empty was given is of no matter)
+-- "remaining deltas": those of them that are above the floors now
+abbrev pub remainingIn : Given → List Event → List Message
+remainingIn given events = keep (λ m. not (purgedAt (stateAfter given events) (sequenceOf m))) (acceptedIn events)
+
+-- "Equal images are promised to stations whose floors, base values, purged block and group agree and whose remaining deltas are the same"
+-- (what empty was given is of no matter)
 pub record SameStation (given : Given) (events : List Event) (other : Given) (others : List Event) : Type 0 where
-  pub accepted : (m : Message) → m ∈ acceptedIn events ↔ m ∈ acceptedIn others
+  pub floors : stateAfter given events .origin .floors ≡ stateAfter other others .origin .floors
+  pub base : stateAfter given events .origin .base ≡ stateAfter other others .origin .base
+  pub block : stateAfter given events .origin .block ≡ stateAfter other others .origin .block
+  pub group : stateAfter given events .origin .group ≡ stateAfter other others .origin .group
+  pub remaining : (m : Message) → m ∈ remainingIn given events ↔ m ∈ remainingIn other others
+
+-- ---- what was purged: the sequences that a call took off the front of the log, and those that all calls took, in their order
+abbrev pub purgedBy : Call → ℕ → List ℕ → List ℕ
+purgedBy (delivery m steps) code log = []
+purgedBy (purging K) code log = cond (eqb code 0) (take K log) []
+
+abbrev pub purgedAfter : Given → List Event → List ℕ
+purgedAfter given [] = []
+purgedAfter given (e ∷ earlier) = purgedAfter given earlier ++ purgedBy (e .call) (e .answer .code) (logAfter given earlier)
+
+-- all that a station executed and did not undo, in its order: what was purged, then its log
+abbrev pub executedAfter : Given → List Event → List ℕ
+executedAfter given events = purgedAfter given events ++ logAfter given events
 
 -- ---- "The steps of a call are the records at the front of its step buffer: as many undos as its answer counts,
 -- then as many executions as its answer counts; a refused call has none" (its counts are 0)
@@ -106,18 +143,23 @@ Played (e ∷ earlier) log =
 abbrev pub recordsRead : Delivered → Option (List StepRecord)
 recordsRead a = readRecords (a .undos + a .executions) (a .steps)
 
+-- The executions that a call's pairs are played on, the latest first: a purge lets those of the deltas go that it drops, the first K.
+abbrev pub standingFrom : Call → ℕ → List Standing → List Standing
+standingFrom (delivery m steps) code standing = standing
+standingFrom (purging K) code standing = cond (eqb code 0) (take (length standing - K) standing) standing
+
 -- The pairs of all steps, played in turn on setpoints that start as the image's do, beside the executions that stand.
 abbrev pub PairsPlayed : List ℕ → List Event → List Standing → List ℤ → Type 0
 PairsPlayed begun [] standing values = (standing ≡ []) × (values ≡ valuesIn begun)
 PairsPlayed begun (e ∷ earlier) standing values =
     (before : List Standing) × (old : List ℤ) × (records : List StepRecord) × PairsPlayed begun earlier before old
-    × (recordsRead (e .answer) ≡ some records) × PlaysPairs before old records standing values
+    × (recordsRead (e .answer) ≡ some records) × PlaysPairs (standingFrom (e .call) (e .answer .code) before) old records standing values
 
 -- ---- the demand
 -- What it says of a call c on the image b that answered a: S is the plain station's state before it, `next` the one after it (in
 -- `Agreement` it is `stateNext S c`).
 pub record CallAgrees (S next : State) (b : List ℕ) (c : Call) (a : Delivered) : Type 0 where
-  -- "Deliver answers 0 exactly where the plain station accepts, and otherwise the lowest number that applies."
+  -- "Deliver answers 0 exactly where the plain station accepts, and otherwise the lowest number that applies", and so does purge.
   pub accepted : (a .code ≡ 0) ↔ T (accepts? S c)
   pub code : a .code ≡ codeFor b c
   -- "The number of a delivery's undos is the length of its old log less that of the longest common start,
@@ -128,7 +170,8 @@ pub record CallAgrees (S next : State) (b : List ℕ) (c : Call) (a : Delivered)
   -- together": no rival is shorter.
   pub fewest : (rival : List Step) → Plays (sequencesOf (oldLog S c (a .code))) rival (sequencesOf (logOf next)) → a .undos + a .executions ≤ length rival
   -- "An execution lists the value after each command; an undo lists the value restored by each command, last command first": the records
-  -- of a call are those between its old log and its new one, both run from the start values after it (a delivery leaves these as they were).
+  -- of a call are those between its old log and its new one, both run from the start values after it (a delivery leaves these as they were;
+  -- a purge has none).
   pub records : recordsRead a ≡ some (recordsOf (startValues next) (oldLog S c (a .code)) (logOf next))
 
 -- What it says after a list of calls.
@@ -141,6 +184,8 @@ pub record ListAgrees (given : Given) (b : List ℕ) (events : List Event) : Typ
   -- "Played on the setpoints, the pairs must lead to the image's values": they can be played, so that each pair of an undo restores
   -- what its execution's pair had found, and they lead to these values alone.
   pub setpoints : (values : List ℤ) → ((standing : List Standing) × PairsPlayed b events standing values) ↔ (values ≡ valuesIn (imageAfter b events))
+  -- "A floor is a line and its highest purged number": what was purged is what is at or below a floor (a number 0000 is no delta's).
+  pub purged : (s : ℕ) → (s ∈ purgedAfter given events) ↔ T (numbered s && purgedAt (stateAfter given events) s)
 
 -- "a single claim over whole lists": what holds after every list of calls from an image that empty wrote, and of every call, which is the
 -- latest of the list up to it.
@@ -148,9 +193,28 @@ pub record Agreement (begins : Given → List ℕ → Type 0) (answers : List �
   pub call : (given : Given) (b : List ℕ) → begins given b → (e : Event) (earlier : List Event) → Run answers b (e ∷ earlier)
       → CallAgrees (stateAfter given earlier) (stateAfter given (e ∷ earlier)) (imageAfter b earlier) (e .call) (e .answer)
   pub list : (given : Given) (b : List ℕ) → begins given b → (events : List Event) → Run answers b events → ListAgrees given b events
-  -- "So a set of deltas has one image": equal accepted sets give equal images, on any two stations.
+  -- "So a set of deltas has one image", on any two stations: of what remains, beside the same floors, base values, block and group.
   pub equal : (given other : Given) (b c : List ℕ) → begins given b → begins other c → (events others : List Event)
       → Run answers b events → Run answers c others → SameStation given events other others → imageAfter b events ≡ imageAfter c others
+  -- "Purged deltas keep their order ahead of all later ones": a purge moves nothing of all that was executed, and what was purged is the
+  -- start of all that is, after whatever later calls. (The latest call stands first.)
+  pub unmoved : (given : Given) (b : List ℕ) → begins given b → (K : ℕ) (a : Delivered) (earlier : List Event)
+      → Run answers b (record { call = purging K; answer = a } ∷ earlier)
+      → executedAfter given (record { call = purging K; answer = a } ∷ earlier) ≡ executedAfter given earlier
+  pub ahead : (given : Given) (b : List ℕ) → begins given b → (later events : List Event) → Run answers b (later ++ events)
+      → (rest : List ℕ) × (executedAfter given (later ++ events) ≡ purgedAfter given events ++ rest)
+
+-- ---- what document 01 says of lists of deliveries alone, in its own words: "equal accepted sets give byte-equal images"
+abbrev pub deliveries : List Event → Bool
+deliveries events = every (λ e. isDelivery (e .call)) events
+
+pub record SameAccepted (events others : List Event) : Type 0 where
+  pub accepted : (m : Message) → m ∈ acceptedIn events ↔ m ∈ acceptedIn others
+
+abbrev pub EqualAccepted : (Given → List ℕ → Type 0) → (List ℕ → Call → Delivered → Type 0) → Type 0
+EqualAccepted begins answers = (given other : Given) (b c : List ℕ) → begins given b → begins other c → (events others : List Event)
+    → T (deliveries events) → T (deliveries others) → Run answers b events → Run answers c others → SameAccepted events others
+    → imageAfter b events ≡ imageAfter c others
 
 -- ---- the calls of the definitions
 abbrev pub Begins : Given → List ℕ → Type 0
@@ -158,3 +222,4 @@ Begins given b = (empty (given .buffer) .code ≡ 0) × (b ≡ empty (given .buf
 
 abbrev pub Answers : List ℕ → Call → Delivered → Type 0
 Answers b (delivery m steps) a = a ≡ deliver b m steps
+Answers b (purging K) a = a ≡ withoutSteps (purge b K)
