@@ -1,4 +1,2 @@
-pub mod PairRuns
-pub mod RunLaws
-pub mod OrderRuns
-pub mod CalledRuns
+pub mod Stub
+pub mod CallRuns
