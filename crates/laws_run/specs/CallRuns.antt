@@ -148,6 +148,11 @@ next-refused : (S : State) (c : Call) → ¬ T (accepts? S c) → stateNext S c 
 next-refused S (delivery m steps) h = receive-refused S m (length steps) (λ e. h (code-zero S m (length steps) .0 e))
 next-refused S (purging K) h = receive-purge-refused S K (λ e. h (purge-code-zero S K .0 e))
 
+-- what holds of both states holds of the next one
+pub next-either : (P : State → Type 0) (S : State) (c : Call) → (T (accepts? S c) → P (made S c)) → P S → P (stateNext S c)
+next-either P S c f p =
+    ⊎-elim (λ t. subst P (sym (next-made S c t)) (f t)) (λ h. subst P (sym (next-refused S c (T-not (accepts? S c) h))) p) (decide (accepts? S c))
+
 -- by its code, the test for 0: it was accepted, or left the state as it was
 pub outcome : (S next : State) (b : List ℕ) (c : Call) (a : Delivered) → CallAgrees S next b c a
     → ((eqb (a .code) 0 ≡ true) × T (accepts? S c)) ⊎ ((eqb (a .code) 0 ≡ false) × (stateNext S c ≡ S))

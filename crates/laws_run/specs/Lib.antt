@@ -1,2 +1,4 @@
 pub mod Stub
 pub mod CallRuns
+pub mod StateRuns
+pub mod PlayedRuns

@@ -7,7 +7,7 @@ use lib.ListN.{length, take, drop}
 use lib.Dec.{T}
 use lib.IntN.{ℤ}
 use Rattle.model.specs.Lists.{_∈_}
-use Rattle.model.specs.Message.{Message, sequenceOf, numbered}
+use Rattle.model.specs.Message.{Message, sequenceOf, numbered, passes}
 use Rattle.model.specs.Order.{State, purged, MeetsRing, sequencesOf, logOf}
 use Rattle.model.specs.Setpoints.{setpointsOf}
 use Rattle.model.specs.Purge.{purgeFirst}
@@ -54,3 +54,9 @@ purge-ring S valid K m k ring = ?k
 
 pub standing-purged : (S : State) → Valid S → (K : ℕ) → K ≤ length (logOf S) → take (length (standingIn [] S) - K) (standingIn [] S) ≡ standingIn [] (purgeFirst K S)
 standing-purged S valid K h = ?l
+
+pub purged-stays : (S : State) → Valid S → (K : ℕ) → (s : ℕ) → T (purged S s) → T (purged (purgeFirst K S) s)
+purged-stays S valid K s t = ?m
+
+pub own-numbered : (m : Message) → T (passes m) → T (numbered (sequenceOf m))
+own-numbered m t = ?n
