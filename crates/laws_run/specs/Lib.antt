@@ -2,3 +2,4 @@ pub mod Stub
 pub mod CallRuns
 pub mod StateRuns
 pub mod PlayedRuns
+pub mod PurgedRuns
