@@ -3,3 +3,4 @@ pub mod CallRuns
 pub mod StateRuns
 pub mod PlayedRuns
 pub mod PurgedRuns
+pub mod RemainingRuns
