@@ -4,3 +4,5 @@ pub mod StateRuns
 pub mod PlayedRuns
 pub mod PurgedRuns
 pub mod RemainingRuns
+pub mod PairRuns
+pub mod RunLaws

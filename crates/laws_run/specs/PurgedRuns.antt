@@ -1,5 +1,4 @@
--- What was purged along a list of calls: it is what is at or below the floors, it stays so, and it stands ahead of all that is executed
--- later.
+-- What was purged along a list of calls: it is what is at or below the floors, and it stays so.
 use mathlib.Core.Path.{_≡_, refl, sym, _∙_, ap, ap₂, subst}
 use mathlib.Core.Logic.{_⊎_, inl, inr, ⊎-elim, _↔_}
 use mathlib.Core.Bool.{Bool, true, false, cond, _&&_}
@@ -13,7 +12,7 @@ use Rattle.model.specs.Order.{Origin, State, holding, purged, sequencesOf, logO
 use Rattle.model.specs.Purge.{purgeFirst}
 use Rattle.model.specs.Image.{imageOf, Valid}
 use Rattle.model.specs.Calls.{Delivered}
-use Rattle.model_runs.specs.Run.{Given, Call, delivery, purging, Event, Run, accepts?, stateNext, stateAfter, logAfter, purgedBy, purgedAfter, executedAfter, CallAgrees, Begins, Answers}
+use Rattle.model_runs.specs.Run.{Given, Call, delivery, purging, Event, Run, accepts?, stateNext, stateAfter, logAfter, purgedBy, purgedAfter, CallAgrees, Begins, Answers}
 use Rattle.laws_order.specs.TestLaws.{and-l, and-r, and-i}
 use Rattle.laws_order.specs.ListLaws.{take-map, drop-map, ∈-take}
 use Rattle.laws_state.specs.LogLaws.{log-received}
@@ -104,38 +103,3 @@ purged-list given b begun (e ∷ earlier) run s = go (purged-list given b begun 
           ⊎-elim (λ p. Memᴰ·append-left _ (ih .1 (and-i (numbered s) (purged S s) n p))) (λ j. Memᴰ·append-right past j)
           (takes .purges s n .0 (and-r (numbered s) (purged next s) t)),
     )
-
--- ---- "Purged deltas keep their order ahead of all later ones"
--- what a purge takes off stood before what it leaves
-purge-parts : (S : State) → Valid S → (next : State) (b : List ℕ) (K : ℕ) (a : Delivered) → CallAgrees S next b (purging K) a
-    → purgedBy (purging K) (a .code) (sequencesOf (logOf S)) ++ sequencesOf (logOf (stateNext S (purging K))) ≡ sequencesOf (logOf S)
-purge-parts S valid next b K a agrees =
-    ⊎-elim (λ r.
-      ap₂ _++_ (by-accepted S (purging K) (a .code) (r .0)) (ap (λ (R : State). sequencesOf (logOf R)) (next-made S (purging K) (r .1)) ∙ ap sequencesOf (purge-log S valid K))
-      ∙ ap₂ _++_ (sym (take-map K sequenceOf (logOf S))) (sym (drop-map K sequenceOf (logOf S))) ∙ take-append-drop K (sequencesOf (logOf S)))
-    (λ r. ap₂ _++_ (by-refused (purging K) (a .code) (sequencesOf (logOf S)) (r .0)) (ap (λ (R : State). sequencesOf (logOf R)) (r .1)))
-    (outcome S next b (purging K) a agrees)
-
-pub purge-moves-nothing : (given : Given) (b : List ℕ) → Begins given b → (K : ℕ) (a : Delivered) (earlier : List Event)
-    → Run Answers b (record { call = purging K; answer = a } ∷ earlier)
-    → executedAfter given (record { call = purging K; answer = a } ∷ earlier) ≡ executedAfter given earlier
-purge-moves-nothing given b begun K a earlier run =
-    append-assoc (purgedAfter given earlier) (purgedBy (purging K) (a .code) (logAfter given earlier)) (logAfter given (record { call = purging K; answer = a } ∷ earlier))
-    ∙ ap (λ (l : List ℕ). purgedAfter given earlier ++ l)
-    (purge-parts S (state-valid given earlier) (stateNext S (purging K)) (imageOf S) K a (event-facts given b begun (record { call = purging K; answer = a }) earlier run .agrees))
-  where
-    S : State
-    S = stateAfter given earlier
-
-purged-grows : (given : Given) (later events : List Event) → (rest : List ℕ) × (purgedAfter given (later ++ events) ≡ purgedAfter given events ++ rest)
-purged-grows given [] events = ([], sym (append-nil (purgedAfter given events)))
-purged-grows given (e ∷ later) events =
-    let before = purged-grows given later events in
-    let now = purgedBy (e .call) (e .answer .code) (logAfter given (later ++ events)) in
-    (before .0 ++ now, ap (λ (l : List ℕ). l ++ now) (before .1) ∙ append-assoc (purgedAfter given events) (before .0) now)
-
-pub purged-ahead : (given : Given) (later events : List Event) → (rest : List ℕ) × (executedAfter given (later ++ events) ≡ purgedAfter given events ++ rest)
-purged-ahead given later events =
-    let past = purged-grows given later events in
-    let log = logAfter given (later ++ events) in
-    (past .0 ++ log, ap (λ (l : List ℕ). l ++ log) (past .1) ∙ append-assoc (purgedAfter given events) (past .0) log)
