@@ -2,7 +2,7 @@
 -- station's next state, which is valid.
 use mathlib.Core.Path.{_≡_, refl, sym, _∙_, ap, subst}
 use mathlib.Core.Logic.{_⊎_, inl, inr, ⊎-elim, _↔_}
-use mathlib.Core.Bool.{Bool, true, false, cond, not}
+use mathlib.Core.Bool.{Bool, true, false, cond}
 use mathlib.Core.List.{List, _++_}
 use Prim.Native.Nat.{ℕ, zero, suc, _+_, _≤_}
 use native.Mathlib.Omega.{arith}
@@ -11,6 +11,7 @@ use mathlib.Core.Option.{some}
 use lib.ListN.{length, drop}
 use lib.Dec.{T, eqb, eqb→eq, T-not}
 use lib.IntN.{ℤ}
+use Rattle.model.specs.Lists.{_∈_}
 use Rattle.model.specs.Message.{Message}
 use Rattle.model.specs.Order.{State, takeIn, sequencesOf, logOf}
 use Rattle.model.specs.Setpoints.{startValues}
@@ -25,7 +26,7 @@ use Rattle.laws_order.specs.StepLaws.{steps-fewest, steps-counted, undos-self}
 use Rattle.laws_wire.specs.RecordLaws.{records-steps, records-counted, records-self}
 use Rattle.laws_origin.specs.OriginLaws.{start-same}
 use Rattle.laws_state.specs.RecordRange.{records-back}
-use Rattle.laws_state.specs.DeliverLaws.{stateCode, deliver-code-is, deliver-is, code-zero, receive-refused, receive-accepted, take-in-origin, take-in-valid, receive-valid}
+use Rattle.laws_state.specs.DeliverLaws.{stateCode, deliver-code-is, deliver-is, code-zero, receive-refused, receive-accepted, take-in-origin, take-in-keeps, take-in-valid, receive-valid}
 use Rattle.laws_run.specs.Stub.{statePurgeCode, purge-code-is, purge-is, purge-code-zero, receive-purge-refused, receive-purge-accepted, receive-purge-valid, purge-log}
 
 -- after the call the plain station's state is `next`
@@ -118,10 +119,10 @@ module _ (S : State) (valid : Valid S) (K : ℕ) where
   })
   purge-facts (suc n) e = subst (λ (R : State). CallFacts S R (purging K) (withoutSteps (purgeAnswer (suc n) S (imageOf S) K)))
       (sym (receive-purge-refused S K (λ z. suc-ne-zero n (sym e ∙ z)))) (record {
-    agrees = stepless S S (imageOf S) (purging K) (purgeAnswer (suc n) S (imageOf S) K)
-        (λ z. absurd (suc-ne-zero n z), λ t. absurd (suc-ne-zero n (sym e ∙ purge-code-zero S K .1 t))) (sym e ∙ sym (purge-code-is S valid K)) (ap (λ (t : Bool). cond t (drop K (logOf S)) (logOf S)) (not-zero (suc n) (suc-ne-zero n)));
-    image = refl;
-  })
+        agrees = stepless S S (imageOf S) (purging K) (purgeAnswer (suc n) S (imageOf S) K)
+            (λ z. absurd (suc-ne-zero n z), λ t. absurd (suc-ne-zero n (sym e ∙ purge-code-zero S K .1 t))) (sym e ∙ sym (purge-code-is S valid K)) (ap (λ (t : Bool). cond t (drop K (logOf S)) (logOf S)) (not-zero (suc n) (suc-ne-zero n)));
+        image = refl;
+      })
 
 -- ---- any call
 pub call-facts : (S : State) → Valid S → (c : Call) (a : Delivered) → Answers (imageOf S) c a → CallFacts S (stateNext S c) c a
@@ -152,6 +153,13 @@ next-refused S (purging K) h = receive-purge-refused S K (λ e. h (purge-code-ze
 pub next-either : (P : State → Type 0) (S : State) (c : Call) → (T (accepts? S c) → P (made S c)) → P S → P (stateNext S c)
 next-either P S c f p =
     ⊎-elim (λ t. subst P (sym (next-made S c t)) (f t)) (λ h. subst P (sym (next-refused S c (T-not (accepts? S c) h))) p) (decide (accepts? S c))
+
+-- no delivery moves the origin or loses a delta
+pub delivery-origin : (S : State) (m : Message) (steps : List ℕ) → stateNext S (delivery m steps) .origin ≡ S .origin
+delivery-origin S m steps = next-either (λ (R : State). R .origin ≡ S .origin) S (delivery m steps) (λ t. take-in-origin m S) refl
+
+pub delivery-keeps : (S : State) (m : Message) (steps : List ℕ) (x : Message) → x ∈ S .deltas → x ∈ stateNext S (delivery m steps) .deltas
+delivery-keeps S m steps x k = next-either (λ (R : State). x ∈ R .deltas) S (delivery m steps) (λ t. take-in-keeps m S x k) k
 
 -- by its code, the test for 0: it was accepted, or left the state as it was
 pub outcome : (S next : State) (b : List ℕ) (c : Call) (a : Delivered) → CallAgrees S next b c a

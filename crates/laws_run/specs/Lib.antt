@@ -6,3 +6,6 @@ pub mod PurgedRuns
 pub mod RemainingRuns
 pub mod PairRuns
 pub mod RunLaws
+pub mod OrderRuns
+pub mod AcceptedRuns
+pub mod CalledRuns

@@ -1,16 +1,15 @@
 -- The pairs of a run's steps, played in turn: they lead to the setpoints of the station's state, and to no other values.
-use mathlib.Core.Path.{_≡_, refl, sym, _∙_, ap, ap₂, subst}
+use mathlib.Core.Path.{_≡_, refl, sym, _∙_, ap, subst}
 use mathlib.Core.Logic.{⊎-elim, _↔_}
 use mathlib.Core.Bool.{Bool, cond, not}
 use mathlib.Core.Option.{some, Option·some-injective}
 use mathlib.Core.List.{List, [], _∷_}
 use Prim.Native.Nat.{ℕ, _-_, _≤_}
 use lib.ListN.{length, take, drop}
-use lib.Dec.{T, eqb, nltb→le}
+use lib.Dec.{T, nltb→le}
 use lib.IntN.{ℤ}
-use Rattle.model.specs.Lists.{_∈_}
 use Rattle.model.specs.Message.{Message}
-use Rattle.model.specs.Order.{State, takeIn, logOf}
+use Rattle.model.specs.Order.{State, logOf}
 use Rattle.model.specs.Setpoints.{startValues, setpointsOf}
 use Rattle.model.specs.Image.{imageOf, valuesIn, Valid}
 use Rattle.model.specs.Steps.{StepRecord, recordsOf, recordsBetween, Standing, PlaysPairs}
@@ -22,10 +21,9 @@ use Rattle.laws_order.specs.TestLaws.{and-l}
 use Rattle.laws_wire.specs.RecordLaws.{records-self}
 use Rattle.laws_origin.specs.OriginLaws.{start-same}
 use Rattle.laws_state.specs.ImageValueLaws.{values-back}
-use Rattle.laws_state.specs.DeliverLaws.{take-in-origin, take-in-keeps}
 use Rattle.laws_state.specs.PairLaws.{standingIn, state-pairs-play, pairs-unique}
 use Rattle.laws_run.specs.Stub.{purge-log, purge-setpoints, standing-purged}
-use Rattle.laws_run.specs.CallRuns.{next-made, next-valid, next-either, outcome}
+use Rattle.laws_run.specs.CallRuns.{next-made, next-valid, delivery-origin, delivery-keeps, outcome}
 use Rattle.laws_run.specs.StateRuns.{empty-valid, state-valid, begins-image, run-image, event-facts}
 
 -- ---- one call
@@ -35,26 +33,19 @@ record CallPairs (S next : State) (c : Call) (a : Delivered) : Type 0 where
   read : recordsRead a ≡ some records
   plays : PlaysPairs (standingFrom c (a .code) (standingIn [] S)) (setpointsOf S) records (standingIn [] next) (setpointsOf next)
 
--- no delivery moves the origin or loses a delta
-next-origin : (S : State) (m : Message) (steps : List ℕ) → stateNext S (delivery m steps) .origin ≡ S .origin
-next-origin S m steps = next-either (λ (R : State). R .origin ≡ S .origin) S (delivery m steps) (λ t. take-in-origin m S) refl
-
-next-keeps : (S : State) (m : Message) (steps : List ℕ) (x : Message) → x ∈ S .deltas → x ∈ stateNext S (delivery m steps) .deltas
-next-keeps S m steps x k = next-either (λ (R : State). x ∈ R .deltas) S (delivery m steps) (λ t. take-in-keeps m S x k) k
-
 delivery-pairs : (S : State) → Valid S → (b : List ℕ) (m : Message) (steps : List ℕ) (a : Delivered)
     → CallAgrees S (stateNext S (delivery m steps)) b (delivery m steps) a → CallPairs S (stateNext S (delivery m steps)) (delivery m steps) a
 delivery-pairs S valid b m steps a agrees = record {
   records = recordsBetween S R;
   read = agrees .records ∙ ap (λ (v : List ℤ). some (recordsOf v (logOf S) (logOf R))) (sym (start-same S R same));
-  plays = state-pairs-play [] S R same (valid .ascends) (next-valid S valid (delivery m steps) .ascends) (next-keeps S m steps);
+  plays = state-pairs-play [] S R same (valid .ascends) (next-valid S valid (delivery m steps) .ascends) (delivery-keeps S m steps);
 }
   where
     R : State
     R = stateNext S (delivery m steps)
 
     same : S .origin ≡ R .origin
-    same = sym (next-origin S m steps)
+    same = sym (delivery-origin S m steps)
 
 -- a purge of all the log at the most
 accepts-within : (S : State) (K : ℕ) → T (acceptsPurge S K) → K ≤ length (logOf S)

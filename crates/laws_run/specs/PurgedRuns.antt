@@ -1,23 +1,22 @@
 -- What was purged along a list of calls: it is what is at or below the floors, and it stays so.
-use mathlib.Core.Path.{_≡_, refl, sym, _∙_, ap, ap₂, subst}
+use mathlib.Core.Path.{_≡_, refl, sym, _∙_, ap, subst}
 use mathlib.Core.Logic.{_⊎_, inl, inr, ⊎-elim, _↔_}
 use mathlib.Core.Bool.{Bool, true, false, cond, _&&_}
-use mathlib.Core.List.{List, [], _∷_, _++_, append-nil, append-assoc, List·Memᴰ·not-nil, List·Memᴰ·append-cases, Memᴰ·append-left, Memᴰ·append-right, Memᴰ·cast, Memᴰ·of-map}
+use mathlib.Core.List.{List, [], _∷_, _++_, List·Memᴰ·not-nil, List·Memᴰ·append-cases, Memᴰ·append-left, Memᴰ·append-right, Memᴰ·of-map}
 use Prim.Native.Nat.{ℕ}
-use lib.ListN.{take, drop, take-append-drop}
+use lib.ListN.{take}
 use lib.Dec.{T, eqb}
 use Rattle.model.specs.Lists.{_∈_}
-use Rattle.model.specs.Message.{Message, sequenceOf, numbered}
+use Rattle.model.specs.Message.{sequenceOf, numbered}
 use Rattle.model.specs.Order.{Origin, State, holding, purged, sequencesOf, logOf}
-use Rattle.model.specs.Purge.{purgeFirst}
 use Rattle.model.specs.Image.{imageOf, Valid}
 use Rattle.model.specs.Calls.{Delivered}
-use Rattle.model_runs.specs.Run.{Given, Call, delivery, purging, Event, Run, accepts?, stateNext, stateAfter, logAfter, purgedBy, purgedAfter, CallAgrees, Begins, Answers}
+use Rattle.model_runs.specs.Run.{Given, Call, delivery, purging, Event, Run, stateNext, stateAfter, logAfter, purgedBy, purgedAfter, CallAgrees, Begins, Answers}
 use Rattle.laws_order.specs.TestLaws.{and-l, and-r, and-i}
-use Rattle.laws_order.specs.ListLaws.{take-map, drop-map, ∈-take}
+use Rattle.laws_order.specs.ListLaws.{take-map, ∈-take}
 use Rattle.laws_state.specs.LogLaws.{log-received}
 use Rattle.laws_state.specs.DeliverLaws.{take-in-origin}
-use Rattle.laws_run.specs.Stub.{purge-log, purged-after, purged-stays, own-numbered}
+use Rattle.laws_run.specs.Stub.{purged-after, purged-stays, own-numbered}
 use Rattle.laws_run.specs.CallRuns.{made, next-made, next-either, outcome}
 use Rattle.laws_run.specs.StateRuns.{state-valid, event-facts}
 

@@ -1,7 +1,7 @@
 -- The deltas of a station after a list of calls: those that the calls accepted, less what was purged. So two stations of one origin with
 -- the same remaining deltas have one image.
-use mathlib.Core.Path.{_≡_, refl, sym, _∙_, ap, ap₂, subst}
-use mathlib.Core.Logic.{_⊎_, inl, inr, ⊎-elim}
+use mathlib.Core.Path.{_≡_, sym, _∙_, ap, ap₂, subst}
+use mathlib.Core.Logic.{inr, ⊎-elim}
 use mathlib.Core.Bool.{Bool, true, cond, not}
 use mathlib.Core.List.{List, [], _∷_, _++_, List·Memᴰ·head, List·Memᴰ·tail, List·Memᴰ·not-nil, List·Memᴰ·cases-cons, List·Memᴰ·append-cases, Memᴰ·append-left, Memᴰ·append-right, Memᴰ·cast}
 use Prim.Native.Nat.{ℕ}
@@ -43,7 +43,7 @@ made-has S valid (delivery m steps) t x k high = ⊎-elim here (λ j. absurd (Li
     here : x ≡ m → x ∈ takeIn m S .deltas
     here e =
         let above : T (not (purged S (sequenceOf m))) =
-            subst (λ (O : Origin). T (not (purged (holding O []) (sequenceOf m)))) (take-in-origin m S) (subst (λ (y : Message). T (not (purged (takeIn m S) (sequenceOf y)))) e high) in
+        subst (λ (O : Origin). T (not (purged (holding O []) (sequenceOf m)))) (take-in-origin m S) (subst (λ (y : Message). T (not (purged (takeIn m S) (sequenceOf y)))) e high) in
         subst (λ (R : State). x ∈ R .deltas) (sym (take-in-above m S above)) (Memᴰ·cast e (insert-has m (S .deltas) (accepts-same S valid m (length steps) t)))
 made-has S valid (purging K) t x k high = absurd (List·Memᴰ·not-nil k)
 
@@ -63,8 +63,8 @@ module _ (given : Given) (b : List ℕ) (begun : Begins given b) where
       go : (x ∈ S .deltas → x ∈ acceptedIn earlier) → x ∈ acceptedIn (e ∷ earlier)
       go ih = ⊎-elim
           (λ r. subst (λ (l : List Message). x ∈ l) (sym (accepted-now e earlier (r .0)))
-              (⊎-elim (Memᴰ·append-left _) (λ j. Memᴰ·append-right (messagesOfCall (e .call)) (ih j))
-              (List·Memᴰ·append-cases (messagesOfCall (e .call)) (made-from S (state-valid given earlier) (e .call) x (subst (λ (R : State). x ∈ R .deltas) (next-made S (e .call) (r .1)) k)))))
+          (⊎-elim (Memᴰ·append-left _) (λ j. Memᴰ·append-right (messagesOfCall (e .call)) (ih j))
+          (List·Memᴰ·append-cases (messagesOfCall (e .call)) (made-from S (state-valid given earlier) (e .call) x (subst (λ (R : State). x ∈ R .deltas) (next-made S (e .call) (r .1)) k)))))
           (λ r. subst (λ (t : Bool). x ∈ cond t (messagesOfCall (e .call) ++ acceptedIn earlier) (acceptedIn earlier)) (sym (r .0)) (ih (subst (λ (R : State). x ∈ R .deltas) (r .1) k)))
           (outcome S (stateAfter given (e ∷ earlier)) (imageOf S) (e .call) (e .answer) (event-facts given b begun e earlier run .agrees))
 
@@ -82,11 +82,11 @@ module _ (given : Given) (b : List ℕ) (begun : Begins given b) where
       go : (x ∈ acceptedIn earlier → T (not (purged S (sequenceOf x))) → x ∈ S .deltas) → x ∈ stateNext S (e .call) .deltas
       go ih = ⊎-elim
           (λ r. let high′ = subst (λ (R : State). T (not (purged R (sequenceOf x)))) (next-made S (e .call) (r .1)) high in
-              subst (λ (R : State). x ∈ R .deltas) (sym (next-made S (e .call) (r .1)))
-              (⊎-elim (λ j. made-has S (state-valid given earlier) (e .call) (r .1) x j high′) (λ j. made-keeps S (state-valid given earlier) (e .call) x (ih j above) high′)
-              (List·Memᴰ·append-cases (messagesOfCall (e .call)) (subst (λ (l : List Message). x ∈ l) (accepted-now e earlier (r .0)) k))))
+          subst (λ (R : State). x ∈ R .deltas) (sym (next-made S (e .call) (r .1)))
+          (⊎-elim (λ j. made-has S (state-valid given earlier) (e .call) (r .1) x j high′) (λ j. made-keeps S (state-valid given earlier) (e .call) x (ih j above) high′)
+          (List·Memᴰ·append-cases (messagesOfCall (e .call)) (subst (λ (l : List Message). x ∈ l) (accepted-now e earlier (r .0)) k))))
           (λ r. subst (λ (R : State). x ∈ R .deltas) (sym (r .1))
-              (ih (subst (λ (t : Bool). x ∈ cond t (messagesOfCall (e .call) ++ acceptedIn earlier) (acceptedIn earlier)) (r .0) k) above))
+          (ih (subst (λ (t : Bool). x ∈ cond t (messagesOfCall (e .call) ++ acceptedIn earlier) (acceptedIn earlier)) (r .0) k) above))
           (outcome S (stateAfter given (e ∷ earlier)) (imageOf S) (e .call) (e .answer) (event-facts given b begun e earlier run .agrees))
 
   pub accepted-set : (events : List Event) → Run Answers b events → Same (stateAfter given events .deltas) (remainingIn given events)

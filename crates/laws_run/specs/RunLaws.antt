@@ -1,6 +1,6 @@
 -- Demand 3 of the definitions' own calls: `Agreement` holds of them.
 use mathlib.Core.Path.{_≡_, sym, _∙_, ap, subst}
-use mathlib.Core.Bool.{not, _&&_}
+use mathlib.Core.Bool.{not}
 use mathlib.Core.List.{List, _∷_}
 use Prim.Native.Nat.{ℕ}
 use lib.ListN.{length}
@@ -8,9 +8,9 @@ use lib.Dec.{T}
 use Rattle.model.specs.Lists.{_∈_}
 use Rattle.model.specs.Message.{Message, sequenceOf, numbered, passes}
 use Rattle.model.specs.Order.{purged, sequencesOf}
-use Rattle.model.specs.Image.{imageOf, logIn}
+use Rattle.model.specs.Image.{logIn}
 use Rattle.model.specs.Codes.{smallSteps}
-use Rattle.model.specs.Calls.{Delivered, deliver}
+use Rattle.model.specs.Calls.{deliver}
 use Rattle.model_runs.specs.Run.{Given, Event, imageAfter, Run, stateAfter, purgedAfter, CallAgrees, Agreement, Begins, Answers}
 use Rattle.laws_order.specs.TestLaws.{and-r}
 use Rattle.laws_state.specs.ImageLaws.{log-back}

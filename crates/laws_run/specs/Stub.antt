@@ -1,11 +1,10 @@
 -- Temporary: what laws_purge is to prove.
 use mathlib.Core.Path.{_≡_}
 use mathlib.Core.Logic.{_⊎_, _↔_}
-use mathlib.Core.List.{List, []}
+use mathlib.Core.List.{[]}
 use Prim.Native.Nat.{ℕ, _-_, _≤_}
 use lib.ListN.{length, take, drop}
 use lib.Dec.{T}
-use lib.IntN.{ℤ}
 use Rattle.model.specs.Lists.{_∈_}
 use Rattle.model.specs.Message.{Message, sequenceOf, numbered, passes}
 use Rattle.model.specs.Order.{State, purged, MeetsRing, sequencesOf, logOf}
