@@ -22,7 +22,8 @@ use Rattle.laws_wire.specs.RecordLaws.{records-self}
 use Rattle.laws_origin.specs.OriginLaws.{start-same}
 use Rattle.laws_state.specs.ImageValueLaws.{values-back}
 use Rattle.laws_state.specs.PairLaws.{standingIn, state-pairs-play, pairs-unique}
-use Rattle.laws_run.specs.Stub.{purge-log, purge-setpoints, standing-purged}
+use Rattle.laws_purge.specs.PurgeLaws.{purge-log}
+use Rattle.laws_run.specs.Stub.{purge-setpoints, standing-purged}
 use Rattle.laws_run.specs.CallRuns.{next-made, next-valid, delivery-origin, delivery-keeps, outcome}
 use Rattle.laws_run.specs.StateRuns.{empty-valid, state-valid, begins-image, run-image, event-facts}
 

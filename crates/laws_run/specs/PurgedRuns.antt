@@ -16,7 +16,7 @@ use Rattle.laws_order.specs.TestLaws.{and-l, and-r, and-i}
 use Rattle.laws_order.specs.ListLaws.{take-map, ∈-take}
 use Rattle.laws_state.specs.LogLaws.{log-received}
 use Rattle.laws_state.specs.DeliverLaws.{take-in-origin}
-use Rattle.laws_run.specs.Stub.{purged-after, purged-stays, own-numbered}
+use Rattle.laws_purge.specs.PurgedFloors.{purged-after, purged-stays, own-numbered}
 use Rattle.laws_run.specs.CallRuns.{made, next-made, next-either, outcome}
 use Rattle.laws_run.specs.StateRuns.{state-valid, event-facts}
 

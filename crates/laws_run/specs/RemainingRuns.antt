@@ -16,7 +16,7 @@ use Rattle.model_runs.specs.Run.{Given, Call, delivery, purging, Event, imageAf
 use Rattle.laws_order.specs.TestLaws.{Same, decide, keep-∈, ∈-keep}
 use Rattle.laws_state.specs.SetLaws.{insert-from, insert-has, ascending-unique}
 use Rattle.laws_state.specs.DeliverLaws.{take-in-purged, take-in-above, take-in-origin, take-in-keeps, accepts-same}
-use Rattle.laws_run.specs.Stub.{purged-after, left-is, own-numbered}
+use Rattle.laws_purge.specs.PurgedFloors.{purged-after, left-is, own-numbered}
 use Rattle.laws_run.specs.CallRuns.{made, next-made, outcome}
 use Rattle.laws_run.specs.StateRuns.{state-valid, run-image, event-facts}
 use Rattle.laws_run.specs.PurgedRuns.{next-purged}

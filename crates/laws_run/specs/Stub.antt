@@ -36,26 +36,11 @@ receive-purge-accepted S K e = ?e
 pub receive-purge-valid : (S : State) → Valid S → (K : ℕ) → Valid (receivePurge S K)
 receive-purge-valid S valid K = ?f
 
-pub purge-log : (S : State) → Valid S → (K : ℕ) → logOf (purgeFirst K S) ≡ drop K (logOf S)
-purge-log S valid K = ?g
-
 pub purge-setpoints : (S : State) → Valid S → (K : ℕ) → setpointsOf (purgeFirst K S) ≡ setpointsOf S
 purge-setpoints S valid K = ?h
-
-pub purged-after : (S : State) → Valid S → (K : ℕ) → (s : ℕ) → T (numbered s) → T (purged (purgeFirst K S) s) ↔ (T (purged S s) ⊎ (s ∈ sequencesOf (take K (logOf S))))
-purged-after S valid K s t = ?i
-
-pub left-is : (S : State) → Valid S → (K : ℕ) → (m : Message) → m ∈ purgeFirst K S .deltas ↔ ((m ∈ S .deltas) × (sequenceOf m ∈ sequencesOf (take K (logOf S)) → ⊥))
-left-is S valid K m = ?j
 
 pub purge-ring : (S : State) → Valid S → (K : ℕ) → (m : Message) → m ∈ S .deltas → MeetsRing S m → MeetsRing (purgeFirst K S) m
 purge-ring S valid K m k ring = ?k
 
 pub standing-purged : (S : State) → Valid S → (K : ℕ) → K ≤ length (logOf S) → take (length (standingIn [] S) - K) (standingIn [] S) ≡ standingIn [] (purgeFirst K S)
 standing-purged S valid K h = ?l
-
-pub purged-stays : (S : State) → Valid S → (K : ℕ) → (s : ℕ) → T (purged S s) → T (purged (purgeFirst K S) s)
-purged-stays S valid K s t = ?m
-
-pub own-numbered : (m : Message) → T (passes m) → T (numbered (sequenceOf m))
-own-numbered m t = ?n
