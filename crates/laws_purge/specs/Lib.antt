@@ -6,3 +6,6 @@ pub mod AscentLaws
 pub mod PurgedFloors
 pub mod PurgedBlocks
 pub mod PurgeLaws
+pub mod RunLaws
+pub mod PurgedState
+pub mod PurgeValid
