@@ -2,7 +2,7 @@
 -- the same remaining deltas have one image.
 use mathlib.Core.Path.{_≡_, sym, _∙_, ap, ap₂, subst}
 use mathlib.Core.Logic.{inr, ⊎-elim}
-use mathlib.Core.Bool.{Bool, true, cond, not}
+use mathlib.Core.Bool.{Bool, true, false, cond, not}
 use mathlib.Core.List.{List, [], _∷_, _++_, List·Memᴰ·head, List·Memᴰ·tail, List·Memᴰ·not-nil, List·Memᴰ·cases-cons, List·Memᴰ·append-cases, Memᴰ·append-left, Memᴰ·append-right, Memᴰ·cast}
 use Prim.Native.Nat.{ℕ}
 use lib.ListN.{length}
@@ -48,11 +48,11 @@ made-has S valid (delivery m steps) t x k high = ⊎-elim here (λ j. absurd (Li
 made-has S valid (purging K) t x k high = absurd (List·Memᴰ·not-nil k)
 
 -- ---- whole lists
-module _ (given : Given) (b : List ℕ) (begun : Begins given b) where
-  -- what a call adds to the accepted messages, by its outcome
-  accepted-now : (e : Event) (earlier : List Event) → eqb (e .answer .code) 0 ≡ true → acceptedIn (e ∷ earlier) ≡ messagesOfCall (e .call) ++ acceptedIn earlier
-  accepted-now e earlier z = ap (λ (t : Bool). cond t (messagesOfCall (e .call) ++ acceptedIn earlier) (acceptedIn earlier)) z
+-- what a call adds to the accepted messages, by its code
+accepted-now : (e : Event) (earlier : List Event) (t : Bool) → eqb (e .answer .code) 0 ≡ t → acceptedIn (e ∷ earlier) ≡ cond t (messagesOfCall (e .call) ++ acceptedIn earlier) (acceptedIn earlier)
+accepted-now e earlier t z = ap (λ (u : Bool). cond u (messagesOfCall (e .call) ++ acceptedIn earlier) (acceptedIn earlier)) z
 
+module _ (given : Given) (b : List ℕ) (begun : Begins given b) where
   set-accepted : (events : List Event) → Run Answers b events → (x : Message) → x ∈ stateAfter given events .deltas → x ∈ acceptedIn events
   set-accepted [] run x k = k
   set-accepted (e ∷ earlier) run x k = go (set-accepted earlier (run .1) x)
@@ -62,10 +62,10 @@ module _ (given : Given) (b : List ℕ) (begun : Begins given b) where
 
       go : (x ∈ S .deltas → x ∈ acceptedIn earlier) → x ∈ acceptedIn (e ∷ earlier)
       go ih = ⊎-elim
-          (λ r. subst (λ (l : List Message). x ∈ l) (sym (accepted-now e earlier (r .0)))
+          (λ r. subst (λ (l : List Message). x ∈ l) (sym (accepted-now e earlier true (r .0)))
           (⊎-elim (Memᴰ·append-left _) (λ j. Memᴰ·append-right (messagesOfCall (e .call)) (ih j))
           (List·Memᴰ·append-cases (messagesOfCall (e .call)) (made-from S (state-valid given earlier) (e .call) x (subst (λ (R : State). x ∈ R .deltas) (next-made S (e .call) (r .1)) k)))))
-          (λ r. subst (λ (t : Bool). x ∈ cond t (messagesOfCall (e .call) ++ acceptedIn earlier) (acceptedIn earlier)) (sym (r .0)) (ih (subst (λ (R : State). x ∈ R .deltas) (r .1) k)))
+          (λ r. subst (λ (l : List Message). x ∈ l) (sym (accepted-now e earlier false (r .0))) (ih (subst (λ (R : State). x ∈ R .deltas) (r .1) k)))
           (outcome S (stateAfter given (e ∷ earlier)) (imageOf S) (e .call) (e .answer) (event-facts given b begun e earlier run .agrees))
 
   accepted-left : (events : List Event) → Run Answers b events → (x : Message) → x ∈ acceptedIn events → T (not (purged (stateAfter given events) (sequenceOf x))) → x ∈ stateAfter given events .deltas
@@ -84,9 +84,9 @@ module _ (given : Given) (b : List ℕ) (begun : Begins given b) where
           (λ r. let high′ = subst (λ (R : State). T (not (purged R (sequenceOf x)))) (next-made S (e .call) (r .1)) high in
           subst (λ (R : State). x ∈ R .deltas) (sym (next-made S (e .call) (r .1)))
           (⊎-elim (λ j. made-has S (state-valid given earlier) (e .call) (r .1) x j high′) (λ j. made-keeps S (state-valid given earlier) (e .call) x (ih j above) high′)
-          (List·Memᴰ·append-cases (messagesOfCall (e .call)) (subst (λ (l : List Message). x ∈ l) (accepted-now e earlier (r .0)) k))))
+          (List·Memᴰ·append-cases (messagesOfCall (e .call)) (subst (λ (l : List Message). x ∈ l) (accepted-now e earlier true (r .0)) k))))
           (λ r. subst (λ (R : State). x ∈ R .deltas) (sym (r .1))
-          (ih (subst (λ (t : Bool). x ∈ cond t (messagesOfCall (e .call) ++ acceptedIn earlier) (acceptedIn earlier)) (r .0) k) above))
+          (ih (subst (λ (l : List Message). x ∈ l) (accepted-now e earlier false (r .0)) k) above))
           (outcome S (stateAfter given (e ∷ earlier)) (imageOf S) (e .call) (e .answer) (event-facts given b begun e earlier run .agrees))
 
   pub accepted-set : (events : List Event) → Run Answers b events → Same (stateAfter given events .deltas) (remainingIn given events)
