@@ -74,17 +74,17 @@ accepts-purge S K t = (
   nltb→le mostFloors (length (purgeFirst K S .origin .floors)) (and-r (not (exceedsLog S K)) (not (manyFloors S K)) t),
 )
 
-pub purge-receive-refused : (S : State) (K : ℕ) → ¬ (statePurgeCode S K ≡ 0) → receivePurge S K ≡ S
+pub receive-purge-refused : (S : State) (K : ℕ) → ¬ (statePurgeCode S K ≡ 0) → receivePurge S K ≡ S
 unfolding receivePurge
-purge-receive-refused S K h = go (acceptsPurge S K) (λ t. h (purge-code-zero S K .1 t))
+receive-purge-refused S K h = go (acceptsPurge S K) (λ t. h (purge-code-zero S K .1 t))
   where
     go : (b : Bool) → (T b → ⊥) → cond b (purgeFirst K S) S ≡ S
     go true f = absurd (f tt)
     go false f = refl
 
-pub purge-receive-accepted : (S : State) (K : ℕ) → statePurgeCode S K ≡ 0 → receivePurge S K ≡ purgeFirst K S
+pub receive-purge-accepted : (S : State) (K : ℕ) → statePurgeCode S K ≡ 0 → receivePurge S K ≡ purgeFirst K S
 unfolding receivePurge
-purge-receive-accepted S K e = go (acceptsPurge S K) (purge-code-zero S K .0 e)
+receive-purge-accepted S K e = go (acceptsPurge S K) (purge-code-zero S K .0 e)
   where
     go : (b : Bool) → T b → cond b (purgeFirst K S) S ≡ purgeFirst K S
     go true t = refl

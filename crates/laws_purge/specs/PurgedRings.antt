@@ -20,7 +20,8 @@ module _ (S : State) (right : RightSet S) (K : ℕ) where
       (subst (λ (l : List Message). m ∈ l) (sym (purge-held S right K)) (ring-held S (right .ascends) m k ring)) .0
 
   -- and what needs it does so still
-  ring-needed : (a b : Message) → a ∈ S .deltas → MeetsRing S a → b ∈ S .deltas → MeetsRing S b → sequenceOf b ∈ needs S a → sequenceOf b ∈ needs (purgeFirst K S) a
+  ring-needed : (a b : Message) → a ∈ S .deltas → MeetsRing S a → b ∈ S .deltas → MeetsRing S b
+      → sequenceOf b ∈ needs S a → sequenceOf b ∈ needs (purgeFirst K S) a
   ring-needed a b j p k q n =
       ⊎-elim (λ g. absurd (left-is S right K b .0 (ring-left b k q) .1 g)) (λ i. i) (needs-others S right K a (ring-left a j p) (sequenceOf b) n)
 
@@ -35,6 +36,6 @@ module _ (S : State) (right : RightSet S) (K : ℕ) where
         let meets : MeetsRing S b = inr (r, k, q′, ring) in
         L.through (ring-left b i meets) (ring-needed a b j (inr (r, k, L.through i n q′, ring)) i meets n) (way i e q)
 
-  pub purge-rings : (m : Message) → m ∈ S .deltas → MeetsRing S m → MeetsRing (purgeFirst K S) m
-  purge-rings m k (inl ring) = inl (way m k ring k refl ring)
-  purge-rings m k (inr (r, j, p, ring)) = inr (r, ring-left r j (inl ring), way r j ring k refl p, way r j ring j refl ring)
+  pub purge-ring : (m : Message) → m ∈ S .deltas → MeetsRing S m → MeetsRing (purgeFirst K S) m
+  purge-ring m k (inl ring) = inl (way m k ring k refl ring)
+  purge-ring m k (inr (r, j, p, ring)) = inr (r, ring-left r j (inl ring), way r j ring k refl p, way r j ring j refl ring)
