@@ -9,3 +9,6 @@ pub mod PurgeLaws
 pub mod RunLaws
 pub mod PurgedState
 pub mod PurgeValid
+pub mod PurgeCodes
+pub mod PurgedRings
+pub mod PurgedPairs
