@@ -28,7 +28,7 @@ use Rattle.laws_origin.specs.OriginLaws.{start-same}
 use Rattle.laws_state.specs.RecordRange.{records-back}
 use Rattle.laws_state.specs.DeliverLaws.{stateCode, deliver-code-is, deliver-is, code-zero, receive-refused, receive-accepted, take-in-origin, take-in-keeps, take-in-valid, receive-valid}
 use Rattle.laws_purge.specs.PurgeLaws.{purge-log}
-use Rattle.laws_run.specs.Stub.{statePurgeCode, purge-code-is, purge-is, purge-code-zero, receive-purge-refused, receive-purge-accepted, receive-purge-valid}
+use Rattle.laws_purge.specs.PurgeCodes.{statePurgeCode, purge-code-is, purge-is, purge-code-zero, receive-purge-refused, receive-purge-accepted, receive-purge-valid}
 
 -- after the call the plain station's state is `next`
 pub record CallFacts (S next : State) (c : Call) (a : Delivered) : Type 0 where

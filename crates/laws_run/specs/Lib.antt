@@ -1,4 +1,3 @@
-pub mod Stub
 pub mod CallRuns
 pub mod StateRuns
 pub mod PlayedRuns

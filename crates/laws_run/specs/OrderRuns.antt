@@ -16,7 +16,7 @@ use Rattle.laws_state.specs.LogLaws.{log-is, log-received, log-executable, log-
 use Rattle.laws_state.specs.DeliverLaws.{take-in-origin, take-in-keeps}
 use Rattle.laws_state.specs.ImageLaws.{log-back, held-back}
 use Rattle.laws_purge.specs.PurgedFloors.{left-is}
-use Rattle.laws_run.specs.Stub.{purge-ring}
+use Rattle.laws_purge.specs.PurgedRings.{purge-ring}
 use Rattle.laws_run.specs.CallRuns.{made, next-either}
 use Rattle.laws_run.specs.StateRuns.{state-valid, run-image, run-before}
 use Rattle.laws_run.specs.RemainingRuns.{accepted-set}

@@ -1,29 +1,27 @@
 -- The pairs of a run's steps, played in turn: they lead to the setpoints of the station's state, and to no other values.
 use mathlib.Core.Path.{_≡_, refl, sym, _∙_, ap, subst}
 use mathlib.Core.Logic.{⊎-elim, _↔_}
-use mathlib.Core.Bool.{Bool, cond, not}
+use mathlib.Core.Bool.{Bool, cond}
 use mathlib.Core.Option.{some, Option·some-injective}
 use mathlib.Core.List.{List, [], _∷_}
-use Prim.Native.Nat.{ℕ, _-_, _≤_}
+use Prim.Native.Nat.{ℕ, _-_}
 use lib.ListN.{length, take, drop}
-use lib.Dec.{T, nltb→le}
 use lib.IntN.{ℤ}
 use Rattle.model.specs.Message.{Message}
 use Rattle.model.specs.Order.{State, logOf}
 use Rattle.model.specs.Setpoints.{startValues, setpointsOf}
 use Rattle.model.specs.Image.{imageOf, valuesIn, Valid}
 use Rattle.model.specs.Steps.{StepRecord, recordsOf, recordsBetween, Standing, PlaysPairs}
-use Rattle.model.specs.Codes.{exceedsLog, manyFloors}
 use Rattle.model.specs.Calls.{Delivered, emptyState}
-use Rattle.model.specs.PlainStation.{acceptsPurge}
 use Rattle.model_runs.specs.Run.{Given, Call, delivery, purging, Event, imageAfter, Run, stateNext, stateAfter, oldLog, recordsRead, standingFrom, PairsPlayed, CallAgrees, Begins, Answers}
-use Rattle.laws_order.specs.TestLaws.{and-l}
 use Rattle.laws_wire.specs.RecordLaws.{records-self}
 use Rattle.laws_origin.specs.OriginLaws.{start-same}
 use Rattle.laws_state.specs.ImageValueLaws.{values-back}
 use Rattle.laws_state.specs.PairLaws.{standingIn, state-pairs-play, pairs-unique}
 use Rattle.laws_purge.specs.PurgeLaws.{purge-log}
-use Rattle.laws_run.specs.Stub.{purge-setpoints, standing-purged}
+use Rattle.laws_purge.specs.PurgeCodes.{accepts-purge}
+use Rattle.laws_purge.specs.PurgedState.{purge-setpoints}
+use Rattle.laws_purge.specs.PurgedPairs.{standing-purged}
 use Rattle.laws_run.specs.CallRuns.{next-made, next-valid, delivery-origin, delivery-keeps, outcome}
 use Rattle.laws_run.specs.StateRuns.{empty-valid, state-valid, begins-image, run-image, event-facts}
 
@@ -48,11 +46,6 @@ delivery-pairs S valid b m steps a agrees = record {
     same : S .origin ≡ R .origin
     same = sym (delivery-origin S m steps)
 
--- a purge of all the log at the most
-accepts-within : (S : State) (K : ℕ) → T (acceptsPurge S K) → K ≤ length (logOf S)
-unfolding acceptsPurge
-accepts-within S K t = nltb→le (length (logOf S)) K (and-l (not (exceedsLog S K)) (not (manyFloors S K)) t)
-
 -- a purge has no records, and lets the executions of what it drops go
 purge-pairs : (S : State) → Valid S → (b : List ℕ) (K : ℕ) (a : Delivered) → CallAgrees S (stateNext S (purging K)) b (purging K) a → CallPairs S (stateNext S (purging K)) (purging K) a
 purge-pairs S valid b K a agrees = record {
@@ -70,7 +63,7 @@ purge-pairs S valid b K a agrees = record {
     facts : (oldLog S (purging K) (a .code) ≡ logOf R) × (standingFrom (purging K) (a .code) standing ≡ standingIn [] R) × (setpointsOf S ≡ setpointsOf R)
     facts = ⊎-elim (λ r. let next = sym (next-made S (purging K) (r .1)) in (
       ap (λ (t : Bool). cond t (drop K (logOf S)) (logOf S)) (r .0) ∙ sym (purge-log S valid K) ∙ ap logOf next,
-      ap (λ (t : Bool). cond t (take (length standing - K) standing) standing) (r .0) ∙ standing-purged S valid K (accepts-within S K (r .1)) ∙ ap (standingIn []) next,
+      ap (λ (t : Bool). cond t (take (length standing - K) standing) standing) (r .0) ∙ standing-purged S valid K (accepts-purge S K (r .1) .0) ∙ ap (standingIn []) next,
       sym (purge-setpoints S valid K) ∙ ap setpointsOf next,
     )) (λ r. (
       ap (λ (t : Bool). cond t (drop K (logOf S)) (logOf S)) (r .0) ∙ ap logOf (sym (r .1)),

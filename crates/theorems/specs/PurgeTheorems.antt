@@ -6,7 +6,6 @@ use mathlib.Core.List.{List}
 use Prim.Native.Nat.{ℕ}
 use lib.ListN.{length, take, drop}
 use lib.Dec.{T}
-use lib.IntN.{ℤ}
 use Rattle.model.specs.Lists.{_∈_}
 use Rattle.model.specs.Message.{Message, sequenceOf, numbered, passes}
 use Rattle.model.specs.Order.{State, purged, sequencesOf, logOf, heldOf}
