@@ -53,6 +53,10 @@ then-a2 =
 abbrev all-gone : Event
 all-gone = purgingBy 2 0 (imageOf (purgeFirst 2 (takeIn a2 past-a1)))
 
+-- all of them, the latest first
+abbrev pub whole : List Event
+whole = all-gone ∷ then-a2 ∷ too-many ∷ a1-late ∷ one-gone ∷ two
+
 -- ---- the plain station: whether it accepts the call; then its deltas, its log, and what was purged
 pub record Plainly : Type 0 where
   pub accepted : Bool
