@@ -86,7 +86,8 @@ purges =
     ∷ ((blocked, 1), left (A 1 ∷ []) (pos 1500) 0 1 (B 1 ∷ C 1 ∷ C 2 ∷ []) [] (pos 5))
     ∷ ((blocked, 2), left (A 1 ∷ B 1 ∷ []) (pos 1480) 1 1 (C 1 ∷ C 2 ∷ []) [] (pos 5))
     ∷ ((blocked, 4), left (A 1 ∷ B 1 ∷ C 2 ∷ []) (pos 5) 5 1 [] [] (pos 5))
-    -- a second purge: its line's floor is raised, the others stay; run from the base values; block and group stay the greatest
+    -- a second purge: none changes nothing; its line's floor is raised, the others stay; run from the base values; block and group stay the greatest
+    ∷ ((again, 0), left (A 1 ∷ C 2 ∷ []) (pos 100) 3 4 (A 2 ∷ B 1 ∷ []) [] (negsuc 12))
     ∷ ((again, 1), left (A 2 ∷ C 2 ∷ []) (pos 7) 3 4 (B 1 ∷ []) [] (negsuc 12))
     ∷ ((again, 2), left (A 2 ∷ B 1 ∷ C 2 ∷ []) (negsuc 12) 3 4 [] [] (negsuc 12))
     ∷ []

@@ -5,3 +5,4 @@ pub mod PurgeRunExamples
 pub mod AcceptedExamples
 pub mod NearMisses
 pub mod AgreementExamples
+pub mod PurgeNearMisses

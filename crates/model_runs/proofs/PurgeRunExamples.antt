@@ -9,15 +9,16 @@ use lib.ListN.{getD, replicate}
 use lib.IntN.{ℤ, pos, negsuc}
 use Rattle.model.specs.Layout.{setpointsStart, valuesSize}
 use Rattle.model.specs.Bytes.{word}
-use Rattle.model.specs.Message.{layoutRight, numbersRight, dependenciesRight, contentRight, commandRight, passes}
+use Rattle.model.specs.Message.{Message, layoutRight, numbersRight, dependenciesRight, contentRight, commandRight, passes}
 use Rattle.model.specs.Order.{State, takeIn, sequencesOf, needs, logOf}
 use Rattle.model.specs.Setpoints.{startValues, stop, raise, operate, changeOf, apply, runCommand, runDelta}
 use Rattle.model.specs.Purge.{originPast, purgeFirst}
 use Rattle.model.specs.Image.{imageOf}
 use Rattle.model.specs.Steps.{undo, execute, recordBytes}
+use Rattle.model.specs.Compose.{messageOf}
 use Rattle.model.specs.PlainStation.{accepts, receive, acceptsPurge, receivePurge}
-use Rattle.model_runs.specs.Run.{purging, Event, accepts?, stateAfter, acceptedIn, remainingIn, purgedAfter, SameStation, Played, PairsPlayed}
-use Rattle.model.proofs.ExampleMessages.{A, B, a1, a2, b1, a1-value, holding}
+use Rattle.model_runs.specs.Run.{purging, Event, accepts?, stateAfter, acceptedIn, remainingIn, deliveries, purgedAfter, SameStation, Played, PairsPlayed}
+use Rattle.model.proofs.ExampleMessages.{A, B, plain, urgent, rightCommands, a1, a2, b1, a1-value, holding}
 use Rattle.model.proofs.RecordExamples.{setting}
 use Rattle.model.proofs.PairExamples.{tag3, standing}
 use Rattle.model_runs.proofs.ExampleEvents.{given, image, event}
@@ -51,6 +52,10 @@ then-a2 =
 
 abbrev all-gone : Event
 all-gone = purgingBy 2 0 (imageOf (purgeFirst 2 (takeIn a2 past-a1)))
+
+-- all of them, the latest first
+abbrev pub whole : List Event
+whole = all-gone ∷ then-a2 ∷ too-many ∷ a1-late ∷ one-gone ∷ two
 
 -- ---- the plain station: whether it accepts the call; then its deltas, its log, and what was purged
 pub record Plainly : Type 0 where
@@ -114,10 +119,32 @@ over-purge = (standing (B 1) (pos 1500) ∷ standing (A 1) (pos 0) ∷ [], tag3 
 over-refused : PairsPlayed begun (too-many ∷ one-gone ∷ two) (standing (B 1) (pos 1500) ∷ []) (tag3 (pos 1480))
 over-refused = (standing (B 1) (pos 1500) ∷ [], tag3 (pos 1480), [], over-purge, refl, (refl, refl))
 
--- ---- stations that accepted the same and purged the same place, but with other values: no equal images are promised
-abbrev purged-a1 : ℕ → List Event
-purged-a1 v = purgingBy 1 0 (imageOf (purgeFirst 1 (holding (a1-value v ∷ [])))) ∷ event (a1-value v) 0 0 1 [] (image (a1-value v ∷ [])) ∷ []
+-- ---- a list of deliveries alone is another
+deliveries-alone : deliveries two ≡ true
+deliveries-alone = refl
 
-other-base : SameStation given (purged-a1 1) given (purged-a1 2) → ⊥
+with-a-purge : deliveries (one-gone ∷ two) ≡ false
+with-a-purge = refl
+
+-- ---- stations that purged one delta, which was not the same: the same remains, but no equal images are promised
+abbrev past : Message → List Event
+past m = purgingBy 1 0 (imageOf (purgeFirst 1 (holding (m ∷ [])))) ∷ event m 0 0 1 [] (image (m ∷ [])) ∷ []
+
+abbrev grouped : ℕ → Message
+grouped group = messageOf false (A 1) group 0 0 [] rightCommands
+
+other-floors : SameStation given (past (plain (A 1) [] rightCommands)) given (past (plain (B 1) [] rightCommands)) → ⊥
+unfolding accepts receive acceptsPurge receivePurge purgeFirst originPast takeIn passes layoutRight numbersRight dependenciesRight contentRight commandRight logOf needs startValues runDelta runCommand apply changeOf operate raise stop
+other-floors same = let one : A 1 ≡ B 1 = ap (λ (l : List ℕ). getD l 0 0) (same .floors) in omega arith
+
+other-base : SameStation given (past (a1-value 1)) given (past (a1-value 2)) → ⊥
 unfolding accepts receive acceptsPurge receivePurge purgeFirst originPast takeIn passes layoutRight numbersRight dependenciesRight contentRight commandRight logOf needs startValues runDelta runCommand apply changeOf operate raise stop
 other-base same = let one : word (pos 1) ≡ word (pos 2) = ap (λ (v : List ℤ). word (getD v 3 (pos 0))) (same .base) in omega arith
+
+other-block : SameStation given (past (urgent (A 1) 1 5 rightCommands)) given (past (urgent (A 1) 2 5 rightCommands)) → ⊥
+unfolding accepts receive acceptsPurge receivePurge purgeFirst originPast takeIn passes layoutRight numbersRight dependenciesRight contentRight commandRight logOf needs startValues runDelta runCommand apply changeOf operate raise stop
+other-block same = let one : stateAfter given (past (urgent (A 1) 1 5 rightCommands)) .origin .block ≡ 2 = same .block in omega arith
+
+other-group : SameStation given (past (grouped 1)) given (past (grouped 2)) → ⊥
+unfolding accepts receive acceptsPurge receivePurge purgeFirst originPast takeIn passes layoutRight numbersRight dependenciesRight contentRight commandRight logOf needs startValues runDelta runCommand apply changeOf operate raise stop
+other-group same = let one : stateAfter given (past (grouped 1)) .origin .group ≡ 2 = same .group in omega arith

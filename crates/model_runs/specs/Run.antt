@@ -74,8 +74,8 @@ stateAfter given (e ∷ earlier) = stateNext (stateAfter given earlier) (e .call
 abbrev pub logAfter : Given → List Event → List ℕ
 logAfter given events = sequencesOf (logOf (stateAfter given events))
 
--- the log that a call's steps are played from, by the call's code; a delivery's: the log as it was left, whatever its code. "A purge gives
--- no step; the log that the steps are played on loses the same K": where the purge was accepted
+-- The log that a call's steps are played from, by the call's code. A delivery's steps find the log as the calls before left it. "A purge gives
+-- no step; the log that the steps are played on loses the same K": where the purge was answered with 0.
 abbrev pub playedFrom : {A : Type 0} → Call → ℕ → List A → List A
 playedFrom (delivery m steps) code log = log
 playedFrom (purging K) code log = cond (eqb code 0) (drop K log) log
@@ -174,8 +174,8 @@ pub record CallAgrees (S next : State) (b : List ℕ) (c : Call) (a : Delivered)
   -- together": no rival is shorter.
   pub fewest : (rival : List Step) → Plays (sequencesOf (oldLog S c (a .code))) rival (sequencesOf (logOf next)) → a .undos + a .executions ≤ length rival
   -- "An execution lists the value after each command; an undo lists the value restored by each command, last command first": the records
-  -- of a call are those between its old log and its new one, both run from the start values after it (a delivery leaves these as they were;
-  -- a purge has none).
+  -- of a call are those between its old log and its new one, both run from the start values after it, which a delivery leaves as they
+  -- were. (Of a purge there are none.)
   pub records : recordsRead a ≡ some (recordsOf (startValues next) (oldLog S c (a .code)) (logOf next))
 
 -- What it says after a list of calls.
@@ -203,7 +203,7 @@ pub record Agreement (begins : Given → List ℕ → Type 0) (answers : List �
   pub equal : (given other : Given) (b c : List ℕ) → begins given b → begins other c → (events others : List Event)
       → Run answers b events → Run answers c others → SameStation given events other others → imageAfter b events ≡ imageAfter c others
 
--- ---- what document 01 says of lists of deliveries alone, in its own words: "equal accepted sets give byte-equal images"
+-- ---- lists of deliveries alone, which are document 01's: there equal accepted sets are enough, since "a set of deltas has one image"
 abbrev pub deliveries : List Event → Bool
 deliveries events = every (λ e. isDelivery (e .call)) events
 
