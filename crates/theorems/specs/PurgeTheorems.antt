@@ -50,7 +50,7 @@ purge-answer-law S v K = call-facts S v (purging K) (withoutSteps (purge (imageO
 pub purge-station-law : (S : State) → Valid S → (K : ℕ) → Valid (receivePurge S K)
 purge-station-law S v K = next-valid S v (purging K)
 
--- "equal accepted sets give byte-equal images", of lists of deliveries alone
+-- Of lists of deliveries alone, which are document 01's: equal accepted sets have one image.
 pub equal-accepted-law : EqualAccepted Begins Answers
 equal-accepted-law = equal-accepted Begins Answers agreement
 
