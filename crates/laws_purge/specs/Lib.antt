@@ -12,3 +12,5 @@ pub mod PurgeValid
 pub mod PurgeCodes
 pub mod PurgedRings
 pub mod PurgedPairs
+pub mod PurgedCompose
+pub mod PurgeTwice

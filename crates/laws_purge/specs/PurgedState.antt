@@ -123,6 +123,12 @@ module _ (S : State) (right : RightSet S) (K : ℕ) where
     length-drop K (logOf S),
   )
 
+-- a purge by the deltas that go
+pub purge-past : (K : ℕ) (S : State) (gone : List Message) → take K (logOf S) ≡ gone
+    → purgeFirst K S ≡ holding (originPast S gone) (without gone (S .deltas))
+unfolding purgeFirst
+purge-past K S gone e = ap (λ (l : List Message). holding (originPast S l) (without l (S .deltas))) e
+
 -- ---- where nothing goes the state stays
 without-none : (l : List Message) → without [] l ≡ l
 without-none [] = refl
@@ -137,9 +143,7 @@ past-none S =
     ap₂ (λ (b g : ℕ). record { floors = O .floors; base = O .base; block = b; group = g }) block group
 
 pub purge-nothing : (K : ℕ) (S : State) → take K (logOf S) ≡ [] → purgeFirst K S ≡ S
-unfolding purgeFirst
-purge-nothing K S e =
-    ap (λ (gone : List Message). holding (originPast S gone) (without gone (S .deltas))) e ∙ ap₂ holding (past-none S) (without-none (S .deltas))
+purge-nothing K S e = purge-past K S [] e ∙ ap₂ holding (past-none S) (without-none (S .deltas))
 
 pub purge-none : (S : State) → purgeFirst 0 S ≡ S
 purge-none S = purge-nothing 0 S refl
