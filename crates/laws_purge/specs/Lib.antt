@@ -1,5 +1,6 @@
-pub mod RaiseLaws
+pub mod MaxLaws
 pub mod RaiseRight
+pub mod RaiseLaws
 pub mod Behind
 pub mod Ascent
 pub mod AscentLaws

@@ -16,14 +16,12 @@ use Rattle.model.specs.Order.{State, RightSet, sequencesOf, effectiveBlock, log
 use Rattle.model.specs.Purge.{originPast, purgeFirst}
 use Rattle.model.specs.Compose.{numberOn, highestNumber, floorNumber, newNumber, lastSequence, highestGroup, highestBlock, groupAfter, newGroup, newBlock}
 use Rattle.laws_order.specs.TestLaws.{decide, greatest-cong}
+use Rattle.laws_purge.specs.MaxLaws.{max-assoc}
 use Rattle.laws_purge.specs.RaiseRight.{raise-cases}
 use Rattle.laws_purge.specs.PurgedBlocks.{effective-stays}
 use Rattle.laws_purge.specs.PurgeLaws.{purge-log}
 
 -- ---- the greatest of lists end to end
-pub max-assoc : (a b c : ℕ) → max (max a b) c ≡ max a (max b c)
-max-assoc a b c = omega arith
-
 pub greatest-append : {A : Type 0} (f : A → ℕ) (p q : List A) → greatest f (p ++ q) ≡ max (greatest f p) (greatest f q)
 greatest-append f [] q = omega arith
 greatest-append f (a ∷ p) q = ap (max (f a)) (greatest-append f p q) ∙ sym (max-assoc (f a) (greatest f p) (greatest f q))

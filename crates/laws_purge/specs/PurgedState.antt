@@ -4,8 +4,9 @@ use mathlib.Core.Path.{_≡_, refl, sym, _∙_, ap, ap₂, subst}
 use mathlib.Core.Logic.{⊎-elim}
 use mathlib.Core.Bool.{not}
 use mathlib.Core.List.{List, [], _∷_, _++_, append-assoc, List·Memᴰ·head, List·Memᴰ·tail, List·Memᴰ·not-nil, List·Memᴰ·cases-cons, List·Memᴰ·append-cases, Memᴰ·cast, Memᴰ·map, Memᴰ·of-map}
-use Prim.Native.Nat.{ℕ, _+_, _≤_, _<_, max}
+use Prim.Native.Nat.{ℕ, _+_, _≤_, _<_}
 use native.Mathlib.Omega.{arith}
+use native.Mathlib.Nat.{max-zero}
 use lib.ListN.{length, length-append, length-drop, take, drop, take-append-drop}
 use lib.Seq.{drop-at}
 use lib.Dec.{not-T}
@@ -138,9 +139,7 @@ past-none : (S : State) → originPast S [] ≡ S .origin
 unfolding originPast startValues
 past-none S =
     let O : Origin = S .origin in
-    let block : max (O .block) 0 ≡ O .block = omega arith in
-    let group : max (O .group) 0 ≡ O .group = omega arith in
-    ap₂ (λ (b g : ℕ). record { floors = O .floors; base = O .base; block = b; group = g }) block group
+    ap₂ (λ (b g : ℕ). record { floors = O .floors; base = O .base; block = b; group = g }) (max-zero (O .block)) (max-zero (O .group))
 
 pub purge-nothing : (K : ℕ) (S : State) → take K (logOf S) ≡ [] → purgeFirst K S ≡ S
 purge-nothing K S e = purge-past K S [] e ∙ ap₂ holding (past-none S) (without-none (S .deltas))
