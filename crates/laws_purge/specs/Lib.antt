@@ -1,5 +1,6 @@
-pub mod RaiseLaws
+pub mod MaxLaws
 pub mod RaiseRight
+pub mod RaiseLaws
 pub mod Behind
 pub mod Ascent
 pub mod AscentLaws
@@ -12,3 +13,5 @@ pub mod PurgeValid
 pub mod PurgeCodes
 pub mod PurgedRings
 pub mod PurgedPairs
+pub mod PurgedCompose
+pub mod PurgeTwice

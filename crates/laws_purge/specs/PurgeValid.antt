@@ -2,9 +2,9 @@
 use mathlib.Core.Path.{_≡_, refl, sym, _∙_, ap, subst}
 use mathlib.Core.Bool.{Bool, true, false, cond, _||_}
 use mathlib.Core.List.{List, [], _∷_, List·Memᴰ·head, List·Memᴰ·tail}
-use Prim.Native.Nat.{ℕ, zero, suc, _^_, _≤_, _<_, max}
+use Prim.Native.Nat.{ℕ, zero, suc, _^_, _≤_, _<_}
 use native.Mathlib.Omega.{arith}
-use native.Mathlib.Nat.{le-trans}
+use native.Mathlib.Nat.{le-trans, max-le}
 use lib.ListN.{length, take}
 use lib.Dec.{T, eqb, ltb, leb, leb→le, le→leb, lt→ltb}
 use Rattle.model.specs.Lists.{_∈_, every}
@@ -35,9 +35,6 @@ passes-block : (m : Message) → T (passes m) → blockOf m ≤ fieldLimit
 unfolding passes contentRight
 passes-block m t = leb→le (blockOf m) fieldLimit (search (and-l, and-r) depth 8)
 
-least-of : {x y z : ℕ} → x ≤ z → y ≤ z → max x y ≤ z
-least-of h k = omega arith
-
 -- and of the one that is found under a sequence, also where none is
 found-block : (l : List Message) → ((m : Message) → m ∈ l → blockOf m ≤ fieldLimit) → (s : ℕ) → blockOf (find l s) ≤ fieldLimit
 found-block [] h s = omega arith
@@ -51,7 +48,7 @@ module _ (S : State) (valid : Valid S) where
   along-limit : (n s : ℕ) → blockAlong S n s ≤ fieldLimit
   along-limit zero s = omega arith
   along-limit (suc n) s =
-      least-of (least-of (found-block (S .deltas) (λ m k. passes-block m (valid .pass m k)) s) (block-limit (S .origin) (valid .right)))
+      max-le (max-le (found-block (S .deltas) (λ m k. passes-block m (valid .pass m k)) s) (block-limit (S .origin) (valid .right)))
       (greatest-≤ (blockAlong S n) (needs S (find (S .deltas) s)) fieldLimit (λ t k. along-limit n t))
 
   -- an effective block is within the limit
@@ -88,9 +85,9 @@ module _ (S : State) (valid : Valid S) where
         let c : T (eqb (length (O .base)) tagCount) = eq→eqb base-sized in
         let d : T (every inRange (O .base)) = range-passes (O .base) (run-range gone (startValues S) pass (start-range S valid)) in
         let e : T (leb (O .block) fieldLimit) = le→leb (O .block) fieldLimit
-        (least-of (block-limit (S .origin) (valid .right)) (greatest-≤ (effectiveBlock S) gone fieldLimit (λ m k. effective-limit m))) in
+        (max-le (block-limit (S .origin) (valid .right)) (greatest-≤ (effectiveBlock S) gone fieldLimit (λ m k. effective-limit m))) in
         let f : T (leb (O .group) fieldLimit) = le→leb (O .group) fieldLimit
-        (least-of (group-limit (S .origin) (valid .right)) (greatest-≤ groupOf gone fieldLimit (λ m k. passes-group m (pass m k)))) in
+        (max-le (group-limit (S .origin) (valid .right)) (greatest-≤ groupOf gone fieldLimit (λ m k. passes-group m (pass m k)))) in
         let some : 0 < length floors = raise-some (sequencesOf gone) (S .origin .floors) (omega arith) in
         let g : T (ltb 0 (length floors) || allZero O) = or-l (ltb 0 (length floors)) (allZero O) (lt→ltb 0 (length floors) some) in
         search and-i depth 8
