@@ -64,7 +64,7 @@ module _ (S : State) (right : RightSet S) (K : ℕ) where
   )
 
   -- and so is what it needs still
-  pub rest-closed : (m : Message) → m ∈ drop K (logOf S) → (s : ℕ) → s ∈ needs (purgeFirst K S) m
+  rest-closed : (m : Message) → m ∈ drop K (logOf S) → (s : ℕ) → s ∈ needs (purgeFirst K S) m
       → (a : Message) × (a ∈ drop K (logOf S)) × (sequenceOf a ≡ s)
   rest-closed m k s j =
       let f = needs-fewer S right K m (rest-left m k) s j in

@@ -22,7 +22,7 @@ use Rattle.laws_state.specs.LogLaws.{log-complete}
 use Rattle.laws_state.specs.FloorLaws.{needs-above}
 use Rattle.laws_purge.specs.RaiseLaws.{below-self, raised-cover}
 
-pub listing-front : {A : Type 0} (name : A → ℕ) (needs : A → List ℕ) (p q : List A) (done : List ℕ)
+listing-front : {A : Type 0} (name : A → ℕ) (needs : A → List ℕ) (p q : List A) (done : List ℕ)
     → L.Listing name needs done (p ++ q) → L.Listing name needs done p
 listing-front name needs [] q done h = tt
 listing-front name needs (a ∷ p) q done h = (h .0, listing-front name needs p q (name a ∷ done) (h .1))
