@@ -1,13 +1,6 @@
-pub mod MaxLaws
-pub mod RaiseRight
-pub mod RaiseLaws
-pub mod Behind
-pub mod Ascent
-pub mod AscentLaws
 pub mod PurgedFloors
 pub mod PurgedBlocks
 pub mod PurgeLaws
-pub mod RunLaws
 pub mod PurgedState
 pub mod PurgeValid
 pub mod PurgeCodes

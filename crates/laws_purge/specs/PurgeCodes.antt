@@ -1,10 +1,9 @@
--- The code of a purge, and what the call answers; a purge of the image of a valid state is the plain station's answer, and the plain
--- station's state stays valid.
+-- A purge of the image of a valid state: its code and its answer are the plain station's, whose state stays valid.
 use mathlib.Core.Path.{_≡_, refl, _∙_, ap, ap₂}
 use mathlib.Core.Logic.{_↔_}
 use mathlib.Core.Bool.{Bool, true, false, cond, not, _&&_}
-use mathlib.Core.List.{List, [], _∷_}
-use Prim.Native.Nat.{ℕ, zero, suc, _≤_}
+use mathlib.Core.List.{[], _∷_}
+use Prim.Native.Nat.{ℕ, _≤_}
 use native.Mathlib.Nat.{suc-ne-zero}
 use lib.ListN.{length}
 use lib.Dec.{T, eqb, nltb→le}
@@ -12,29 +11,12 @@ use Rattle.model.specs.Layout.{imageSize, mostFloors}
 use Rattle.model.specs.Order.{State, logOf}
 use Rattle.model.specs.Purge.{purgeFirst}
 use Rattle.model.specs.Image.{imageOf, Valid, stateIn, isImage}
-use Rattle.model.specs.Codes.{lowestCode, exceedsLog, manyFloors, purgeConditions}
+use Rattle.model.specs.Codes.{lowestCode, exceedsLog, manyFloors}
 use Rattle.model.specs.Calls.{purgeAnswer, purgeCode, purge}
 use Rattle.model.specs.PlainStation.{acceptsPurge, receivePurge}
 use Rattle.laws_order.specs.TestLaws.{is-true, and-l, and-r}
 use Rattle.laws_state.specs.ImageLaws.{state-back, image-size, image-passes}
 use Rattle.laws_purge.specs.PurgeValid.{purge-valid}
-
--- ---- on any buffer
-pub purge-code : (b : List ℕ) (K : ℕ) → purge b K .code ≡ lowestCode (purgeConditions b K)
-unfolding purge purgeCode
-purge-code b K = go (lowestCode (purgeConditions b K))
-  where
-    go : (n : ℕ) → purgeAnswer n (stateIn b) b K .code ≡ n
-    go zero = refl
-    go (suc n) = refl
-
-pub purge-refused : (b : List ℕ) (K : ℕ) → ¬ (purge b K .code ≡ 0) → purge b K ≡ record { code = purgeCode b K; image = b }
-unfolding purge
-purge-refused b K h = go (purgeCode b K) h
-  where
-    go : (n : ℕ) → ¬ (purgeAnswer n (stateIn b) b K .code ≡ 0) → purgeAnswer n (stateIn b) b K ≡ record { code = n; image = b }
-    go zero h = absurd (h refl)
-    go (suc n) h = refl
 
 -- ---- the code that a state gives
 unfoldable pub statePurgeCode : State → ℕ → ℕ

@@ -15,11 +15,10 @@ use Rattle.model.specs.Setpoints.{startValues, runLog}
 use Rattle.model.specs.Purge.{originPast, without, purgeFirst}
 use Rattle.laws_order.specs.TestLaws.{greatest-cong}
 use Rattle.laws_order.specs.ListLaws.{∈-take}
-use Rattle.laws_purge.specs.MaxLaws.{max-assoc}
-use Rattle.laws_purge.specs.RunLaws.{run-append}
+use Rattle.laws_state.specs.PairLaws.{run-append}
+use Rattle.laws_order.specs.MaxLaws.{max-assoc, greatest-append}
 use Rattle.laws_purge.specs.PurgedBlocks.{effective-stays}
 use Rattle.laws_purge.specs.PurgedState.{purge-past}
-use Rattle.laws_purge.specs.PurgedCompose.{greatest-append}
 use Rattle.laws_purge.specs.PurgeLaws.{purge-log}
 
 raised-append : (l k tops : List ℕ) → raiseTops (l ++ k) tops ≡ raiseTops k (raiseTops l tops)

@@ -1,42 +1,24 @@
 -- What a purge leaves of a valid state's log keeps its effective blocks, and so its keys.
 use mathlib.Core.Path.{_≡_, refl, sym, _∙_, ap, subst}
 use mathlib.Core.Logic.{⊎-elim}
-use mathlib.Core.List.{List, [], _∷_, _++_, List·Memᴰ·head, List·Memᴰ·tail, List·Memᴰ·not-nil, List·Memᴰ·cases-cons, List·Memᴰ·append-cases, Memᴰ·cast, Memᴰ·map, Memᴰ·of-map, Memᴰ·append-right}
+use mathlib.Core.List.{List, [], _++_, List·Memᴰ·append-cases, Memᴰ·cast, Memᴰ·map, Memᴰ·of-map}
 use Prim.Native.Nat.{ℕ, zero, suc, _≤_, max, zero-le}
 use native.Mathlib.Omega.{arith}
 use native.Mathlib.Nat.{le-refl, le-trans, max-le, max-eq-right}
 use lib.ListN.{take, drop, take-append-drop}
-use lib.Dec.{T-not}
-use Rattle.model.specs.Lists.{_∈_, has, greatest}
+use Rattle.model.specs.Lists.{_∈_, greatest}
 use Rattle.model.specs.Message.{Message, sequenceOf, blockOf}
-use Rattle.model.specs.Listing as L
 use Rattle.model.specs.Order.{State, RightSet, find, sequencesOf, needs, Listing, ownBlock, blockAlong, effectiveBlock, statedPriority, keyWith, keyOf, logOf}
 use Rattle.model.specs.Purge.{originPast, purgeFirst}
 use Rattle.laws_order.specs.ListLaws.{greatest-≤, ∈-take, ∈-drop}
-use Rattle.laws_order.specs.TestLaws.{∈→has, greatest-≥}
-use Rattle.laws_order.specs.ListingLaws.{ready-fresh}
+use Rattle.laws_order.specs.TestLaws.{greatest-≥}
+use Rattle.laws_order.specs.Behind.{parts-apart}
 use Rattle.laws_state.specs.SetLaws.{find-here}
 use Rattle.laws_state.specs.LogLaws.{log-complete, log-received, log-closed}
-use Rattle.laws_purge.specs.MaxLaws.{le-left, le-right, max-less, raised-same}
-use Rattle.laws_purge.specs.Ascent.{Ascends, ascends-across}
-use Rattle.laws_purge.specs.AscentLaws.{logged-is, effective-ascends, along-least}
+use Rattle.laws_order.specs.MaxLaws.{le-left, le-right, max-less, raised-same}
+use Rattle.laws_order.specs.Ascent.{Ascends, ascends-across}
+use Rattle.laws_state.specs.AscentLaws.{logged-is, effective-ascends, along-least}
 use Rattle.laws_purge.specs.PurgedFloors.{left-is, left-ascends, needs-fewer, needs-others}
-
--- ---- no name stands in both parts of a listing
-listed-fresh : {A : Type 0} (name : A → ℕ) (needs : A → List ℕ) (l : List A) (done : List ℕ)
-    → L.Listing name needs done l → (b : A) → b ∈ l → name b ∈ done → ⊥
-listed-fresh name needs [] done h b k j = List·Memᴰ·not-nil k
-listed-fresh name needs (a ∷ l) done h b k j =
-    let rest : b ∈ l → ⊥ = λ i. listed-fresh name needs l (name a ∷ done) (h .1) b i (List·Memᴰ·tail j) in
-    ⊎-elim (λ e. T-not (has (name a) done) (ready-fresh name needs done a (h .0)) (∈→has (Memᴰ·cast (ap name (sym e)) j))) rest (List·Memᴰ·cases-cons k)
-
-parts-apart : {A : Type 0} (name : A → ℕ) (needs : A → List ℕ) (p q : List A) (done : List ℕ)
-    → L.Listing name needs done (p ++ q) → (a b : A) → a ∈ p → b ∈ q → name a ≡ name b → ⊥
-parts-apart name needs [] q done h a b i j e = List·Memᴰ·not-nil i
-parts-apart name needs (x ∷ p) q done h a b i j e =
-    let rest : a ∈ p → ⊥ = λ k. parts-apart name needs p q (name x ∷ done) (h .1) a b k j e in
-    let clash : a ≡ x → name b ∈ name x ∷ done = λ u. List·Memᴰ·head (sym e ∙ ap name u) in
-    ⊎-elim (λ u. listed-fresh name needs (p ++ q) (name x ∷ done) (h .1) b (Memᴰ·append-right p j) (clash u)) rest (List·Memᴰ·cases-cons i)
 
 module _ (S : State) (right : RightSet S) (K : ℕ) where
   abbrev gone : List Message

@@ -3,7 +3,7 @@
 use mathlib.Core.Path.{_≡_, refl, sym, _∙_, ap, ap₂, subst}
 use mathlib.Core.Logic.{⊎-elim}
 use mathlib.Core.Bool.{Bool, true, false, cond}
-use mathlib.Core.List.{List, [], _∷_, _++_, map}
+use mathlib.Core.List.{List, [], _∷_, _++_}
 use Prim.Native.Nat.{ℕ, suc, _≤_, _<_, max}
 use native.Mathlib.Omega.{arith}
 use lib.ListN.{length, length-drop, take, drop, take-append-drop}
@@ -16,19 +16,10 @@ use Rattle.model.specs.Order.{State, RightSet, sequencesOf, effectiveBlock, log
 use Rattle.model.specs.Purge.{originPast, purgeFirst}
 use Rattle.model.specs.Compose.{numberOn, highestNumber, floorNumber, newNumber, lastSequence, highestGroup, highestBlock, groupAfter, newGroup, newBlock}
 use Rattle.laws_order.specs.TestLaws.{decide, greatest-cong}
-use Rattle.laws_purge.specs.MaxLaws.{max-assoc}
-use Rattle.laws_purge.specs.RaiseRight.{raise-cases}
+use Rattle.laws_order.specs.MaxLaws.{max-assoc, greatest-append, greatest-map}
+use Rattle.laws_origin.specs.RaiseRight.{raise-cases}
 use Rattle.laws_purge.specs.PurgedBlocks.{effective-stays}
 use Rattle.laws_purge.specs.PurgeLaws.{purge-log}
-
--- ---- the greatest of lists end to end
-pub greatest-append : {A : Type 0} (f : A → ℕ) (p q : List A) → greatest f (p ++ q) ≡ max (greatest f p) (greatest f q)
-greatest-append f [] q = omega arith
-greatest-append f (a ∷ p) q = ap (max (f a)) (greatest-append f p q) ∙ sym (max-assoc (f a) (greatest f p) (greatest f q))
-
-greatest-map : {A : Type 0} (f : ℕ → ℕ) (g : A → ℕ) (l : List A) → greatest f (map g l) ≡ greatest (λ a. f (g a)) l
-greatest-map f g [] = refl
-greatest-map f g (a ∷ l) = ap (max (f (g a))) (greatest-map f g l)
 
 -- ---- the number of a line's top, raised
 number-up : (line s top : ℕ) → lineOf s ≡ lineOf top → numberOf s ≤ numberOf top → numberOn line s ≤ numberOn line top
@@ -98,7 +89,7 @@ module _ (S : State) (right : RightSet S) (K : ℕ) where
   unfolding purgeFirst originPast
   floor-number line =
       raised-number line (sequencesOf gone) (S .origin .floors)
-      ∙ ap (max (floorNumber S line)) (greatest-map (numberOn line) sequenceOf gone)
+      ∙ ap (max (floorNumber S line)) (sym (greatest-map (numberOn line) sequenceOf gone))
 
   pub number-stays : (line : ℕ) → newNumber (purgeFirst K S) line ≡ newNumber S line
   number-stays line =

@@ -11,14 +11,9 @@ use Rattle.model.specs.Order.{State, RightSet, logOf}
 use Rattle.model.specs.Setpoints.{startValues, runDelta, runLog}
 use Rattle.model.specs.Purge.{purgeFirst}
 use Rattle.model.specs.Steps.{Standing}
-use Rattle.laws_state.specs.PairLaws.{standingBy, standingIn}
+use Rattle.laws_state.specs.PairLaws.{standingBy, standing-append, standingIn}
 use Rattle.laws_purge.specs.PurgedState.{purge-start}
 use Rattle.laws_purge.specs.PurgeLaws.{purge-log}
-
-standing-append : (earlier : List Standing) (l k : List Message) (values : List ℤ)
-    → standingBy earlier (l ++ k) values ≡ standingBy (standingBy earlier l values) k (runLog l values)
-standing-append earlier [] k values = refl
-standing-append earlier (m ∷ l) k values = standing-append _ l k (runDelta m values)
 
 -- the executions of a log stand before the earlier ones
 standing-before : (earlier : List Standing) (l : List Message) (values : List ℤ) → standingBy earlier l values ≡ standingBy [] l values ++ earlier

@@ -23,8 +23,8 @@ use Rattle.laws_order.specs.ListLaws.{∈-take, ∈-drop}
 use Rattle.laws_order.specs.ListingLaws.{listing-length}
 use Rattle.laws_wire.specs.BytesLaws.{join-append}
 use Rattle.laws_state.specs.SetLaws.{ascending-names, ascending-unique}
+use Rattle.laws_state.specs.PairLaws.{run-append}
 use Rattle.laws_state.specs.LogLaws.{log-received, held-is, held-ascends, log-held, places}
-use Rattle.laws_purge.specs.RunLaws.{run-append}
 use Rattle.laws_purge.specs.PurgedFloors.{left-is, left-ascends}
 use Rattle.laws_purge.specs.PurgeLaws.{purge-log}
 

@@ -36,9 +36,8 @@ use Rattle.laws_state.specs.OffsetLaws.{offset-join, walk-offset, message-at-of
 use Rattle.laws_state.specs.ImageValueLaws.{values-back}
 use Rattle.laws_state.specs.RecordRange.{records-back}
 use Rattle.laws_state.specs.PairLaws.{standingIn, state-pairs-play, pairs-unique}
-use Rattle.laws_state.specs.CodeLaws.{Above, Lowest, lowest-is, empty-code, deliver-code, compose-code, setpoint-code, deliver-refused, empty-refused, compose-refused, log-message-refused, setpoint-refused}
+use Rattle.laws_state.specs.CodeLaws.{Above, Lowest, lowest-is, empty-code, deliver-code, purge-code, compose-code, setpoint-code, deliver-refused, purge-refused, empty-refused, compose-refused, log-message-refused, setpoint-refused}
 use Rattle.laws_state.specs.DeliverLaws.{code-zero, receive-accepted, take-in-purged, receive-valid, purged-accepted, purged-delivery}
-use Rattle.laws_purge.specs.PurgeCodes.{purge-code, purge-refused}
 use Rattle.laws_run.specs.CallRuns.{CallFacts, call-facts}
 use Rattle.laws_run.specs.RunLaws.{agreement}
 use Rattle.laws_run.specs.OrderRuns.{image-in-order, order-kept}

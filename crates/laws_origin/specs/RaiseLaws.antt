@@ -9,8 +9,8 @@ use Rattle.model.specs.Lists.{_∈_}
 use Rattle.model.specs.Message.{lineOf, numberOf}
 use Rattle.model.specs.Tops.{atOrBelow, covered, raiseTop, raiseTops}
 use Rattle.laws_order.specs.TestLaws.{or-l, or-r, or-e, decide}
 use Rattle.laws_origin.specs.TopLaws.{below-out, below-in}
-use Rattle.laws_purge.specs.RaiseRight.{raise-cases}
+use Rattle.laws_origin.specs.RaiseRight.{raise-cases}
 
 pub below-self : (s : ℕ) → T (atOrBelow s s)
 below-self s = below-in s s refl (omega arith)

@@ -10,11 +10,11 @@ use Rattle.model.specs.Order.{State, RightSet, find, needs, ownBlock, blockAlon
 use Rattle.laws_order.specs.ListLaws.{greatest-≤}
 use Rattle.laws_order.specs.TestLaws.{nor-l, greatest-≥}
 use Rattle.laws_order.specs.KeyOrder.{less-total}
 use Rattle.laws_state.specs.SetLaws.{find-here}
 use Rattle.laws_state.specs.LogLaws.{log-received, log-executable, log-closed}
 use Rattle.laws_state.specs.EffectiveLaws.{effective-is}
-use Rattle.laws_purge.specs.MaxLaws.{le-right, max-less}
-use Rattle.laws_purge.specs.Ascent.{Ascends, first-ascends}
+use Rattle.laws_order.specs.MaxLaws.{le-right, max-less}
+use Rattle.laws_order.specs.Ascent.{Ascends, first-ascends}
 
 module _ (S : State) (right : RightSet S) where
   -- the effective block of the delta of a sequence
