@@ -166,7 +166,7 @@ pub fn trace(one: &dyn Calls, two: &dyn Calls, calls: &[Call]) -> String {
 /// A packed answer taken apart.
 fn answer(call: &Call, packed: u64) -> String {
     let parts = match call.action {
-        Action::Empty | Action::Begin(_) => String::new(),
+        Action::Empty | Action::Begin(_) | Action::Purge(_) => String::new(),
         Action::Compose(_) | Action::ReadSequences { .. } | Action::WriteSequences { .. } => {
             format!(" length {}", length(packed))
         }

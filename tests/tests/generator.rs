@@ -42,6 +42,7 @@ fn name(action: &Action) -> &'static str {
         Action::Compose(_) => "compose",
         Action::Setpoint(_) => "setpoint",
         Action::LogMessage(_) => "log message",
+        Action::Purge(_) => "purge",
         Action::ReadSequences { .. } => "read sequences",
         Action::WriteSequences { .. } => "write sequences",
     }
