@@ -82,6 +82,11 @@ fn what_a_call_reads_is_in_its_outcome() {
     let (image, found) = perform(Action::LogMessage(0));
     assert_eq!((offset(found.answer), length(found.answer)), (544, 48));
     assert!(found.image == image);
+    let (image, refused) = perform(Action::Purge(2));
+    assert_eq!(refused.answer, 15);
+    assert!(refused.image == image);
+    let (_, purged) = perform(Action::Purge(1));
+    assert_eq!((purged.answer, &purged.image[..2]), (0, &[0, 0][..]));
     texts_are_in_their_outcome(&mut perform);
 }
 
@@ -234,6 +239,18 @@ fn the_program_takes_each_eighth_seed() {
         printed.contains("cases from seed 204 in steps of 8, "),
         "{printed}"
     );
+}
+
+/// Each eighth seed from 202 on has purges, and the program counts them.
+#[test]
+fn the_program_runs_lists_with_purges_alone() {
+    let output = long_run(&["--deliveries", "200", "--start", "202", "--every", "8"]);
+    let printed = String::from_utf8_lossy(&output.stdout);
+    let (before, _) = printed.split_once(" purges, ").expect("purges are counted");
+    let count: Option<u64> = before.rsplit(' ').next().and_then(|word| word.parse().ok());
+    assert!(count > Some(30), "{printed}");
+    assert!((0..200).all(|seed| !is_with_purges(seed)));
+    assert!((0..100).all(|place| is_with_purges(202 + 8 * place)));
 }
 
 #[test]
