@@ -31,7 +31,7 @@ pub fn case(seed: u64) -> Vec<Call> {
     let style = Style::new(&mut random);
     let (begin, arrivals) = beginning(&mut random, &style);
     let mut list = List::new(begin);
-    let (often, noise) = (random.pick(&[3, 10, 30]), random.pick(&[0, 5, 15]));
+    let (often, noise) = (random.pick(&[0, 3, 10, 30]), random.pick(&[0, 5, 15]));
     for draft in &arrivals {
         list.push(call(deliver(draft.bytes())));
         if random.chance(often) {
@@ -50,9 +50,9 @@ pub fn case(seed: u64) -> Vec<Call> {
 }
 
 /// How a list begins, and what arrives: from no deltas, from an image with floors, with as many
-/// lines as leave about 32 floors, or near the last number.
+/// lines as leave about 32 floors, a full log, or near the last number.
 fn beginning(random: &mut Random, style: &Style) -> (Call, Vec<Draft>) {
-    let (image, mut arrivals) = match random.below(10) {
+    let (image, mut arrivals) = match random.below(11) {
         0..=4 => {
             let count = random.pick(&[1, 3, 6, 12, 24, 64, 70]);
             let arrivals = styled_drafts(random, style, count);
@@ -64,6 +64,7 @@ fn beginning(random: &mut Random, style: &Style) -> (Call, Vec<Draft>) {
             (Some(image), start.drafts)
         }
         7 | 8 => many_lines(random),
+        9 => (None, full_log(random)),
         _ => last_numbers(random),
     };
     arrange(random, &mut arrivals);
@@ -90,6 +91,16 @@ fn many_lines(random: &mut Random) -> (Option<Vec<u8>>, Vec<Draft>) {
     ((count > 0).then(|| image_with(&[], &purged)), arrivals)
 }
 
+/// 64 deltas of a few lines that can all be executed, and some more.
+fn full_log(random: &mut Random) -> Vec<Draft> {
+    let lines = random.pick(&[1, 2, 5, 32]);
+    let line = |place: usize| [0, 0, 0, 0, 4, (place % lines) as u8, 0, 0, 0, 1];
+    let number = |place: usize| (place / lines) as u16;
+    let count = random.within(64, 70);
+    let drafts = (0..count).flat_map(|place| above(random, line(place), number(place), 1));
+    drafts.collect()
+}
+
 /// Two lines up to number FFFF, one of them from a floor just below it, and a third.
 fn last_numbers(random: &mut Random) -> (Option<Vec<u8>>, Vec<Draft>) {
     let lines: [Line; 3] = [1, 2, 3].map(|l| [0, 0, 0, 0, 3, l, 0, 0, 0, 1]);
@@ -113,9 +124,13 @@ fn above(random: &mut Random, line: Line, floor: u16, most: u16) -> Vec<Draft> {
     let numbers = floor.saturating_add(1)..=last;
     let drafts = numbers.filter(|number| *number > floor).map(|number| {
         let draft = Draft::new(line, number).commands(&[any_command(random)]);
+        let field = match random.chance(2) {
+            true => LIMIT,
+            false => random.within(1, 3) as u32,
+        };
         match random.chance(20) {
-            true => draft.priority(random.pick(&[1, 2, LIMIT]), random.pick(&[0, 7])),
-            false => draft.group(random.pick(&[0, 1, 2, LIMIT])),
+            true => draft.priority(field, random.pick(&[0, 7])),
+            false => draft.group(field),
         }
     });
     drafts.collect()
