@@ -25,8 +25,7 @@ use Rattle.purge_floors.proofs.raise_floors.Tie as tie
 
 abbrev Inv-loop : tie.InvT-loop
 Inv-loop tops₀ pool starts places count₀ k₀ tops count k =
-    (k ≤ length places)
-    × (raiseTops (goneFrom pool starts places k) (topsIn tops count) ≡ raiseTops (goneFrom pool starts places 0) (originIn pool .floors))
+    (raiseTops (goneFrom pool starts places k) (topsIn tops count) ≡ raiseTops (goneFrom pool starts places 0) (originIn pool .floors))
     × (count ≤ mostFloors + k)
     × (length tops ≡ length tops₀)
 
@@ -69,7 +68,6 @@ loop-holds c =
     let copied = c .before .before in
     let d = copied .before .before .before in
     let a = begun d .args in (
-      omega arith,
       ap (raiseTops (goneFrom (a .pool .now) (a .starts .now) (a .places .now) 0))
           (ap (λ (l : List ℕ). topsIn l (d .count-floors .result)) (copied .copy-at .ensures)
           ∙ tops-copied (a .pool .now) (right (begun d)) (a .tops .now) (d .count-floors .result) (d .count-floors .ensures .0)),
@@ -79,7 +77,7 @@ loop-holds c =
 
 -- the tops' bytes are as many as at first
 same-length : (h : tie.At-loop Inv-loop μ-loop) → length (h .loop .tops) ≡ length (start h .args .tops .now)
-same-length h = h .loop .inv .3 ∙ h .before .before .tops .given
+same-length h = h .loop .inv .2 ∙ h .before .before .tops .given
 
 -- the place that was read is one of the table's
 place : (c : tie.After-shared-slice-known4 Inv-loop μ-loop)
@@ -98,7 +96,7 @@ raise-top-requires c κs =
     let s = start h in
     let a = s .args in
     let i : ℕ = getD (a .places .now) (h .loop .k) 0 in (
-      omega (arith, h .loop .inv .2, s .pre .1),
+      omega (arith, h .loop .inv .1, s .pre .1),
       omega (arith, same-length h, s .pre .2),
       omega (
         arith,
@@ -118,15 +116,14 @@ loop-again c =
     let tops : List ℕ = topsIn (l .tops) (l .count) in
     let e : topsIn (raised .raise-top .last .0) (raised .raise-top .result) ≡ raiseTop (sequenceIn (a .pool .now) (a .starts .now) i) tops =
     raised .raise-top .ensures ∙ ap (λ (n : ℕ). raiseTop n tops) (read .sequence-at .ensures) in (
-      omega arith,
-      raised-next (a .pool .now) (a .starts .now) (a .places .now) (l .k) tops (omega arith) e ∙ l .inv .1,
+      raised-next (a .pool .now) (a .starts .now) (a .places .now) (l .k) tops (omega arith) e ∙ l .inv .0,
       omega (
         arith,
         raised-count (raised .raise-top .last .0) (raised .raise-top .result) (sequenceIn (a .pool .now) (a .starts .now) i) tops e,
         tops-length (l .tops) (l .count),
-        l .inv .2,
+        l .inv .1,
       ),
-      c .before .tops2 .given ∙ l .inv .3,
+      c .before .tops2 .given ∙ l .inv .2,
     )
 
 returns : tie.Need-returns Inv-loop μ-loop
@@ -134,7 +131,7 @@ returns c =
     let h = c .before in
     let l = h .loop in
     let a = start h .args in
-    raised-last (a .pool .now) (a .starts .now) (a .places .now) (l .k) (topsIn (l .tops) (l .count)) (omega arith) ∙ l .inv .1
+    raised-last (a .pool .now) (a .starts .now) (a .places .now) (l .k) (topsIn (l .tops) (l .count)) (omega arith) ∙ l .inv .0
 
 pub raise-floors-spec : {M : Type 1} → statement M
 raise-floors-spec =
@@ -143,8 +140,8 @@ raise-floors-spec =
     Inv-loop
     μ-loop
     (λ c κs. omega (arith, header (c .before .before .before .before)))
-    (λ c. header (begun (c .before)))
-    (λ c. header (begun (c .before)))
+    (λ c. omega (arith, header (begun (c .before))))
+    (λ c. omega (arith, header (begun (c .before))))
     (λ c. search needs)
     (λ c. omega (arith, few (c .before .before)))
     copy-at-requires
