@@ -3,23 +3,18 @@ use mathlib.Core.Path.{_≡_, refl, _∙_, ap}
 use mathlib.Core.List.{List, []}
 use Prim.Native.Nat.{ℕ, _+_, _-_, _≤_, _<_}
 use native.Mathlib.Omega.{arith}
-use lib.ListN.{length, getD, drop, length-drop}
-use lib.Seq.{length-take-le}
-use lib.Dec.{T}
-use borrow.Author.Needs.{needs}
-use Rattle.model.specs.Layout.{floorsStart, mostFloors}
+use lib.ListN.{length, getD}
+use Rattle.model.specs.Layout.{mostFloors}
 use Rattle.model.specs.Tops.{raiseTop, raiseTops}
-use Rattle.model.specs.Order.{originRight}
 use Rattle.model.specs.Image.{originIn}
 use Rattle.laws_wire.specs.MessageLaws.{sequence-range}
-use Rattle.laws_origin.specs.OriginLaws.{header-room}
 use Rattle.set_table.specs.Table.{deltasOf}
 use Rattle.set_table.specs.Places.{sequenceIn}
 use Rattle.set_table.specs.PlaceLaws.{entry-passes}
 use Rattle.image_sections.specs.LogPlaceLaws.{place-inside}
 use Rattle.purge_floors.specs.TopsIn.{topsIn}
 use Rattle.purge_floors.specs.TopsLaws.{tops-length}
-use Rattle.purge_floors.specs.FloorsLaws.{floors-few, floors-room, tops-copied, goneFrom, raised-next, raised-last, raised-count}
+use Rattle.purge_floors.specs.FloorsLaws.{goneFrom, raised-next, raised-last, raised-count}
 use Rattle.purge_floors.proofs.raise_floors.Statement.{statement}
 use Rattle.purge_floors.proofs.raise_floors.Tie as tie
 
@@ -32,46 +27,25 @@ Inv-loop tops₀ pool starts places count₀ k₀ tops count k =
 abbrev μ-loop : tie.MeasureT-loop
 μ-loop tops₀ pool starts places count₀ k₀ tops count k = length places - k
 
--- the call as it began from where the floors were counted, and from the loop; and the loop from where a place was read
-abbrev begun : tie.After-count-floors Inv-loop μ-loop → tie.Start Inv-loop μ-loop
-begun c = c .before .before .before .before .before
-
-abbrev counted : tie.At-loop Inv-loop μ-loop → tie.After-count-floors Inv-loop μ-loop
-counted h = h .before .before .before .before .before .before
+-- the call as it began, from where the floors were copied and from the loop; and the loop from where a place was read
+abbrev begun : tie.After-copy-floors Inv-loop μ-loop → tie.Start Inv-loop μ-loop
+begun c = c .before .before .before .before .before .before
 
 abbrev start : tie.At-loop Inv-loop μ-loop → tie.Start Inv-loop μ-loop
-start h = begun (counted h)
+start h = begun (h .before .before .before)
 
 abbrev turn : tie.After-shared-slice-known4 Inv-loop μ-loop → tie.At-loop Inv-loop μ-loop
 turn c = c .before .before
 
-right : (s : tie.Start Inv-loop μ-loop) → T (originRight (originIn (s .args .pool .now)))
-right s = s .pre .0 .holds .right
-
-header : (s : tie.Start Inv-loop μ-loop) → floorsStart ≤ length (s .args .pool .now)
-header s = header-room (s .args .pool .now) (right s)
-
-few : (c : tie.After-count-floors Inv-loop μ-loop) → c .count-floors .result ≤ mostFloors
-few c = omega (arith, c .count-floors .ensures .0, floors-few (begun c .args .pool .now) (right (begun c)))
-
-copy-at-requires : tie.Need-copy-at-requires Inv-loop μ-loop
-copy-at-requires c κs =
-    let d = c .before .before in
-    let pool : List ℕ = begun d .args .pool .now in
-    let left : ℕ = length pool - floorsStart in (
-      omega (arith, d .count-floors .ensures .0, floors-room pool (right (begun d)), length-take-le left (drop floorsStart pool) (omega (arith, length-drop floorsStart pool))),
-      omega (arith, few d, begun d .pre .2),
-    )
+copy-floors-requires : tie.Need-copy-floors-requires Inv-loop μ-loop
+copy-floors-requires c κs = let s = c .before .before .before .before .before in (s .pre .0 .holds .right, s .pre .2)
 
 loop-holds : tie.Need-loop-holds Inv-loop μ-loop
 loop-holds c =
     let copied = c .before .before in
-    let d = copied .before .before .before in
-    let a = begun d .args in (
-      ap (raiseTops (goneFrom (a .pool .now) (a .starts .now) (a .places .now) 0))
-          (ap (λ (l : List ℕ). topsIn l (d .count-floors .result)) (copied .copy-at .ensures)
-          ∙ tops-copied (a .pool .now) (right (begun d)) (a .tops .now) (d .count-floors .result) (d .count-floors .ensures .0)),
-      omega (arith, few d),
+    let a = begun copied .args in (
+      ap (raiseTops (goneFrom (a .pool .now) (a .starts .now) (a .places .now) 0)) (copied .copy-floors .ensures .0),
+      omega (arith, copied .copy-floors .ensures .1),
       refl,
     )
 
@@ -139,12 +113,7 @@ raise-floors-spec =
     (tie.spec
     Inv-loop
     μ-loop
-    (λ c κs. omega (arith, header (c .before .before .before .before)))
-    (λ c. omega (arith, header (begun (c .before))))
-    (λ c. omega (arith, header (begun (c .before))))
-    (λ c. search needs)
-    (λ c. omega (arith, few (c .before .before)))
-    copy-at-requires
+    copy-floors-requires
     loop-holds
     (λ c. omega arith)
     cast-sequence-at
