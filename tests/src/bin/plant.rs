@@ -71,13 +71,17 @@ fn range(words: &str) -> Option<Range<u64>> {
 }
 
 /// Who answers.
-fn subject() -> String {
+fn subject(duty: Duty) -> String {
     let of = |function| match COMPARED.contains(&function) {
         true => "the library",
         false => "the second implementation",
     };
     let (deliver, compose) = (of("bivamolune_deliver"), of("bivamolune_compose"));
-    format!("deliver is answered by {deliver}, compose by {compose}")
+    let purge = match duty.hazard().purges() {
+        true => format!(", purge by {}", of("bivamolune_purge")),
+        false => String::new(),
+    };
+    format!("deliver is answered by {deliver}, compose by {compose}{purge}")
 }
 
 /// A run that went as it must: with the duty kept in all, else after each event.
@@ -94,7 +98,7 @@ fn checked(duty: Duty, seed: u64) -> Result<Run, String> {
 
 fn many(duty: Duty, seeds: Range<u64>) -> Result<(), String> {
     let (mut runs, mut deliveries, mut undos, mut executions) = (0, 0, 0, 0);
-    let (mut purges, mut long) = (0, 0);
+    let (mut purges, mut long, mut most) = (0, 0, 0);
     for seed in seeds.clone() {
         let run = checked(duty, seed)?;
         runs += 1;
@@ -103,8 +107,9 @@ fn many(duty: Duty, seeds: Range<u64>) -> Result<(), String> {
         executions += run.count(|what| matches!(what, What::Executed(..)));
         purges += run.count(|what| matches!(what, What::Purged(..)));
         long += usize::from(run.deltas() > 64);
+        most = run.deltas().max(most);
     }
-    println!("{}", subject());
+    println!("{}", subject(duty));
     println!(
         "seeds {}..{}: {runs} runs, {deliveries} deliveries, {undos} undos, {executions} \
          executions; all {} equal, nothing lost",
@@ -113,7 +118,7 @@ fn many(duty: Duty, seeds: Range<u64>) -> Result<(), String> {
         compared(duty)
     );
     if duty.hazard().purges() {
-        println!("{purges} purges; {long} runs had more than 64 deltas");
+        println!("{purges} purges; {long} runs had more than 64 deltas, {most} at most");
     }
     Ok(())
 }
@@ -153,7 +158,7 @@ fn neglected(duty: Duty, seeds: Range<u64>) -> Result<(), String> {
             strange.push(format!("seed {seed}: nobody sent what ran as {own}"));
         }
     }
-    println!("{}", subject());
+    println!("{}", subject(duty));
     println!(
         "seeds {}..{}: {runs} runs, {} ended with different {}, {} executed a delta that \
          nobody sent; {reused} sequences were used again",
