@@ -91,7 +91,8 @@ pub fn shrink(one: &dyn Calls, two: &dyn Calls, calls: &[Call]) -> Vec<Call> {
 }
 
 /// Drops calls while the lists still differ: first all past the difference, then
-/// runs of calls, each half as long as the last, down to single ones.
+/// runs of calls, each half as long as the last, down to single ones. Where none can be
+/// dropped, purges are made smaller.
 fn drop_calls(one: &dyn Calls, two: &dyn Calls, mut kept: Vec<Call>) -> Vec<Call> {
     let mut run = kept.len();
     while run > 0 {
@@ -100,11 +101,43 @@ fn drop_calls(one: &dyn Calls, two: &dyn Calls, mut kept: Vec<Call>) -> Vec<Call
             None => return kept,
         }
         let dropped = drop_runs(one, two, &mut kept, run);
-        if !dropped || run > 1 {
+        let at_last = run == 1 && !dropped;
+        if run > 1 || (at_last && !lower_purges(one, two, &mut kept)) {
             run /= 2;
         }
     }
     kept
+}
+
+/// Makes each purge as small as the lists still differ; whether one became smaller.
+fn lower_purges(one: &dyn Calls, two: &dyn Calls, kept: &mut Vec<Call>) -> bool {
+    let before = kept.clone();
+    let mut place = 0;
+    while place < kept.len() {
+        if !lower_purge(one, two, kept, place) {
+            place += 1;
+        }
+    }
+    *kept != before
+}
+
+/// Makes a purge of K one of half of it or of one less, if the lists differ then.
+fn lower_purge(one: &dyn Calls, two: &dyn Calls, kept: &mut Vec<Call>, place: usize) -> bool {
+    let k = match kept[place].action {
+        Action::Purge(k) => k,
+        _ => return false,
+    };
+    for lower in [k / 2, k.saturating_sub(1)] {
+        let mut other = kept.clone();
+        other[place].action = Action::Purge(lower);
+        let found = (lower < k).then(|| compare(one, two, &other)).flatten();
+        if let Some(found) = found {
+            other.truncate(found.place + 1);
+            *kept = other;
+            return true;
+        }
+    }
+    false
 }
 
 /// Drops each run of calls without which there is a difference still. The station before

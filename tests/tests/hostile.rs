@@ -59,7 +59,23 @@ fn any_bytes_are_answered() {
         assert!(Reader::new(&image).next_message().is_empty());
         assert!(image == old);
         assert!(listing(&message).ends_with("held 0\n"));
+        purge_any(&mut random, &image, code);
     }
+}
+
+/// A purge of any bytes, which have no log in any case: 1 or 2 as the other calls have it, or 15
+/// where something is to be purged. Nothing is written.
+fn purge_any(random: &mut Random, image: &[u8], code: u32) {
+    let any = random.bits() as u32;
+    let k = random.pick(&[0, 1, any]);
+    let mut copy = image.to_vec();
+    let expected = match code {
+        1 | 2 => code,
+        _ if k > 0 => 15,
+        _ => 0,
+    };
+    assert_eq!(SUBJECT.purge(&mut copy, k), expected);
+    assert!(copy == image);
 }
 
 /// A compose of any bytes: a refusal writes nothing.
@@ -124,10 +140,11 @@ fn nearly_right_deliveries_are_refused_by_their_number() {
 }
 
 /// What each call that reads an image answers on one.
-fn codes(station: &Station, message: &[u8]) -> [u32; 4] {
+fn codes(station: &Station, message: &[u8]) -> [u32; 5] {
     [
         station.clone().code(message),
         station.compose_code([0x55; 10]),
+        station.clone().purge(1),
         setpoint(&station.image, 0).0,
         log_message_code(&station.image, 0),
     ]
@@ -147,7 +164,7 @@ fn an_image_with_one_wrong_message_is_refused_by_2() {
             edit.apply(&mut wrong.image);
             assert_eq!(
                 codes(&wrong, &all[0].bytes()),
-                [2; 4],
+                [2; 5],
                 "seed {seed} {edit:?}"
             );
             if let Edit::Instead(place, message) = edit {
