@@ -1,0 +1,3 @@
+pub mod PurgeAnswer
+pub mod Purging
+pub mod PurgeCases
