@@ -5,12 +5,12 @@ use Rattle.model.specs.Calls.{Purged}
 use Rattle.purge.specs.declared.Purging.{Purging}
 use Rattle.purge.specs.declared.Purging.the-variants as purging
 
-abbrev pub codeBy : Purging → ℕ
-codeBy purging.Accepted = 0
-codeBy purging.WrongSize = 1
-codeBy purging.NoImage = 2
-codeBy purging.PastLog = 15
-codeBy purging.ManyFloors = 16
+abbrev pub purgedCode : Purging → ℕ
+purgedCode purging.Accepted = 0
+purgedCode purging.WrongSize = 1
+purgedCode purging.NoImage = 2
+purgedCode purging.PastLog = 15
+purgedCode purging.ManyFloors = 16
 
 abbrev pub purgedBy : Purging → List ℕ → Purged
-purgedBy r image = record { code = codeBy r; image = image }
+purgedBy r image = record { code = purgedCode r; image = image }
