@@ -1,0 +1,11 @@
+pub mod RaiseLaws
+pub mod RaiseRight
+pub mod Behind
+pub mod Ascent
+pub mod AscentLaws
+pub mod PurgedFloors
+pub mod PurgedBlocks
+pub mod PurgeLaws
+pub mod RunLaws
+pub mod PurgedState
+pub mod PurgeValid
