@@ -4,7 +4,7 @@ use mathlib.Core.Path.{_≡_, refl, sym, _∙_, ap, ap₂, subst}
 use mathlib.Core.List.{List, [], _++_, map}
 use Prim.Native.Nat.{ℕ, _+_, _*_, _-_, _≤_}
 use native.Mathlib.Omega.{arith}
-use lib.ListN.{length, take, drop, replicate, length-map, length-drop, length-append, take-append-drop}
+use lib.ListN.{length, take, drop, replicate, length-map, length-drop, length-append}
 use lib.Seq.{take-at, take-all, drop-drop, drop-append-le, length-take-le}
 use lib.Dec.{T}
 use lib.IntN.{ℤ}
@@ -12,12 +12,14 @@ use Rattle.model.specs.Bytes.{isBytes, number, bytes, parts, join}
 use Rattle.model.specs.Layout.{sequenceSize, valuesSize, imageSize, setpointsStart, baseStart, floorsStart}
 use Rattle.model.specs.Message.{Message}
 use Rattle.model.specs.Order.{Origin, State, logOf, heldOf}
-use Rattle.model.specs.Setpoints.{setpointsOf}
 use Rattle.model.specs.Purge.{originPast, purgeFirst}
 use Rattle.model.specs.Image.{messagesStart, messagesOf, valuesBytes, valuesOf, headerOf, usedOf, imageOf, Valid, logCount, heldCount, usedCount, messagesStartIn, messagesIn, heldIn, stateIn}
 use Rattle.laws_order.specs.ListLaws.{map-map}
-use Rattle.laws_wire.specs.BytesLaws.{bytes-number, join-append, length-parts, parts-written}
+use Rattle.laws_wire.specs.BytesLaws.{bytes-number, length-parts, parts-written}
 use Rattle.laws_state.specs.ImageLaws.{length-header, length-values, values-at, messages-at, messages-room, used-length, used-fits, used-back, image-size, image-own, own-valid, own-log, held-back}
+use Rattle.laws_purge.specs.PurgeLaws.{purge-log}
+use Rattle.laws_purge.specs.PurgedState.{purge-held, purge-setpoints, messages-parted, purge-messages}
+use Rattle.laws_purge.specs.PurgeValid.{purge-valid}
 use Rattle.laws_state.specs.OffsetLaws.{log-count, count-messages}
 use Rattle.image_header.specs.Pieces.{pasted, Copied, headerBytes}
 use Rattle.image_header.specs.PieceLaws.{length-pasted}
@@ -75,15 +77,7 @@ module _ (b pool tops : List ℕ) (floors k : ℕ) (rest : Rest) (w : Writable b
   dropped = length (join gone)
 
   few-bytes : dropped ≤ length (messagesOf S)
-  unfolding messagesOf
-  few-bytes =
-      omega (
-        arith,
-        length-append (join (logOf S)) (join (heldOf S)),
-        length-append (join gone) (join (drop k (logOf S))),
-        ap length (join-append gone (drop k (logOf S))),
-        ap (λ (l : List Message). length (join l)) (take-append-drop k (logOf S)),
-      )
+  few-bytes = omega (arith, ap length (messages-parted S valid k), length-append (join gone) (join (drop k (logOf S)) ++ join (heldOf S)))
 
   pub from-used : rest .from ≤ usedCount pool
   from-used = omega (arith, w .left .from, used, few-bytes)
@@ -98,7 +92,7 @@ module _ (b pool tops : List ℕ) (floors k : ℕ) (rest : Rest) (w : Writable b
   kept : take (usedCount pool - rest .from) (drop (rest .from) pool) ≡ drop dropped (messagesOf S)
   kept =
       let M : List ℕ = messagesOf S in
-      ap₂ (λ (n : ℕ) (x : List ℕ). take n x) {u = usedCount pool - rest .from} {v = length M - dropped}
+      ap₂ (λ (n : ℕ) (x : List ℕ). take n x) {x = usedCount pool - rest .from} {y = length M - dropped}
       (omega (arith, used, w .left .from))
       (ap₂ drop (w .left .from) (w .pooled ∙ own) ∙ sym (drop-drop dropped (messagesStart S) (imageOf S)) ∙ ap (drop dropped) (body .1) ∙ drop-append-le dropped M (body .0) few-bytes)
       ∙ take-at (drop dropped M) (body .0) (length M - dropped) (length-drop dropped M)
@@ -122,65 +116,67 @@ module _ (b pool tops : List ℕ) (floors k : ℕ) (rest : Rest) (w : Writable b
   origin-is are = ap₂ (λ (v : List ℤ) (l : List ℕ). valuesBytes v ++ l) (w .left .base ∙ sym (ap (λ (O : Origin). O .base) (purged-origin k S))) (floor-bytes are)
 
   -- ---- all of them
-  module _ (right : Valid R) (log-left : logOf R ≡ drop k (logOf S)) (held-same : heldOf R ≡ heldOf S) (setpoints-same : setpointsOf R ≡ setpointsOf S) (messages-left : messagesOf R ≡ drop dropped (messagesOf S)) where
-    pub messages-are : take (usedCount pool - rest .from) (drop (rest .from) pool) ≡ messagesOf R
-    messages-are = kept ∙ sym messages-left
+  right : Valid R
+  right = purge-valid S valid k (omega (arith, count-floors, w .few))
 
-    -- there is room for them
-    pub messages-fit : floorsStart + sequenceSize * floors + (usedCount pool - rest .from) ≤ imageSize
-    messages-fit = omega (
-      arith,
-      start-is,
-      messages-room R right,
-      ap length messages-are,
-      length-take-le (usedCount pool - rest .from) (drop (rest .from) pool) (omega (arith, length-drop (rest .from) pool, used-inside)),
-    )
+  pub messages-are : take (usedCount pool - rest .from) (drop (rest .from) pool) ≡ messagesOf R
+  messages-are = kept ∙ sym (purge-messages S valid k)
 
-    header-bytes : {end : ℕ} → end ≡ messagesStart R + length (messagesOf R)
-        → headerBytes (logCount pool - k) (heldCount pool) (floorsStart + sequenceSize * floors) end floors (rest .block) (rest .group) ≡ headerOf R
-    header-bytes {end} e =
-        let O : Origin = R .origin in
-        let past = purged-origin k S in
-        ap₂ (headerBytes (logCount pool - k) (heldCount pool) (floorsStart + sequenceSize * floors) end floors)
-        (w .left .block ∙ sym (ap (λ (o : Origin). o .block) past)) (w .left .group ∙ sym (ap (λ (o : Origin). o .group) past))
-        ∙ ap (λ (n : ℕ). headerBytes (logCount pool - k) (heldCount pool) (floorsStart + sequenceSize * floors) end n (O .block) (O .group)) (sym count-floors)
-        ∙ header-is R (ap (λ (n : ℕ). n - k) logged ∙ sym (ap length log-left ∙ length-drop k (logOf S))) (waiting ∙ sym (ap length held-same)) start-is
-        (e ∙ ap (λ (n : ℕ). n + length (messagesOf R)) (sym start-is))
+  -- there is room for them
+  pub messages-fit : floorsStart + sequenceSize * floors + (usedCount pool - rest .from) ≤ imageSize
+  messages-fit = omega (
+    arith,
+    start-is,
+    messages-room R right,
+    ap length messages-are,
+    length-take-le (usedCount pool - rest .from) (drop (rest .from) pool) (omega (arith, length-drop (rest .from) pool, used-inside)),
+  )
 
-    -- the setpoints stand there
-    values-same : valuesOf R ≡ valuesOf S
-    unfolding valuesOf
-    values-same = ap valuesBytes setpoints-same
+  header-bytes : {end : ℕ} → end ≡ messagesStart R + length (messagesOf R)
+      → headerBytes (logCount pool - k) (heldCount pool) (floorsStart + sequenceSize * floors) end floors (rest .block) (rest .group) ≡ headerOf R
+  header-bytes {end} e =
+      let O : Origin = R .origin in
+      let past = purged-origin k S in
+      ap₂ (headerBytes (logCount pool - k) (heldCount pool) (floorsStart + sequenceSize * floors) end floors)
+      (w .left .block ∙ sym (ap (λ (o : Origin). o .block) past)) (w .left .group ∙ sym (ap (λ (o : Origin). o .group) past))
+      ∙ ap (λ (n : ℕ). headerBytes (logCount pool - k) (heldCount pool) (floorsStart + sequenceSize * floors) end n (O .block) (O .group)) (sym count-floors)
+      ∙ header-is R (ap (λ (n : ℕ). n - k) logged ∙ sym (ap length (purge-log S valid k) ∙ length-drop k (logOf S))) (waiting ∙ sym (ap length (purge-held S valid k))) start-is
+      (e ∙ ap (λ (n : ℕ). n + length (messagesOf R)) (sym start-is))
 
-    values-stand : Stands b setpointsStart (valuesOf R)
-    values-stand =
-        ap₂ (λ (v x : List ℕ). take (length v) (drop setpointsStart x)) values-same own ∙ ap (take (length (valuesOf S))) (values-at S .1)
-        ∙ take-at (valuesOf S) (values-at S .0) (length (valuesOf S)) refl ∙ sym values-same
+  -- the setpoints stand there
+  values-same : valuesOf R ≡ valuesOf S
+  unfolding valuesOf
+  values-same = ap valuesBytes (purge-setpoints S valid k)
 
-    pub purged-image : {behind headed whole out : List ℕ} {end : ℕ} → T (isBytes tops)
-        → Copied b (floorsStart + sequenceSize * floors) (take (usedCount pool - rest .from) (drop (rest .from) pool)) behind end
-        → headed ≡ pasted behind 0 (headerBytes (logCount pool - k) (heldCount pool) (floorsStart + sequenceSize * floors) end floors (rest .block) (rest .group))
-        → whole ≡ pasted headed baseStart (valuesBytes (rest .base) ++ take (sequenceSize * floors) tops)
-        → out ≡ take end whole ++ replicate (length whole - end) 0
-        → out ≡ imageOf R
-    purged-image {behind} {headed} {whole} {out} {end} are copied header origin zeros =
-        used-cleared R size (used-written R right (omega (arith, size)) messages-put header-put values-put (origin ∙ ap (pasted headed baseStart) (origin-is are))) zeros (used-fits R right)
-      where
-        messages-put : Copied b (messagesStart R) (messagesOf R) behind end
-        messages-put = subst (λ (x : List ℕ). Copied b (messagesStart R) x behind end) messages-are
-            (subst (λ (n : ℕ). Copied b n (take (usedCount pool - rest .from) (drop (rest .from) pool)) behind end) start-is copied)
+  values-stand : Stands b setpointsStart (valuesOf R)
+  values-stand =
+      ap₂ (λ (v x : List ℕ). take (length v) (drop setpointsStart x)) values-same own ∙ ap (take (length (valuesOf S))) (values-at S .1)
+      ∙ take-at (valuesOf S) (values-at S .0) (length (valuesOf S)) refl ∙ sym values-same
 
-        header-put : headed ≡ pasted behind 0 (headerOf R)
-        header-put = header ∙ ap (pasted behind 0) (header-bytes (messages-put .end))
+  pub purged-image : {behind headed whole out : List ℕ} {end : ℕ} → T (isBytes tops)
+      → Copied b (floorsStart + sequenceSize * floors) (take (usedCount pool - rest .from) (drop (rest .from) pool)) behind end
+      → headed ≡ pasted behind 0 (headerBytes (logCount pool - k) (heldCount pool) (floorsStart + sequenceSize * floors) end floors (rest .block) (rest .group))
+      → whole ≡ pasted headed baseStart (valuesBytes (rest .base) ++ take (sequenceSize * floors) tops)
+      → out ≡ take end whole ++ replicate (length whole - end) 0
+      → out ≡ imageOf R
+  purged-image {behind} {headed} {whole} {out} {end} are copied header origin zeros =
+      used-cleared R size (used-written R right (omega (arith, size)) messages-put header-put values-put (origin ∙ ap (pasted headed baseStart) (origin-is are))) zeros (used-fits R right)
+    where
+      messages-put : Copied b (messagesStart R) (messagesOf R) behind end
+      messages-put = subst (λ (x : List ℕ). Copied b (messagesStart R) x behind end) messages-are
+          (subst (λ (n : ℕ). Copied b n (take (usedCount pool - rest .from) (drop (rest .from) pool)) behind end) start-is copied)
 
-        long : length behind ≡ length b
-        long = ap length (messages-put .bytes) ∙ length-pasted b (messagesStart R) (messagesOf R) (omega (arith, size, messages-room R right))
+      header-put : headed ≡ pasted behind 0 (headerOf R)
+      header-put = header ∙ ap (pasted behind 0) (header-bytes (messages-put .end))
 
-        stand : Stands headed setpointsStart (valuesOf R)
-        stand = subst (λ (x : List ℕ). Stands x setpointsStart (valuesOf R)) (sym header-put)
-            (stands-behind behind setpointsStart (valuesOf R) (headerOf R) (length-header R) (omega (arith, long, size))
-            (subst (λ (x : List ℕ). Stands x setpointsStart (valuesOf R)) (sym (messages-put .bytes))
-            (stands-before b setpointsStart (valuesOf R) (messagesOf R) (messagesStart R) (omega (arith, size, messages-room R right)) (omega (arith, length-values R right, start-is)) values-stand)))
+      long : length behind ≡ length b
+      long = ap length (messages-put .bytes) ∙ length-pasted b (messagesStart R) (messagesOf R) (omega (arith, size, messages-room R right))
 
-        values-put : headed ≡ pasted headed setpointsStart (valuesOf R)
-        values-put = pasted-standing headed setpointsStart (valuesOf R) stand
+      stand : Stands headed setpointsStart (valuesOf R)
+      stand = subst (λ (x : List ℕ). Stands x setpointsStart (valuesOf R)) (sym header-put)
+          (stands-behind behind setpointsStart (valuesOf R) (headerOf R) (length-header R) (omega (arith, long, size))
+          (subst (λ (x : List ℕ). Stands x setpointsStart (valuesOf R)) (sym (messages-put .bytes))
+          (stands-before b setpointsStart (valuesOf R) (messagesOf R) (messagesStart R) (omega (arith, size, messages-room R right)) (omega (arith, length-values R right, start-is)) values-stand)))
+
+      values-put : headed ≡ pasted headed setpointsStart (valuesOf R)
+      values-put = pasted-standing headed setpointsStart (valuesOf R) stand

@@ -62,6 +62,7 @@ pub fn write_purged(image: &mut [u8], pool: &[u8], tops: &[u8], floors: usize, k
         rest.block,
         rest.group,
     );
-    put_start(image, rest.base, tops, floors);
+    let base = rest.base;
+    put_start(image, base, tops, floors);
     clear_from(image, end);
 }
