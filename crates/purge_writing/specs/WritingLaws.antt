@@ -60,6 +60,9 @@ module _ (b pool tops : List ℕ) (floors k : ℕ) (rest : Rest) (w : Writable b
   pub size : length b ≡ imageSize
   size = ap length own ∙ image-size S valid
 
+  pub pool-size : length pool ≡ imageSize
+  pool-size = ap length (w .pooled) ∙ size
+
   -- ---- the numbers that are read
   pub logged : logCount pool ≡ length (logOf S)
   logged = ap logCount (w .pooled) ∙ sym (log-count b) ∙ ap length (own-log b (w .image))
@@ -83,7 +86,7 @@ module _ (b pool tops : List ℕ) (floors k : ℕ) (rest : Rest) (w : Writable b
   from-used = omega (arith, w .left .from, used, few-bytes)
 
   pub used-inside : usedCount pool ≤ length pool
-  used-inside = omega (arith, used, messages-room S valid, ap length (w .pooled), size)
+  used-inside = omega (arith, used, messages-room S valid, pool-size)
 
   body : (zeros : List ℕ) × (drop (messagesStart S) (imageOf S) ≡ messagesOf S ++ zeros)
   unfolding imageOf
@@ -123,14 +126,11 @@ module _ (b pool tops : List ℕ) (floors k : ℕ) (rest : Rest) (w : Writable b
   messages-are = kept ∙ sym (purge-messages S valid k)
 
   -- there is room for them
+  pub messages-long : length (take (usedCount pool - rest .from) (drop (rest .from) pool)) ≡ usedCount pool - rest .from
+  messages-long = length-take-le (usedCount pool - rest .from) (drop (rest .from) pool) (omega (arith, length-drop (rest .from) pool, used-inside))
+
   pub messages-fit : floorsStart + sequenceSize * floors + (usedCount pool - rest .from) ≤ imageSize
-  messages-fit = omega (
-    arith,
-    start-is,
-    messages-room R right,
-    ap length messages-are,
-    length-take-le (usedCount pool - rest .from) (drop (rest .from) pool) (omega (arith, length-drop (rest .from) pool, used-inside)),
-  )
+  messages-fit = omega (arith, start-is, messages-room R right, ap length messages-are, messages-long)
 
   header-bytes : {end : ℕ} → end ≡ messagesStart R + length (messagesOf R)
       → headerBytes (logCount pool - k) (heldCount pool) (floorsStart + sequenceSize * floors) end floors (rest .block) (rest .group) ≡ headerOf R
@@ -153,21 +153,24 @@ module _ (b pool tops : List ℕ) (floors k : ℕ) (rest : Rest) (w : Writable b
       ap₂ (λ (v x : List ℕ). take (length v) (drop setpointsStart x)) values-same own ∙ ap (take (length (valuesOf S))) (values-at S .1)
       ∙ take-at (valuesOf S) (values-at S .0) (length (valuesOf S)) refl ∙ sym values-same
 
-  pub purged-image : {behind headed whole out : List ℕ} {end : ℕ} → T (isBytes tops)
-      → Copied b (floorsStart + sequenceSize * floors) (take (usedCount pool - rest .from) (drop (rest .from) pool)) behind end
-      → headed ≡ pasted behind 0 (headerBytes (logCount pool - k) (heldCount pool) (floorsStart + sequenceSize * floors) end floors (rest .block) (rest .group))
+  pub purged-image : {behind headed whole out : List ℕ} {log held to end : ℕ} → T (isBytes tops) → log ≡ logCount pool → held ≡ heldCount pool → to ≡ usedCount pool
+      → Copied b (floorsStart + sequenceSize * floors) (take (to - rest .from) (drop (rest .from) pool)) behind end
+      → headed ≡ pasted behind 0 (headerBytes (log - k) held (floorsStart + sequenceSize * floors) end floors (rest .block) (rest .group))
       → whole ≡ pasted headed baseStart (valuesBytes (rest .base) ++ take (sequenceSize * floors) tops)
       → out ≡ take end whole ++ replicate (length whole - end) 0
       → out ≡ imageOf R
-  purged-image {behind} {headed} {whole} {out} {end} are copied header origin zeros =
+  purged-image {behind} {headed} {whole} {out} {log} {held} {to} {end} are logs helds tos copied header origin zeros =
       used-cleared R size (used-written R right (omega (arith, size)) messages-put header-put values-put (origin ∙ ap (pasted headed baseStart) (origin-is are))) zeros (used-fits R right)
     where
       messages-put : Copied b (messagesStart R) (messagesOf R) behind end
-      messages-put = subst (λ (x : List ℕ). Copied b (messagesStart R) x behind end) messages-are
-          (subst (λ (n : ℕ). Copied b n (take (usedCount pool - rest .from) (drop (rest .from) pool)) behind end) start-is copied)
+      messages-put = subst (λ (x : List ℕ). Copied b (messagesStart R) x behind end) (ap (λ (n : ℕ). take (n - rest .from) (drop (rest .from) pool)) tos ∙ messages-are)
+          (subst (λ (n : ℕ). Copied b n (take (to - rest .from) (drop (rest .from) pool)) behind end) start-is copied)
 
       header-put : headed ≡ pasted behind 0 (headerOf R)
-      header-put = header ∙ ap (pasted behind 0) (header-bytes (messages-put .end))
+      header-put =
+          header
+          ∙ ap₂ (λ (x y : ℕ). pasted behind 0 (headerBytes (x - k) y (floorsStart + sequenceSize * floors) end floors (rest .block) (rest .group))) logs helds
+          ∙ ap (pasted behind 0) (header-bytes (messages-put .end))
 
       long : length behind ≡ length b
       long = ap length (messages-put .bytes) ∙ length-pasted b (messagesStart R) (messagesOf R) (omega (arith, size, messages-room R right))
