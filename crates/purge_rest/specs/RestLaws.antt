@@ -51,7 +51,7 @@ module _ (pool starts gone : List ℕ) (p : FirstPlaces pool starts gone) where
   first-inside = record { holds = p .log .holds; inside = λ i k. log-inside pool starts (p .all) (p .log) .inside i (among i k) }
 
   -- their deltas are the first of the log
-  first-deltas : deltasAt (deltasOf pool starts) gone ≡ take (p .count) (logOf S)
+  pub first-deltas : deltasAt (deltasOf pool starts) gone ≡ take (p .count) (logOf S)
   first-deltas = ap (deltasAt (deltasOf pool starts)) (p .first) ∙ sym (take-map (p .count) (λ (i : ℕ). getD (deltasOf pool starts) i []) (p .all)) ∙ ap (take (p .count)) (p .log .log)
 
   pub first-room : messagesStart S + length (join (deltasAt (deltasOf pool starts) gone)) ≤ imageSize

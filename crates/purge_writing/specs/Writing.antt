@@ -1,15 +1,15 @@
 -- What is known where the image after a purge is written.
 use mathlib.Core.Path.{_≡_}
-use mathlib.Core.List.{List, map}
+use mathlib.Core.List.{List}
 use Prim.Native.Nat.{ℕ, _*_, _≤_}
 use lib.ListN.{length, take}
 use lib.Dec.{T}
-use Rattle.model.specs.Bytes.{number, parts}
 use Rattle.model.specs.Layout.{sequenceSize, mostFloors}
 use Rattle.model.specs.Message.{Message}
 use Rattle.model.specs.Order.{logOf}
 use Rattle.model.specs.Purge.{originPast}
 use Rattle.model.specs.Image.{stateIn, isImage}
+use Rattle.purge_floors.specs.TopsIn.{topsIn}
 use Rattle.purge_rest.specs.declared.Rest.{Rest}
 use Rattle.purge_rest.specs.Rest.{IsRest}
 
@@ -25,4 +25,4 @@ pub record Writable (b pool tops : List ℕ) (floors k : ℕ) (rest : Rest) : Ty
   pub left : IsRest (stateIn b) (goneFrom b k) rest
   pub few : floors ≤ mostFloors
   pub room : sequenceSize * floors ≤ length tops
-  pub raised : map number (parts floors sequenceSize tops) ≡ originPast (stateIn b) (goneFrom b k) .floors
+  pub raised : topsIn tops floors ≡ originPast (stateIn b) (goneFrom b k) .floors

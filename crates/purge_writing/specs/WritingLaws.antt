@@ -25,16 +25,10 @@ use Rattle.image_header.specs.Pieces.{pasted, Copied, headerBytes}
 use Rattle.image_header.specs.PieceLaws.{length-pasted}
 use Rattle.image_sections.specs.Sections.{headerWith, originBytes}
 use Rattle.image_sections.specs.SectionLaws.{header-is, used-written, used-cleared}
+use Rattle.purge_floors.specs.TopsLaws.{tops-length, tops-bytes}
 use Rattle.purge_rest.specs.declared.Rest.{Rest}
 use Rattle.purge_writing.specs.Writing.{goneFrom, Writable}
 use Rattle.purge_writing.specs.StandingLaws.{Stands, pasted-standing, stands-before, stands-behind}
-
--- ---- tops that are bytes, written, are these bytes
-tops-bytes : (tops : List ℕ) (n : ℕ) → T (isBytes tops) → sequenceSize * n ≤ length tops → join (map (bytes sequenceSize) (map number (parts n sequenceSize tops))) ≡ take (sequenceSize * n) tops
-tops-bytes tops n are room =
-    ap join (map-map (bytes sequenceSize) number (parts n sequenceSize tops))
-    ∙ parts-written (λ p. bytes sequenceSize (number p)) n sequenceSize tops (λ p e t. ap (λ (x : ℕ). bytes x (number p)) (sym e) ∙ bytes-number p t) are (omega arith)
-    ∙ ap (λ (k : ℕ). take k tops) {x = n * sequenceSize} {y = sequenceSize * n} (omega arith)
 
 -- the origin after a purge
 pub purged-origin : (k : ℕ) (S : State) → purgeFirst k S .origin ≡ originPast S (take k (logOf S))
@@ -103,8 +97,7 @@ module _ (b pool tops : List ℕ) (floors k : ℕ) (rest : Rest) (w : Writable b
   -- ---- the floors
   pub count-floors : length (R .origin .floors) ≡ floors
   count-floors =
-      ap (λ (O : Origin). length (O .floors)) (purged-origin k S) ∙ ap length (sym (w .raised))
-      ∙ length-map (parts floors sequenceSize tops) number ∙ length-parts floors sequenceSize tops
+      ap (λ (O : Origin). length (O .floors)) (purged-origin k S) ∙ ap length (sym (w .raised)) ∙ tops-length tops floors
 
   pub start-is : floorsStart + sequenceSize * floors ≡ messagesStart R
   unfolding messagesStart

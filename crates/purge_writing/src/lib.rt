@@ -47,7 +47,8 @@ pub fn write_purged(image: &mut [u8], pool: &[u8], tops: &[u8], floors: usize, k
     requires { ⌜ Writable (now image) (now pool) (now tops) floors k rest ⌝ }
     ensures { λ _. ⌜ now (image .exit) ≡ imageOf (purgeFirst k (stateIn (now (image .entry)))) ⌝ }
 {
-    let log = get_u16(pool, LOG_COUNT_AT) - k as u32;
+    let logged = get_u16(pool, LOG_COUNT_AT);
+    let log = logged - k as u32;
     let held = get_u16(pool, HELD_COUNT_AT);
     let used = get_u16(pool, USED_AT) as usize;
     let start = FLOORS_START + SEQUENCE_SIZE * floors;

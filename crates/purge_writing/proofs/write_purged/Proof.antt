@@ -66,6 +66,9 @@ end-inside m =
       ap (λ (n : ℕ). length (take (n - a .rest .from) (drop (a .rest .from) (a .pool .now)))) (read m .get-u163 .ensures .0),
       messages-long (a .image .now) (a .pool .now) (a .tops .now) (a .floors) (a .k) (a .rest) (s .pre),
       room s,
+      from-inside s,
+      to-inside s,
+      whole-pool s,
     )
 
 get-u16-requires : tie.Need-get-u16-requires
