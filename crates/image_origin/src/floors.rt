@@ -1,30 +1,16 @@
 // The floors of an image: their lines ascend strictly, and no number is 0000.
 use message_header::checks::Check;
-use message_sequence::Sequence;
-use message_sequence::less;
+use message_sequence::line_below;
 use message_sequence::number_of;
-use message_sequence::same_line;
 use set_floors::floor_at;
 ghost use mathlib.Core.Path.{_≡_};
 ghost use mathlib.Core.Bool.{_&&_};
 ghost use mathlib.Core.List.{map};
-ghost use lib.Dec.{ltb};
 ghost use Rattle.model.specs.Lists.{every, ascending};
 ghost use Rattle.model.specs.Message.{lineOf, numbered};
 ghost use Rattle.model.specs.Image.{floorsIn};
-ghost use Rattle.message_sequence.specs.Sequence.{sequenceNumber};
 ghost use Rattle.message_header.specs.Check.{right};
 ghost use Rattle.image_origin.specs.Origins.{Counted};
-
-// Whether a sequence's line is below another's.
-fn line_below(a: Sequence, b: Sequence) -> bool
-    ensures { λ r. ⌜ r ≡ ltb (lineOf (sequenceNumber a)) (lineOf (sequenceNumber b)) ⌝ }
-{
-    if !same_line(a, b) {
-        return less(a, b);
-    }
-    false
-}
 
 // Whether the lines ascend strictly: so no line has two floors.
 fn lines_ascend(b: &[u8], count: usize) -> bool

@@ -126,7 +126,7 @@ unfolding originRight topsRight
 first-right = tt
 
 -- ---- what begins with a buffer
-parts-agree : (n size : ℕ) (a b : List ℕ) → take (n * size) a ≡ take (n * size) b → parts n size a ≡ parts n size b
+pub parts-agree : (n size : ℕ) (a b : List ℕ) → take (n * size) a ≡ take (n * size) b → parts n size a ≡ parts n size b
 parts-agree zero size a b e = refl
 parts-agree (suc n) size a b e =
     ap₂ _∷_

@@ -20,6 +20,14 @@ value-bytes : (p : List ℕ) → length p ≡ valueSize → T (isBytes p) → by
 value-bytes p e t =
     ap (bytes valueSize) (word-integer (number p) (omega (arith, number-range p t, ap (λ (n : ℕ). 256 ^ n) e))) ∙ sized-bytes valueSize p e t
 
+-- the first n sequences of a buffer, written
+pub sequences-bytes : (b : List ℕ) (n : ℕ) → T (isBytes b) → sequenceSize * n ≤ length b
+    → join (map (bytes sequenceSize) (map number (parts n sequenceSize b))) ≡ take (sequenceSize * n) b
+sequences-bytes b n are room =
+    ap join (map-map (bytes sequenceSize) number (parts n sequenceSize b))
+    ∙ parts-written (λ p. bytes sequenceSize (number p)) n sequenceSize b (sized-bytes sequenceSize) are (omega arith)
+    ∙ ap (λ (k : ℕ). take k b) {x = n * sequenceSize} {y = sequenceSize * n} (omega arith)
+
 module _ (b : List ℕ) (are : T (isBytes b)) (room : messagesStartIn b ≤ length b) where
   floors-room : floorsStart + sequenceSize * floorCount b ≤ length b
   unfolding messagesStartIn
@@ -34,8 +42,4 @@ module _ (b : List ℕ) (are : T (isBytes b)) (room : messagesStartIn b ≤ leng
 
   pub floors-bytes : join (map (bytes sequenceSize) (floorsIn b)) ≡ take (sequenceSize * floorCount b) (drop floorsStart b)
   unfolding floorsIn
-  floors-bytes =
-      ap join (map-map (bytes sequenceSize) number (parts (floorCount b) sequenceSize (drop floorsStart b)))
-      ∙ parts-written (λ p. bytes sequenceSize (number p)) (floorCount b) sequenceSize (drop floorsStart b) (sized-bytes sequenceSize) (isBytes-drop floorsStart b are)
-      (omega (arith, floors-room, length-drop floorsStart b))
-      ∙ ap (λ (n : ℕ). take n (drop floorsStart b)) {x = floorCount b * sequenceSize} {y = sequenceSize * floorCount b} (omega arith)
+  floors-bytes = sequences-bytes (drop floorsStart b) (floorCount b) (isBytes-drop floorsStart b are) (omega (arith, floors-room, length-drop floorsStart b))

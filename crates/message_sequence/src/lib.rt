@@ -87,6 +87,16 @@ pub fn same_line(a: Sequence, b: Sequence) -> bool
     line_a == line_b
 }
 
+// Whether a sequence's line is below another's.
+pub fn line_below(a: Sequence, b: Sequence) -> bool
+    ensures { λ r. ⌜ r ≡ ltb (lineOf (sequenceNumber a)) (lineOf (sequenceNumber b)) ⌝ }
+{
+    if !same_line(a, b) {
+        return less(a, b);
+    }
+    false
+}
+
 // The same line with number one less; number 0001 has none.
 pub fn predecessor_of(s: Sequence) -> Predecessor
     ensures { λ r. ⌜ predecessorList r ≡ predecessorOf (sequenceNumber s) ⌝ }

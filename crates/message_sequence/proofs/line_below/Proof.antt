@@ -8,9 +8,9 @@ use borrow.Author.Needs.{needs}
 use borrow.Author.Tests.{le-ltb, eqb-true, eqb-false, not-true, not-false}
 use Rattle.model.specs.Message.{lineOf}
 use Rattle.laws_order.specs.TestLaws.{same-ltb}
 use Rattle.message_sequence.specs.Sequence.{sequenceNumber}
-use Rattle.image_origin.proofs.floors.line_below.Statement.{statement}
-use Rattle.image_origin.proofs.floors.line_below.Tie as tie
+use Rattle.message_sequence.proofs.line_below.Statement.{statement}
+use Rattle.message_sequence.proofs.line_below.Tie as tie
 
 one-line : (x y : ℕ) → eqb (lineOf x) (lineOf y) ≡ true → ltb (lineOf x) (lineOf y) ≡ false
 one-line x y e = le-ltb (lineOf x) (lineOf y) (omega (arith, eqb-true (lineOf x) (lineOf y) e))

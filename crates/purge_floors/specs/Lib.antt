@@ -1,0 +1,5 @@
+pub mod TopsIn
+pub mod TopsLaws
+pub mod Raising
+pub mod RaisingLaws
+pub mod FloorsLaws

@@ -1,0 +1,35 @@
+// The floors that a purge leaves: those of the image, raised by the sequences of the deltas that go.
+pub mod tops;
+
+use crate::tops::raise_top;
+use buffer_writes::copy_at;
+use layout::FLOORS_START;
+use layout::SEQUENCE_SIZE;
+use set_floors::count_floors;
+use set_table::entry::sequence_at;
+ghost use mathlib.Core.Path.{_≡_};
+ghost use Prim.Native.Nat.{_≤_};
+ghost use lib.ListN.{length};
+ghost use Rattle.model.specs.Layout.{capacity};
+ghost use Rattle.model.specs.Tops.{raiseTops};
+ghost use Rattle.model.specs.Order.{sequencesOf};
+ghost use Rattle.model.specs.Image.{originIn};
+ghost use Rattle.set_table.specs.Table.{deltasOf, deltasAt};
+ghost use Rattle.image_sections.specs.LogPlaces.{TablePlaces};
+ghost use Rattle.purge_floors.specs.TopsIn.{topsRoom, topsIn};
+
+// Writes the floors of the image that a pool begins with, then raises them by each sequence; answers how many there are now.
+pub fn raise_floors(tops: &mut [u8], pool: &[u8], starts: &[u16], places: &[u8]) -> usize
+    requires { ⌜ TablePlaces (now pool) (now starts) (now places) × (length (now places) ≤ capacity) × (topsRoom ≤ length (now tops)) ⌝ }
+    ensures { λ r. ⌜ topsIn (now (tops .exit)) r ≡ raiseTops (sequencesOf (deltasAt (deltasOf (now (pool .entry)) (now (starts .entry))) (now (places .entry)))) (originIn (now (pool .entry)) .floors) ⌝ }
+{
+    let mut count = count_floors(pool);
+    copy_at(tops, 0, &pool[FLOORS_START..], SEQUENCE_SIZE * count);
+    let mut k = 0;
+    while k < places.len() {
+        let s = sequence_at(pool, starts, places[k] as usize);
+        count = raise_top(tops, count, s);
+        k += 1;
+    }
+    count
+}
