@@ -1,18 +1,18 @@
 -- The first deltas of a judged image's log, at their places; what is found of them is what the definitions purge.
 use mathlib.Core.Path.{_≡_, refl, sym, _∙_, ap, ap₂, subst}
-use mathlib.Core.Bool.{Bool, false, not}
+use mathlib.Core.Bool.{false}
 use mathlib.Core.List.{List}
-use Prim.Native.Nat.{ℕ, _*_, _≤_}
+use Prim.Native.Nat.{ℕ, _≤_}
 use native.Mathlib.Omega.{arith}
 use lib.ListN.{length, take}
 use lib.Seq.{length-take-le, take-take}
 use lib.Dec.{ltb}
 use borrow.Author.Tests.{le-ltb}
-use Rattle.model.specs.Layout.{sequenceSize, mostFloors, capacity}
+use Rattle.model.specs.Layout.{mostFloors, capacity}
 use Rattle.model.specs.Message.{Message}
 use Rattle.model.specs.Tops.{raiseTops}
 use Rattle.model.specs.Order.{Origin, State, sequencesOf, logOf}
-use Rattle.model.specs.Purge.{originPast, purgeFirst}
+use Rattle.model.specs.Purge.{originPast}
 use Rattle.model.specs.Image.{originIn, stateIn}
 use Rattle.model.specs.Codes.{exceedsLog, manyFloors}
 use Rattle.laws_state.specs.ImageLaws.{own-log}

@@ -4,7 +4,6 @@ use mathlib.Core.List.{List, []}
 use Prim.Native.Nat.{ℕ, _+_, _≤_, max}
 use native.Mathlib.Omega.{arith}
 use lib.ListN.{length, take, drop, getD, length-append, take-append-drop}
-use lib.IntN.{ℤ}
 use Rattle.model.specs.Lists.{_∈_}
 use Rattle.model.specs.Bytes.{join}
 use Rattle.model.specs.Layout.{imageSize}
@@ -18,7 +17,7 @@ use Rattle.laws_order.specs.ListLaws.{∈-take, take-map}
 use Rattle.laws_wire.specs.BytesLaws.{join-append}
 use Rattle.laws_state.specs.ImageLaws.{messages-room}
 use Rattle.set_table.specs.Table.{deltasOf, deltasAt, setIn}
-use Rattle.image_sections.specs.LogPlaces.{TablePlaces, LogPlaces}
+use Rattle.image_sections.specs.LogPlaces.{TablePlaces}
 use Rattle.image_sections.specs.LogPlaceLaws.{log-inside}
 use Rattle.log_highest.specs.Logged.{LoggedPlaces}
 use Rattle.purge_rest.specs.Rest.{FirstPlaces}

@@ -1,29 +1,27 @@
 -- The image after a purge, section by section: the messages that stay, the header's numbers, the setpoints, which stand there, and base
 -- values and floors.
 use mathlib.Core.Path.{_≡_, refl, sym, _∙_, ap, ap₂, subst}
-use mathlib.Core.List.{List, [], _++_, map}
+use mathlib.Core.List.{List, _++_, map}
 use Prim.Native.Nat.{ℕ, _+_, _*_, _-_, _≤_}
 use native.Mathlib.Omega.{arith}
-use lib.ListN.{length, take, drop, replicate, length-map, length-drop, length-append}
-use lib.Seq.{take-at, take-all, drop-drop, drop-append-le, length-take-le}
+use lib.ListN.{length, take, drop, replicate, length-drop, length-append}
+use lib.Seq.{take-at, drop-drop, drop-append-le, length-take-le}
 use lib.Dec.{T}
 use lib.IntN.{ℤ}
-use Rattle.model.specs.Bytes.{isBytes, number, bytes, parts, join}
-use Rattle.model.specs.Layout.{sequenceSize, valuesSize, imageSize, setpointsStart, baseStart, floorsStart}
+use Rattle.model.specs.Bytes.{isBytes, bytes, join}
+use Rattle.model.specs.Layout.{sequenceSize, imageSize, setpointsStart, baseStart, floorsStart}
 use Rattle.model.specs.Message.{Message}
 use Rattle.model.specs.Order.{Origin, State, logOf, heldOf}
 use Rattle.model.specs.Purge.{originPast, purgeFirst}
-use Rattle.model.specs.Image.{messagesStart, messagesOf, valuesBytes, valuesOf, headerOf, usedOf, imageOf, Valid, logCount, heldCount, usedCount, messagesStartIn, messagesIn, heldIn, stateIn}
-use Rattle.laws_order.specs.ListLaws.{map-map}
-use Rattle.laws_wire.specs.BytesLaws.{bytes-number, length-parts, parts-written}
-use Rattle.laws_state.specs.ImageLaws.{length-header, length-values, values-at, messages-at, messages-room, used-length, used-fits, used-back, image-size, image-own, own-valid, own-log, held-back}
+use Rattle.model.specs.Image.{messagesStart, messagesOf, valuesBytes, valuesOf, headerOf, usedOf, imageOf, Valid, logCount, heldCount, usedCount, messagesIn, heldIn, stateIn}
+use Rattle.laws_state.specs.ImageLaws.{length-header, length-values, values-at, messages-at, messages-room, used-fits, used-back, image-size, image-own, own-valid, own-log, held-back}
 use Rattle.laws_purge.specs.PurgeLaws.{purge-log}
 use Rattle.laws_purge.specs.PurgedState.{purge-held, purge-setpoints, messages-parted, purge-messages}
 use Rattle.laws_purge.specs.PurgeValid.{purge-valid}
 use Rattle.laws_state.specs.OffsetLaws.{log-count, count-messages}
 use Rattle.image_header.specs.Pieces.{pasted, Copied, headerBytes}
 use Rattle.image_header.specs.PieceLaws.{length-pasted}
-use Rattle.image_sections.specs.Sections.{headerWith, originBytes}
+use Rattle.image_sections.specs.Sections.{originBytes}
 use Rattle.image_sections.specs.SectionLaws.{header-is, used-written, used-cleared}
 use Rattle.purge_floors.specs.TopsLaws.{tops-length, tops-bytes}
 use Rattle.purge_rest.specs.declared.Rest.{Rest}

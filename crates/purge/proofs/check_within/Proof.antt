@@ -1,5 +1,5 @@
 -- The test of the log is the definition's.
-use mathlib.Core.Bool.{Bool, not}
+use mathlib.Core.Bool.{not}
 use mathlib.Core.Path.{sym, ap}
 use borrow.Author.Tests.{lt-ltb, le-ltb}
 use Rattle.purge.proofs.check_within.Statement.{statement}

@@ -1,17 +1,14 @@
 -- The checks run in the order of their codes; what is an image is purged.
-use mathlib.Core.Path.{_≡_, refl, sym, _∙_, ap, subst}
+use mathlib.Core.Path.{_≡_, refl, sym, _∙_, subst}
 use mathlib.Core.Bool.{true}
-use mathlib.Core.List.{List}
-use Prim.Native.Nat.{ℕ}
 use native.Mathlib.Omega.{arith}
-use lib.ListN.{length, take}
+use lib.ListN.{length}
 use lib.Seq.{take-all}
 use lib.Dec.{eqb}
 use borrow.Author.Tests.{eqb-true}
 use borrow.Author.Needs.{needs}
 use Rattle.model.specs.Layout.{imageSize}
 use Rattle.message_header.specs.Check.{right}
-use Rattle.message_header.specs.declared.checks.Check.{Check}
 use Rattle.laws_codes.specs.Ladder.{tells}
 use Rattle.image_judged.specs.Judging.{IsStation, Copies}
 use Rattle.image_judged.specs.JudgingLaws.{judges-wrong, judges-right}

@@ -1,11 +1,10 @@
 -- The invariant: the messages from k on end, from here on, where all of them do from the start on.
 use mathlib.Core.Path.{_≡_, refl, sym, _∙_, ap}
 use mathlib.Core.List.{List, _++_}
-use Prim.Native.Nat.{_+_, _-_, _≤_, _<_}
+use Prim.Native.Nat.{_+_, _-_, _≤_}
 use native.Mathlib.Omega.{arith}
 use lib.ListN.{length, drop, length-append}
 use denote.Ref.{now}
-use borrow.Author.Needs.{needs}
 use Rattle.model.specs.Bytes.{join}
 use Rattle.model.specs.Message.{Message}
 use Rattle.set_table.specs.Table.{deltasOf, deltasAt}
