@@ -7,11 +7,12 @@
  * - The lowest code that applies is answered. A refused call changes no byte of any buffer, and its counts, length, offset
  *   and value are 0.
  * - An accepted call writes what the paper says and leaves every other byte. Compose, setpoint and log message only read the
- *   image. So does a delivery at or below a floor, which writes no step either.
+ *   image. So does a delivery at or below a floor, which writes no step either, and a purge of no messages.
  * - A composed message that is delivered to the image it was composed on, if that holds fewer than 64 deltas, is accepted
  *   with no undo, and its execution is the first step.
  * - The pairs of a delivery's steps, each of which sets its tag to its value, lead in turn from the image's 64 values before
- *   the call to those after it. Hardware that is fed by the pairs shows the image's values after each call.
+ *   the call to those after it. Hardware that is fed by the pairs shows the image's values after each call. A purge leaves the
+ *   values as they are.
  * - A buffer may start at any address. A call takes less than BIVAMOLUNE_STACK bytes of stack (measured, not proved).
  *
  * What the host owes
@@ -19,13 +20,15 @@
  *   size 0 it may be NULL.
  * - The buffers of a call do not overlap.
  * - One call at a time on an image, and nobody else writes the image meanwhile. Calls on different images are free.
- * - A host writes no byte of an image itself. Floors and base values of its own making pass code 2, which asks only whether they
- *   are in order: they swallow deltas with answer 0, and part the station from the others for good.
+ * - A host writes no byte of an image itself. Floors and base values are made by bivamolune_purge and by nobody else. Those of a
+ *   host's own making pass code 2, which asks only whether they are in order: they swallow deltas with answer 0, and part the
+ *   station from the others for good.
  * - An answer is several numbers in one. `if (bivamolune_deliver(..) != 0)` takes most successes for failures: ask
  *   bivamolune_accepted(answer), or bivamolune_code(answer). Those of setpoint and log message have 64 bits and functions of
  *   their own; in a variable of 32 bits nothing but the code is left of them.
  * - Hardware that is fed by the pairs begins with the image's values, all zero after empty. It gets the pairs of every delivery,
- *   the steps in order. A host that begins again from a saved image sets its hardware to that image's values first.
+ *   the steps in order. A host that begins again from a saved image, or from a copy of another station's, sets its hardware to
+ *   that image's values first.
  * - What log message hands back is a part of the image itself. It is the message until the image is written again.
  * - An image is not written in one blow, neither in memory nor in storage. What an interrupted call left may be no image
  *   (code 2). What an interrupted save left, partly new and partly old, may be an image with a delta that nobody sent, and code
@@ -48,11 +51,12 @@
  * - Code 7 of a delivery is never retried: two deltas have one sequence, since one of these duties was not kept. Each station
  *   has the one that came to it first, and those that differ in it differ for good. Keep both messages, the refused one and
  *   the one in the image, for a human to decide, with the names of the stations that have each. A station with the wrong one
- *   begins again with empty and a new line, and gets every delta from a station with the right one, as long as that one has no
- *   floor (what is at or below a floor is in no image, and 7 is not looked for there).
- * - Code 8 of a delivery does not go away either: until there is a call that purges, a station keeps 64 deltas and no more,
- *   and one that is full differs for good from those that accepted the delta. So share the 64 out among the stations: one
- *   that has composed its share composes no more and tells the operators. Compose does not ask for room; a message that the
+ *   begins again with a new line, from a copy of the image of a station with the right one; where nobody has purged, also with
+ *   empty and every delta of such a station. A second delta under a purged sequence is not found: 7 is not looked for there.
+ * - Code 8 of a delivery: a station keeps 64 deltas and no more, and one that is full differs from those that accepted the delta.
+ *   A purge makes room, but the refused delta is then one that is still on its way (see below): if it belongs before what is
+ *   purged, the station differs for good. So purge in good time, and share the 64 out among the stations: one that has composed
+ *   its share since the last purge composes no more and tells the operators. Compose does not ask for room; a message that the
  *   station's own image refuses is not sent.
  *
  * Floors
@@ -60,8 +64,32 @@
  *   from which its log is run, and the greatest effective block and group of what was purged.
  * - A delta at or below the floor of its line is purged: it ran before all that the image has. One that needs it does not wait
  *   for it, and no effective block counts below the greatest purged one.
- * - No call makes a floor yet: empty writes an image without one, and deliver keeps those that are there. Every call on an image
- *   takes one with floors.
+ * - bivamolune_purge makes floors and raises them. No call lowers one or takes one away but empty, which writes an image without
+ *   any; deliver keeps those that are there. Every call on an image takes one with floors.
+ *
+ * Before a host purges
+ * - Purged deltas keep their place ahead of all that comes later, whatever its block, priority, group and sequence. A delta that
+ *   is still on its way, or not yet composed elsewhere, may belong before what is purged. A station that has purged then runs it
+ *   behind, one that has not runs it before, and no code tells: the two differ for good.
+ * - The library cannot see what is on its way. What is safe comes with reports from the stations, which these calls do not have
+ *   yet. Until then purge only what every station has executed, and at a time when nothing is on its way to any station and
+ *   nothing is being composed. A delta that was refused by 8 is on its way, and one that some station holds waits for another
+ *   that is (but for a ring, which is held for good).
+ * - Let the last delta of the log stand, so that k is below the log count, unless all stations purge the same before any of them
+ *   composes again. What is composed names deltas of the log alone. On a log that was purged whole, one without priority names
+ *   nothing, and a station that still has a delta with a block runs it before that one.
+ * - Stations that have purged different numbers of deltas have different images, also where all is well. Images are equal where
+ *   floors, base values, purged block and group agree and the remaining deltas are the same.
+ * - Purged deltas cannot be undone, and log message no longer shows them. Who wants them later reads or saves them before.
+ * - What all stations have purged, none can send any more. So a station that joins, or comes back from a backup of before, begins
+ *   from a copy of another one's image, with a new line. From empty it would run what it gets from zeros, and hold for good what
+ *   needs a purged delta.
+ * - A line that has a floor keeps it. So 32 lines can be purged in all, those of stations that are gone among them, and of a 33rd
+ *   line nothing (code 16): new lines are given sparingly.
+ * - A purge gives no step, and hardware that plays steps has nothing to do. Whoever keeps the log that the steps were played on
+ *   takes the first k off it.
+ * - After a purge the image is saved as after a delivery (tests/c/save.h). A host that goes down before begins again as if it had
+ *   not purged.
  */
 #ifndef BIVAMOLUNE_H
 #define BIVAMOLUNE_H
@@ -75,9 +103,9 @@ extern "C" {
 
 /* The version of this header and of the archive that it goes with. */
 #define BIVAMOLUNE_VERSION_MAJOR 0
-#define BIVAMOLUNE_VERSION_MINOR 5
+#define BIVAMOLUNE_VERSION_MINOR 6
 #define BIVAMOLUNE_VERSION_PATCH 0
-#define BIVAMOLUNE_VERSION "0.5.0"
+#define BIVAMOLUNE_VERSION "0.6.0"
 
 /* Sizes in bytes. */
 #define BIVAMOLUNE_IMAGE_SIZE 16384  /* an image, exactly */
@@ -162,7 +190,9 @@ enum bivamolune_result {
     BIVAMOLUNE_NOT_THERE = 12,         /* a place that the log has not, or a tag above 63 */
     BIVAMOLUNE_WRONG_FORM = 13,        /* a wrong character, length or comma of a text; sequences to write that are not 12 to
                                           96 bytes by twelves */
-    BIVAMOLUNE_ZERO_NUMBER = 14        /* sequences read or written: a number 0000 */
+    BIVAMOLUNE_ZERO_NUMBER = 14,       /* sequences read or written: a number 0000 */
+    BIVAMOLUNE_PAST_LOG = 15,          /* purge: more messages than the log has */
+    BIVAMOLUNE_MANY_FLOORS = 16        /* purge: over 32 floors would result */
 };
 
 /* A code in words, for a log file. */
@@ -183,6 +213,8 @@ static inline const char *bivamolune_code_name(uint32_t code) {
     case BIVAMOLUNE_NOT_THERE: return "not there";
     case BIVAMOLUNE_WRONG_FORM: return "wrong form";
     case BIVAMOLUNE_ZERO_NUMBER: return "zero number";
+    case BIVAMOLUNE_PAST_LOG: return "past log";
+    case BIVAMOLUNE_MANY_FLOORS: return "many floors";
     default: return "no code";
     }
 }
@@ -270,6 +302,17 @@ static inline uint32_t bivamolune_log_message_code(uint64_t answer) { return (ui
 static inline size_t bivamolune_log_message_length(uint64_t answer) { return (size_t)(answer / 256u % 16777216u); }
 static inline size_t bivamolune_log_message_offset(uint64_t answer) { return (size_t)(answer / 4294967296u); }
 
+/* Purges the first k messages of the log, and frees their bytes for new ones. Answers the code: 0, 1, 2, 15 or 16. Read first what
+ * stands above under 'Before a host purges'.
+ *
+ * The values after these messages become the base values. The floor of each of their lines is raised to the highest number that
+ * goes, and made where there is none; the greatest purged block and group are raised as well. The values, the rest of the log and
+ * the held deltas stay as they were, the messages moved to behind the floors, with zeros to the end. With k 0 nothing changes. No
+ * step is given.
+ *
+ * After code 16 a host may purge fewer: the messages before the first one of the 33rd line. */
+uint32_t bivamolune_purge(uint8_t *image, size_t image_size, uint32_t k);
+
 /* Reads a text of one to eight sequences, each of 24 characters of 0-9 and A-F (small letters are wrong), with one comma
  * between two, and writes the sequences end to end, 12 bytes each, to the front of the sequence buffer; the bytes behind them
  * are unchanged. They may stand in any order and more than once. The text needs no NUL at its end, and one that is handed over
@@ -283,7 +326,7 @@ uint32_t bivamolune_write_sequences(const uint8_t *sequences, size_t sequences_s
 /* The length that either of the two has written, 0 beside a refusal. */
 static inline size_t bivamolune_written_length(uint32_t answer) { return answer / 256u; }
 
-/* What stands in an image. These look at BIVAMOLUNE_IMAGE_SIZE bytes and judge nothing: hand them what empty or deliver
+/* What stands in an image. These look at BIVAMOLUNE_IMAGE_SIZE bytes and judge nothing: hand them what empty, deliver or purge
  * accepted. */
 
 /* How many deltas the log has, and how many are held. */

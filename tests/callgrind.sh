@@ -1,6 +1,6 @@
 #!/bin/sh
-# Instructions of one delivery, of log message, or of one call on texts, of the library and of
-# the second implementation.
+# Instructions of one delivery, of a purge, of log message, or of one call on texts, of the
+# library and of the second implementation.
 #
 #   sh callgrind.sh [options of cargo build, such as --features library]
 #
@@ -14,6 +14,10 @@ cases='chain-latest-0 chain-latest-63 chain-earliest-63 waiting-first-63
 lone-latest-63 priority-latest-63 priority-earliest-63 fan-latest-63 fan-earliest-63
 needs-latest-63 longest-latest-63 ring200-held-63 longest-code8-64
 chain32-latest-63 longest32-latest-63 ring32-held-63
+chain-purge1-64 chain-purge32-64 chain-purge64-64
+lone-purge1-64 lone-purge32-64 lone-purge64-64
+woven-purge1-64 woven-purge32-64 woven-purge64-64
+woven32-purge1-64 woven32-purge64-64
 chain-code2-64 log-begin-64 log-end-64 log-whole-64 log-code2-64
 read-right-1 read-right-8 read-code13-8 read-code14-8
 write-right-1 write-right-8 write-code14-8'
@@ -58,10 +62,10 @@ each() {
 }
 
 # refill CASE: the instructions of one refilling; the buffers of texts are smaller, and log
-# message has none but the image.
+# message and a purge have none but the image.
 refill() {
     case $1 in
-    log-* | read-* | write-*) each "$1" copy ;;
+    log-* | read-* | write-* | *-purge*) each "$1" copy ;;
     *) echo "$copy" ;;
     esac
 }
@@ -74,7 +78,7 @@ if [ "$first" != library ]; then
     echo '"itself" is the second implementation once more.'
 fi
 copy=$(each chain-latest-0 copy)
-echo "Instructions a call, without the $copy of refilling the buffers (less for log and texts)."
+echo "Instructions a call, without the $copy of refilling the buffers (less for purge, log and texts)."
 printf '%-22s%14s%14s%14s\n' case "$first" second "$first/2nd"
 for name in $cases; do
     one=$(each "$name" library)

@@ -1,6 +1,6 @@
 /* Stations that are carried over from images of before version 0.5.0, by carry.h. The images are those of old_images.h, which the
  * library of before wrote; then such that are damaged, of other sizes, or any bytes. C++ reads it as well. */
-#include "station.h"
+#include "purge.h"
 #include "carry.h"
 #include "old_images.h"
 
@@ -141,6 +141,22 @@ static void run_on(void) {
         "xG2 9=1 8=1000000,xH1 3=1000000,xC1 4=20 3=1000000,xB1 3=999980,xC2 4=21"), "what it was waiting for");
     lay_old(&fixtures[FULL]);
     check(carry() && answers(deliver(delta(65, 1, 1, 3, 2)), 8, 0, 0, ""), "64 are there");
+}
+
+/* What was carried is purged like any other log: floors A2, B1, C2 and D1, and three held ones behind them. */
+static void run_purged(void) {
+    lay_old(&fixtures[SEVERAL]);
+    check(carry() && purge_leaves(7, BIVAMOLUNE_PAST_LOG), "more than was carried");
+    check(purge(6) == 0 && counts(0, 3, 544 + 4 * 12 + 188), "carried, then purged");
+    check(bivamolune_floor_count(image) == 4 && bivamolune_purged_block(image) == 1 && bivamolune_purged_group(image) == 1
+        && bivamolune_two_bytes_at(bivamolune_floor(image, 0), BIVAMOLUNE_LINE_SIZE) == 2 && setpoint(3) == 999980
+        && bivamolune_base_value(image, 3) == 999980, "what the purge left");
+    check(knows_all() && counts(0, 3, 544 + 4 * 12 + 188), "each delta is there or was purged");
+    memcpy(old, image, sizeof image);
+    check(refuses(), "an image with floors is none of before");
+    lay_old(&fixtures[FULL]);
+    check(carry() && purge_leaves(33, BIVAMOLUNE_MANY_FLOORS) && purge(32) == 0 && counts(26, 6, bivamolune_bytes_used(image))
+        && bivamolune_accepted(deliver(delta(65, 1, 1, 3, 2))), "64 are there, and 32 are purged");
 }
 
 /* 64 deltas of 200 bytes, all held: each names the next eight of a ring. So the most bytes are in use, 13,072 of them. */
@@ -333,6 +349,7 @@ int main(void) {
     for (size_t i = 0; i < FIXTURES; i++) run_fixture(&fixtures[i]);
     run_values();
     run_on();
+    run_purged();
     run_longest();
     for (size_t i = 0; i < FIXTURES; i++) run_damage(&fixtures[i]);
     run_message_damage(&fixtures[SEVERAL]);

@@ -1,6 +1,6 @@
-/* Compose, setpoint and log message from C: the paper's examples, each code with its small input, sizes, and null with
- * size 0. C++ reads it as well. */
-#include "station.h"
+/* Compose, setpoint and log message from C: the paper's examples, each code with its small input, logs that were purged, sizes,
+ * and null with size 0. C++ reads it as well. */
+#include "purge.h"
 
 /* The arguments of a compose beside the image. The message buffer has more room than is needed. */
 struct request {
@@ -158,6 +158,76 @@ static void run_emptied(void) {
     check(refuses(request(10, b1), 10), "past the last group, on an emptied log");
 }
 
+/* Whether what was composed and is expected is delivered with no undo, and executed first. */
+static int goes_on(struct request r, struct delta d, const char *step) {
+    return composes(r, 0, d) && answers(deliver(d), 0, 0, 1, step);
+}
+
+/* Compose, deliver, purge all, again and again: the number goes on, group and block rise. */
+static void run_purged_whole(void) {
+    struct delta add = delta(11, 1, 2, 3, -20);
+    struct request on_a = request(10, add), on_b = request(11, add);
+
+    begin();
+    check(goes_on(on_a, delta(10, 1, 2, 3, -20), "xA1 3=-20") && purge(1) == 0, "A1 is composed and purged");
+    check(goes_on(on_a, grouped(delta(10, 2, 2, 3, -20), 2), "xA2 3=-40") && purge(1) == 0, "A2 is of the next group");
+    check(goes_on(urgently(on_b), prioritised(grouped(add, 3), 1, 5), "xB1 3=-60") && purge(1) == 0, "B1 is of the first block");
+    check(bivamolune_purged_block(image) == 1 && bivamolune_purged_group(image) == 3, "which is purged");
+    check(composes(urgently(on_a), 0, prioritised(grouped(delta(10, 3, 2, 3, -20), 4), 2, 5)), "A3 would be of the next block");
+    check(goes_on(on_a, grouped(delta(10, 3, 2, 3, -20), 4), "xA3 3=-80") && purge(1) == 0, "and has none without priority");
+    check(bivamolune_purged_block(image) == 1 && bivamolune_purged_group(image) == 4, "so that no block is raised");
+    expect(0, 1, 4);
+    expect_floor(10, 3);
+    expect_floor(11, 1);
+    expect_value(3, -80, -80);
+    check(is_expected(), "four are purged, and nothing else is there");
+    deliver(delta(10, 5, 1, 3, 0));
+    check(refuses(on_a, 9), "A5 held above the floor that a purge made");
+    check(goes_on(on_b, grouped(delta(11, 2, 2, 3, -20), 5), "xB2 3=-100"), "and the other line goes on beside it");
+}
+
+/* A part of the log is purged: only the rest is named. */
+static void run_purged_part(void) {
+    struct delta add = delta(11, 1, 2, 3, -20);
+
+    begin();
+    for (uint8_t line = 16; line < 25; line++) deliver(delta(line, 1, 1, 3, line));
+    check(refuses(request(10, add), 11) && purge(1) == 0, "nine lone lines, and one is purged");
+    check(compose(request(10, add)) == 256 * (40 + 8 * 12 + 8) && message[45] == 17, "the other eight are named");
+    check(purge(7) == 0 && goes_on(request(10, add), grouped(naming(delta(10, 1, 2, 3, -20), 24, 1), 2), "xA1 3=4"), "then one");
+    check(goes_on(request(16, add), grouped(naming(delta(16, 2, 2, 3, -20), 10, 1), 2), "xG2 3=-16"), "above its floor");
+}
+
+static uint8_t other[BIVAMOLUNE_IMAGE_SIZE];
+
+/* B1 of block 1, then C1: at this station and at another. */
+static void begin_both(void) {
+    begin();
+    deliver(prioritised(delta(11, 1, 2, 3, -20), 1, 5));
+    deliver(naming(delta(12, 1, 1, 4, 9), 11, 1));
+    memcpy(other, image, sizeof image);
+}
+
+/* What this station composed comes to the other one, which has not purged. */
+static uint32_t receive_there(struct delta d) {
+    memcpy(image, other, sizeof image);
+    return deliver(d);
+}
+
+/* The header: let the last delta of the log stand, or purge the same everywhere before anyone composes. */
+static void run_last_one(void) {
+    struct delta a1 = delta(10, 1, 1, 3, 1500), named = grouped(naming(a1, 12, 1), 2), lone = grouped(a1, 2);
+
+    begin_both();
+    check(purge(1) == 0 && goes_on(request(10, a1), named, "xA1 3=1500"), "composed with the last one left");
+    check(answers(receive_there(named), 0, 0, 1, "xA1 3=1500"), "it is the last one there, too");
+    begin_both();
+    check(purge(2) == 0 && goes_on(request(10, a1), lone, "xA1 3=1500"), "composed with none left");
+    check(answers(receive_there(lone), 0, 2, 3, "uC1 4=0,uB1 3=0,xA1 3=1500,xB1 3=1480,xC1 4=9"), "it goes before a block there");
+    begin_both();
+    check(purge(2) == 0 && answers(deliver(lone), 0, 0, 1, "xA1 3=1500"), "not where the same was purged");
+}
+
 /* An image of 16,383, and null with size 0 for each buffer and for all. */
 static void run_compose_sizes(void) {
     struct delta a1 = delta(10, 1, 1, 3, 1500);
@@ -235,6 +305,9 @@ int main(void) {
     run_compose_codes();
     run_past_floors();
     run_emptied();
+    run_purged_whole();
+    run_purged_part();
+    run_last_one();
     run_compose_sizes();
     run_setpoint();
     run_log_message();

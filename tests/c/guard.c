@@ -50,6 +50,7 @@ static struct kind emptying = {"empty", BIT(0) | BIT(1), 0},
                    composing = {"compose", BIT(0) | BIT(1) | BIT(2) | BIT(3) | BIT(6) | BIT(9) | BIT(10) | BIT(11), 0},
                    asking = {"setpoint", BIT(0) | BIT(1) | BIT(2) | BIT(12), 0},
                    finding = {"log message", BIT(0) | BIT(1) | BIT(2) | BIT(12), 0},
+                   purging = {"purge", BIT(0) | BIT(1) | BIT(2) | BIT(15) | BIT(16), 0},
                    reading = {"read sequences", BIT(0) | BIT(1) | BIT(13) | BIT(14), 0},
                    writing = {"write sequences", BIT(0) | BIT(1) | BIT(13) | BIT(14), 0};
 
@@ -174,6 +175,13 @@ static void log_message(const uint8_t *bytes, size_t size, uint32_t at) {
     end_call(&finding, bivamolune_log_message_code(bivamolune_log_message(image.at, size, at)));
 }
 
+static void purge(const uint8_t *bytes, size_t size, uint32_t k) {
+    begin_call("purge");
+    lay(&image, bytes, size, 0);
+    end_call(&purging, bivamolune_purge(image.at, size, k));
+    around(&image);
+}
+
 static void read_sequences(const uint8_t *bytes, size_t size, size_t room) {
     begin_call("read sequences");
     lay(&characters, bytes, size, 1);
@@ -222,6 +230,7 @@ static void run_input(void) {
             else if (letter == 'c') compose(one, size, &r, last);
             else if (letter == 's') setpoint(one, size, last);
             else if (letter == 'l') log_message(one, size, last);
+            else if (letter == 'p') purge(one, size, last);
             else if (letter == 'r') read_sequences(one, size, last);
             else if (letter == 'w') write_sequences(one, size, last);
             else die("a letter that means no call\n");
@@ -241,6 +250,7 @@ static const size_t room_sizes[] = {0, 1, 48, 199, 200, 201};
 static const size_t text_sizes[] = {0, 1, 23, 24, 25, 48, 49, 50, 74, 174, 198, 199, 200, 224, 4096};
 static const size_t sequence_sizes[] = {0, 1, 11, 12, 13, 24, 36, 84, 95, 96, 97, 108, 4096};
 static const size_t text_room_sizes[] = {0, 1, 12, 24, 95, 96, 97, 198, 199, 200, 224, 4096};
+static const uint32_t purged_counts[] = {0, 1, 2, 32, 33, 63, 64, 65, 255, 65535, 65536, 2147483648u, 4294967295u};
 #define EACH(i, sizes) (size_t i = 0; i < sizeof(sizes) / sizeof(sizes)[0]; i++)
 
 /* An image, grown by zeros; messages of four kinds: right, one that claims the most, all ones, and random; commands. */
@@ -261,6 +271,7 @@ static void run_sizes(const uint8_t *right) {
         empty(grown, image_sizes[i]);
         setpoint(grown, image_sizes[i], 63);
         log_message(grown, image_sizes[i], 0);
+        for EACH(k, purged_counts) purge(grown, image_sizes[i], purged_counts[k]);
         for EACH(m, message_sizes)
             for EACH(s, step_sizes)
                 for (size_t kind = 0; kind < 4; kind++)
@@ -303,7 +314,22 @@ static void run_claims(const uint8_t *right, const struct request *plain) {
             compose(claiming, sizeof claiming, plain, BIVAMOLUNE_MESSAGE_ROOM);
             setpoint(claiming, sizeof claiming, 63);
             log_message(claiming, sizeof claiming, 0);
+            for EACH(k, purged_counts) purge(claiming, sizeof claiming, purged_counts[k]);
         }
+}
+
+/* Purges of a log of 64, of so many lines; of more than 32, as far as there are floors for them. */
+static void run_purges(uint8_t lines) {
+    static uint8_t full[BIVAMOLUNE_IMAGE_SIZE], room[BIVAMOLUNE_STEP_ROOM];
+    uint8_t next[sizeof a1];
+    memcpy(next, a1, sizeof a1);
+    bivamolune_empty(full, sizeof full);
+    for (uint8_t i = 0; i < BIVAMOLUNE_DELTAS_MOST; i++) {
+        next[17] = (uint8_t)(i % lines);
+        next[23] = (uint8_t)(i / lines + 1);
+        bivamolune_deliver(full, sizeof full, next, sizeof next, room, sizeof room);
+    }
+    for EACH(k, purged_counts) purge(full, sizeof full, purged_counts[k]);
 }
 
 /* Texts and sequences of four kinds: right, of zeros and commas, all ones, and random. */
@@ -342,6 +368,9 @@ static void run_nulls(const uint8_t *right) {
     begin_call("setpoint and log message with null");
     bivamolune_setpoint(NULL, 0, 0);
     bivamolune_log_message(NULL, 0, 0);
+    begin_call("purge with null");
+    bivamolune_purge(NULL, 0, 0);
+    bivamolune_purge(NULL, 0, 1);
     begin_call("texts with null");
     lay(&characters, NULL, BIVAMOLUNE_TEXT_ROOM, 0);
     lay(&sequences, NULL, BIVAMOLUNE_SEQUENCES_ROOM, 0);
@@ -360,11 +389,15 @@ static void run_hostile(void) {
     place = AT_END;
     run_sizes(right);
     run_claims(right, &plain);
+    run_purges(2);
+    run_purges(64);
     run_texts();
     run_nulls(right);
     place = AT_START;
     run_sizes(right);
     run_claims(right, &plain);
+    run_purges(2);
+    run_purges(64);
     run_texts();
     place = UNALIGNED;
     for (shift = 1; shift < 16; shift++) {
@@ -374,6 +407,7 @@ static void run_hostile(void) {
         compose(right, sizeof right, &plain, BIVAMOLUNE_MESSAGE_ROOM);
         setpoint(right, sizeof right, 63);
         log_message(right, sizeof right, 0);
+        run_purges(32);
         read_sequences((const uint8_t *)"00000000000A000000010001,00000000000B000000010001", 49, BIVAMOLUNE_SEQUENCES_ROOM);
         write_sequences(a1 + 12, BIVAMOLUNE_SEQUENCE_SIZE, BIVAMOLUNE_TEXT_ROOM);
     }
@@ -381,7 +415,7 @@ static void run_hostile(void) {
 
 /* Each call has answered each of its codes. */
 static void check_codes(void) {
-    const struct kind *const kinds[] = {&emptying, &delivering, &composing, &asking, &finding, &reading, &writing};
+    const struct kind *const kinds[] = {&emptying, &delivering, &composing, &asking, &finding, &purging, &reading, &writing};
     for EACH(i, kinds) {
         char text[200];
         snprintf(text, sizeof text, "%s did not answer each of its codes\n", kinds[i]->name);

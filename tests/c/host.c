@@ -1,6 +1,6 @@
-/* A host in C, which C++ reads as well: begins a station, delivers the paper's examples, and to images with floors, reads and
- * writes sequences as text, and checks answers, images, steps and what the header gives beside the calls. */
-#include "station.h"
+/* A host in C, which C++ reads as well: begins a station, delivers the paper's examples, and to images with floors, purges, reads
+ * and writes sequences as text, and checks answers, images, steps and what the header gives beside the calls. */
+#include "purge.h"
 
 static void run_examples(void) {
     struct delta a1 = delta(10, 1, 1, 3, 1500), b1 = delta(11, 1, 2, 3, -20), a2 = delta(10, 2, 1, 3, 7);
@@ -205,6 +205,112 @@ static void run_floor_limits(void) {
     check(judge(image) == 2, "a purged group and no floor");
 }
 
+/* ---- the purge; purging.c has more of it */
+
+/* B1 and then A1, of which A1 is purged: the image byte by byte. */
+static void lay_a1_purged(uint8_t *at) {
+    static const uint8_t header[32] = {
+        0, 1, 0, 0,          /* one in the log, none held */
+        0, 32, 2, 44,        /* values at 32, messages at 556 */
+        2, 92, 0, 1,         /* 604 bytes used, one floor */
+        2, 32, 1, 32,        /* floors at 544, base values at 288 */
+        0, 0, 0, 0,          /* the purged block */
+        0, 0, 0, 1,          /* the purged group */
+        0, 0, 0, 0, 0, 0, 0, 0,
+    };
+    static const uint8_t floor_and_b1[60] = {
+        0, 0, 0, 0, 0, 10, 0, 0, 0, 1, 0, 1,     /* line A, 0001 */
+        1, 0, 0, 1, 0, 48, 0, 40, 0, 40, 0, 0,   /* plain, one command */
+        0, 0, 0, 0, 0, 11, 0, 0, 0, 1, 0, 1,     /* B1 */
+        0, 0, 0, 1, 0, 0, 0, 0, 0, 0, 0, 0, 0, 0, 0, 0, /* group 1 */
+        2, 3, 0, 0, 0xFF, 0xFF, 0xFF, 0xEC,      /* adds -20 to tag 3 */
+    };
+    static const uint8_t value[4] = {0, 0, 0x05, 0xC8}, base_value[4] = {0, 0, 0x05, 0xDC};
+    memset(at, 0, BIVAMOLUNE_IMAGE_SIZE);
+    memcpy(at, header, sizeof header);
+    memcpy(at + 44, value, 4);
+    memcpy(at + 300, base_value, 4);
+    memcpy(at + 544, floor_and_b1, sizeof floor_and_b1);
+}
+
+/* The same with B1 purged too. */
+static void lay_both_purged(uint8_t *at) {
+    static const uint8_t value[4] = {0, 0, 0x05, 0xC8};
+    lay_a1_purged(at);
+    at[1] = 0;
+    at[7] = at[9] = 56;
+    at[8] = 2;
+    at[11] = 2;
+    memcpy(at + 300, value, 4);
+    memset(at + 556, 0, 48);
+    at[561] = 11, at[565] = 1, at[567] = 1;      /* line B, 0001 */
+}
+
+static void deliver_both(void) {
+    begin();
+    deliver(delta(11, 1, 2, 3, -20));
+    check(answers(deliver(delta(10, 1, 1, 3, 1500)), 0, 1, 2, "uB1 3=0,xA1 3=1500,xB1 3=1480"), "B1, then A1");
+}
+
+static void run_purge_bytes(void) {
+    deliver_both();
+    lay_a1_purged(expected);
+    check(purge(1) == 0 && memcmp(image, expected, sizeof image) == 0, "A1 is purged");
+    check(bivamolune_log_count(image) == 1 && setpoint(3) == 1480 && bivamolune_base_value(image, 3) == 1500
+        && bivamolune_purged_group(image) == 1 && bivamolune_purged_block(image) == 0, "what a purge leaves");
+    check(bivamolune_floor_count(image) == 1 && bivamolune_floor(image, 0) == image + 544 && bivamolune_floor(image, 1) == NULL
+        && bivamolune_two_bytes_at(bivamolune_floor(image, 0), BIVAMOLUNE_LINE_SIZE) == 1, "the floor that a purge makes");
+    lay_both_purged(expected);
+    check(purge(1) == 0 && memcmp(image, expected, sizeof image) == 0, "then B1");
+    deliver_both();
+    check(purge(2) == 0 && memcmp(image, expected, sizeof image) == 0, "both at once");
+    lay_emptied();
+    memcpy(expected, image, sizeof image);
+    expected[555] = 6;
+    expected[47] = expected[303] = 208;
+    lay_floors();
+    check(purge(1) == 0 && memcmp(image, expected, sizeof image) == 0, "its floor is raised, block and group are kept");
+}
+
+/* A purged delta that comes again, and what comes behind a purge. */
+static void run_after_purge(void) {
+    struct delta a1 = delta(10, 1, 1, 3, 1500), other = delta(10, 1, 2, 63, 7), b1 = delta(11, 1, 2, 3, -20);
+
+    deliver_both();
+    check(purge(1) == 0 && leaves(a1), "purged, A1 again");
+    check(leaves(other) && leaves(prioritised(a1, 9, 9)) && leaves(naming(a1, 11, 1)), "purged, A1 with other bytes");
+    check(answers(deliver(delta(10, 1, 1, 64, 1)), 6, 0, 0, ""), "purged, A1 with tag 64");
+    check(leaves(b1) && answers(deliver(delta(11, 1, 2, 3, -21)), 7, 0, 0, ""), "B1 stands as it was");
+    check(answers(deliver(delta(10, 2, 2, 3, 7)), 0, 1, 2, "uB1 3=1500,xA2 3=1507,xB1 3=1487"), "undone to the base value");
+    check(answers(deliver(naming(delta(12, 1, 1, 3, 0), 10, 1)), 0, 0, 1, "xC1 3=0"), "C1 needs what was purged");
+}
+
+static void run_purge_refusals(void) {
+    static uint8_t large[BIVAMOLUNE_IMAGE_SIZE + 1];
+    uint8_t before[BIVAMOLUNE_IMAGE_SIZE];
+
+    begin();
+    check(purge_leaves(0, 0) && purge_leaves(1, 15) && purge_leaves(0xFFFFFFFFu, 15), "a purge of an empty log");
+    deliver_both();
+    check(purge_leaves(0, 0), "none are purged");
+    check(purge_leaves(3, 15) && purge_leaves(258, 15) && purge_leaves(65538, 15) && purge_leaves(0xFFFFFFFFu, 15),
+        "more than the log has");
+    check(purge(1) == 0 && purge_leaves(0, 0) && purge_leaves(2, 15), "two of a log of one");
+    memcpy(large, image, sizeof image);
+    memcpy(before, image, sizeof image);
+    check(bivamolune_purge(large, sizeof image - 1, 1) == 1 && bivamolune_purge(large, sizeof image + 1, 1) == 1
+        && bivamolune_purge(large, 32, 0) == 1 && bivamolune_purge(large, 0, 0xFFFFFFFFu) == 1, "a purge of other sizes");
+    check(memcmp(large, before, sizeof before) == 0 && large[sizeof image] == 0, "which write nothing");
+    check(bivamolune_purge(NULL, 0, 0) == 1 && bivamolune_purge(NULL, 0, 1) == 1, "a purge of no image");
+    image[303] ^= 1;
+    check(purge_leaves(0, 2) && purge_leaves(1, 2) && purge_leaves(2, 2), "a purge with a damaged base value");
+    image[303] ^= 1;
+    image[1] = 2;
+    check(purge_leaves(1, 2) && purge_leaves(0xFFFFFFFFu, 2), "a purge with a damaged count");
+    memset(image, 0, sizeof image);
+    check(purge_leaves(0, 2) && purge_leaves(1, 2), "a purge of zeros");
+}
+
 /* The steps of B1 and then A1, written out, and the bytes past them. */
 static void run_step_bytes(void) {
     static const uint8_t three[240] = {
@@ -397,13 +503,15 @@ static void run_header(void) {
     check(strcmp(version, BIVAMOLUNE_VERSION) == 0, "the version");
     check(!bivamolune_accepted(success), "a refusal is not accepted");
     check(strcmp(bivamolune_code_name((uint32_t)full), "full") == 0, "the name of a code");
-    for (uint32_t code = 0; code <= BIVAMOLUNE_ZERO_NUMBER + 1; code++)
+    for (uint32_t code = 0; code <= BIVAMOLUNE_MANY_FLOORS + 1; code++)
         for (uint32_t other = 0; other < code; other++)
             differ = differ && strcmp(bivamolune_code_name(code), bivamolune_code_name(other)) != 0;
     check(differ, "the names differ");
-    check(strcmp(bivamolune_code_name(15), bivamolune_code_name(0xFFFFFFFFu)) == 0, "no code");
+    check(strcmp(bivamolune_code_name(17), bivamolune_code_name(0xFFFFFFFFu)) == 0, "no code");
     check(strcmp(bivamolune_code_name(13), "wrong form") == 0 && strcmp(bivamolune_code_name(14), "zero number") == 0,
         "the names of the codes of texts");
+    check(BIVAMOLUNE_PAST_LOG == 15 && BIVAMOLUNE_MANY_FLOORS == 16 && strcmp(bivamolune_code_name(15), "past log") == 0
+        && strcmp(bivamolune_code_name(16), "many floors") == 0, "the codes of the purge");
     check(BIVAMOLUNE_MESSAGE_LEAST == 40 + 8 && BIVAMOLUNE_STEP_ROOM == BIVAMOLUNE_STEPS_MOST * BIVAMOLUNE_STEP_SIZE
         && BIVAMOLUNE_MESSAGE_MOST == 40 + 12 * BIVAMOLUNE_DEPENDENCIES_MOST + 8 * BIVAMOLUNE_COMMANDS_MOST
         && BIVAMOLUNE_MESSAGE_ROOM == BIVAMOLUNE_MESSAGE_MOST, "limits");
@@ -458,6 +566,9 @@ int main(void) {
     run_above_floors();
     run_floor_bytes();
     run_floor_limits();
+    run_purge_bytes();
+    run_after_purge();
+    run_purge_refusals();
     run_step_bytes();
     run_pairs();
     run_hardware();

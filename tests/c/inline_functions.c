@@ -3,7 +3,7 @@
  * it as well. */
 #include "station.h"
 
-#define CODES 15
+#define CODES 17
 #define UNDOS 64
 #define EXECUTIONS 65
 #define LENGTHS 201
@@ -41,7 +41,7 @@ static const struct number {
 static void run_code_names(void) {
     static const char *const names[CODES] = {
         "accepted", "wrong size", "no image", "wrong layout", "wrong number", "wrong dependencies", "wrong content", "conflict",
-        "full", "held line", "past limit", "many dependencies", "not there", "wrong form", "zero number",
+        "full", "held line", "past limit", "many dependencies", "not there", "wrong form", "zero number", "past log", "many floors",
     };
     int none = strcmp(bivamolune_code_name(LAST_OF_FOUR_BYTES), "no code") == 0;
     for (uint32_t code = 0; code < CODES; code++) check(strcmp(bivamolune_code_name(code), names[code]) == 0, names[code]);

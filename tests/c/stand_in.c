@@ -19,6 +19,9 @@
 #define WRITTEN_PAST 15   /* the writer writes a NUL past the text */
 #define NUMBER_PAST 16    /* the writer reads the byte past the sequences */
 #define SORTED 17         /* the writer writes into the sequences */
+#define PURGE_PAST 18     /* the purge writes the byte past the image */
+#define PURGE_BEFORE 19   /* the purge reads the byte before the image */
+#define PURGE_FLOORS 20   /* the purge reads as many floors as the image claims */
 
 uint32_t bivamolune_empty(uint8_t *image, size_t image_size) {
     if (image_size != BIVAMOLUNE_IMAGE_SIZE) return BIVAMOLUNE_WRONG_SIZE;
@@ -70,6 +73,21 @@ uint64_t bivamolune_log_message(const uint8_t *image, size_t image_size, uint32_
     if (image_size != BIVAMOLUNE_IMAGE_SIZE) return BIVAMOLUNE_WRONG_SIZE;
     if (FAULT == LOG_WRITE) *(volatile uint8_t *)image = 1;
     return place < bivamolune_log_count(image) ? BIVAMOLUNE_ACCEPTED : BIVAMOLUNE_NOT_THERE;
+}
+
+uint32_t bivamolune_purge(uint8_t *image, size_t image_size, uint32_t k) {
+    if (image_size != BIVAMOLUNE_IMAGE_SIZE) return BIVAMOLUNE_WRONG_SIZE;
+    image[image_size - 1] = 0;
+    switch (FAULT) {
+    case PURGE_PAST: image[image_size] = 0; break;
+    case PURGE_BEFORE: image[0] = ((const volatile uint8_t *)image)[-1]; break;
+    case PURGE_FLOORS:
+        for (size_t i = 0; i < bivamolune_floor_count(image); i++)
+            (void)((const volatile uint8_t *)image)[BIVAMOLUNE_FLOORS_AT + BIVAMOLUNE_FLOOR_SIZE * i];
+        break;
+    default: break;
+    }
+    return k <= bivamolune_log_count(image) ? BIVAMOLUNE_ACCEPTED : BIVAMOLUNE_PAST_LOG;
 }
 
 uint32_t bivamolune_read_sequences(const uint8_t *text, size_t text_size, uint8_t *sequences, size_t sequences_size) {

@@ -100,7 +100,7 @@ static inline uint32_t deliver(struct delta d) {
     return bivamolune_deliver(image, sizeof image, d.bytes, d.size, steps, sizeof steps);
 }
 
-/* A station whose old end was purged, by hand, as no call makes it. Its floors are A5 and CFFFF, the greatest purged block is 4
+/* A station whose old end was purged, laid down by hand and by no call. Its floors are A5 and CFFFF, the greatest purged block is 4
  * and the greatest purged group 9. Purged deltas left tag 3 at 700 and tag 63 at -20; the log is A6, which adds 20 to tag 3. */
 static inline void lay_floors(void) {
     static const uint8_t header[32] = {

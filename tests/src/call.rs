@@ -48,6 +48,8 @@ pub enum Action {
     Setpoint(u32),
     /// Asks for the log's message at a place.
     LogMessage(u32),
+    /// Drops the first so many log messages.
+    Purge(u32),
     /// Reads a text into a buffer of a size.
     ReadSequences {
         text: Vec<u8>,
@@ -180,6 +182,7 @@ impl World {
             Action::Compose(composing) => compose(calls, image, composing.clone()),
             Action::Setpoint(tag) => read(calls.setpoint(&image, *tag), image),
             Action::LogMessage(place) => read(calls.log_message(&image, *place), image),
+            Action::Purge(k) => purge(calls, image, *k),
             Action::ReadSequences { text, room } => {
                 let by = |from: &[u8], into: &mut [u8]| calls.read_sequences(from, into);
                 convert(by, image, text, *room)
@@ -227,6 +230,11 @@ impl World {
 
 fn empty(calls: &dyn Calls, mut image: Vec<u8>) -> Outcome {
     let answer = calls.empty(&mut image);
+    read(answer.into(), image)
+}
+
+fn purge(calls: &dyn Calls, mut image: Vec<u8>, k: u32) -> Outcome {
+    let answer = calls.purge(&mut image, k);
     read(answer.into(), image)
 }
 

@@ -4,7 +4,8 @@
 use std::fmt::Write;
 
 use crate::boundary::{code, executions, length, offset, undos, value, Calls};
-use crate::call::{hex, Action, Call, Outcome, World};
+use crate::call::{hex, Action, Call, Outcome, View, World};
+use crate::view::u16_at;
 
 /// Where two implementations part, and in what.
 #[derive(Clone, Debug, PartialEq, Eq)]
@@ -114,10 +115,10 @@ fn drop_runs(one: &dyn Calls, two: &dyn Calls, kept: &mut Vec<Call>, run: usize)
     let mut start = 0;
     while start < kept.len() {
         let end = (start + run).min(kept.len());
-        match compare_from(world.clone(), one, two, &kept[end..]) {
-            Some(found) => {
-                kept.truncate(end + found.place + 1);
-                kept.drain(start..end);
+        match rest_that_differs(&world, one, two, &kept[end..]) {
+            Some(rest) => {
+                kept.truncate(start);
+                kept.extend(rest);
                 dropped = true;
             }
             None => {
@@ -130,6 +131,39 @@ fn drop_runs(one: &dyn Calls, two: &dyn Calls, kept: &mut Vec<Call>, run: usize)
         }
     }
     dropped
+}
+
+/// The calls up to a difference, as they are or with their purges fitted to shorter logs.
+fn rest_that_differs(
+    world: &World,
+    one: &dyn Calls,
+    two: &dyn Calls,
+    rest: &[Call],
+) -> Option<Vec<Call>> {
+    if let Some(found) = compare_from(world.clone(), one, two, rest) {
+        return Some(rest[..=found.place].to_vec());
+    }
+    let mut fitted = fitted(world.clone(), one, rest);
+    if fitted == rest {
+        return None;
+    }
+    let found = compare_from(world.clone(), one, two, &fitted)?;
+    fitted.truncate(found.place + 1);
+    Some(fitted)
+}
+
+/// The calls with each purge of the station that exceeds its log cut to it: a log loses what is
+/// left out before.
+fn fitted(mut world: World, calls: &dyn Calls, list: &[Call]) -> Vec<Call> {
+    let mut fitted = list.to_vec();
+    for call in &mut fitted {
+        if let (Action::Purge(k), View::Station) = (&mut call.action, &call.view) {
+            *k = (*k).min(u16_at(&world.image, 0) as u32);
+        }
+        let outcome = world.perform(calls, call);
+        world.follow(call, &outcome);
+    }
+    fitted
 }
 
 /// The report of a difference: the seed and the shortest list found.
@@ -166,7 +200,7 @@ pub fn trace(one: &dyn Calls, two: &dyn Calls, calls: &[Call]) -> String {
 /// A packed answer taken apart.
 fn answer(call: &Call, packed: u64) -> String {
     let parts = match call.action {
-        Action::Empty | Action::Begin(_) => String::new(),
+        Action::Empty | Action::Begin(_) | Action::Purge(_) => String::new(),
         Action::Compose(_) | Action::ReadSequences { .. } | Action::WriteSequences { .. } => {
             format!(" length {}", length(packed))
         }

@@ -2,7 +2,7 @@
 //! with its offset, its bytes and what they say. The bytes are those of a run.
 
 use crate::boundary::{code, executions, undos, Calls};
-use crate::view::{all_messages, u16_at, u32_at, values, STEP};
+use crate::view::{all_messages, base_values, floor_count, u16_at, u32_at, values, STEP};
 use crate::wire::{add, line, raise, sequence, set, Draft};
 
 /// What the fields of a message's header are called, with their offsets and sizes.
@@ -44,11 +44,12 @@ fn delta(letter: u8, number: u16) -> Draft {
     Draft::new(line(letter), number)
 }
 
-/// The run: B1 is executed, C2 waits for C1, D1 for A1; then A1 comes.
+/// The run: B1 is executed, C2 waits for C1, D1 for A1; then A1 comes, and is purged.
 pub struct Run {
     pub message: Vec<u8>,
     pub image: Vec<u8>,
     pub steps: Vec<u8>,
+    pub purged: Vec<u8>,
 }
 
 impl Run {
@@ -73,20 +74,24 @@ impl Run {
         }
         steps.truncate(STEP * count);
         let message = last.bytes();
+        let mut purged = image.clone();
+        assert_eq!(calls.purge(&mut purged, 1), 0);
         Run {
             message,
             image,
             steps,
+            purged,
         }
     }
 
-    /// The three parts of the page.
-    pub fn parts(&self) -> [String; 3] {
+    /// The four parts of the page.
+    pub fn parts(&self) -> [String; 4] {
         let steps = self.steps.chunks(STEP).map(step_lines);
         [
             message_lines(&self.message),
             image_lines(&self.image),
             steps.collect(),
+            image_lines(&self.purged),
         ]
     }
 }
@@ -145,13 +150,25 @@ fn message_lines(message: &[u8]) -> String {
     text
 }
 
+/// The lines of the values that are not zero, of 64 that begin somewhere.
+fn value_lines(image: &[u8], values: &[i32; 64], begin: usize, name: &str) -> String {
+    let line = |(tag, value): (usize, &i32)| match value {
+        0 => String::new(),
+        _ => {
+            let says = format!("{name} of tag {tag}: {value}");
+            field_line(image, begin + 4 * tag, 4, &says)
+        }
+    };
+    values.iter().enumerate().map(line).collect()
+}
+
 fn image_lines(image: &[u8]) -> String {
     let mut text = header_lines(image, &IMAGE);
-    for (tag, value) in values(image).iter().enumerate() {
-        if *value != 0 {
-            let says = format!("setpoint of tag {tag}: {value}");
-            text += &field_line(image, u16_at(image, 4) + 4 * tag, 4, &says);
-        }
+    text += &value_lines(image, &values(image), u16_at(image, 4), "setpoint");
+    text += &value_lines(image, &base_values(image), u16_at(image, 14), "base value");
+    for place in 0..floor_count(image) {
+        let at = u16_at(image, 12) + 12 * place;
+        text += &field_line(image, at, 12, &format!("floor: {}", name_at(image, at)));
     }
     let (log, mut at) = (u16_at(image, 0), u16_at(image, 6));
     for (place, message) in all_messages(image).iter().enumerate() {

@@ -21,6 +21,7 @@ fn row_1_an_image_of_16383() {
     let mut message = vec![PATTERN; MESSAGE];
     assert_eq!(SUBJECT.empty(&mut short), 1);
     assert_eq!(SUBJECT.deliver(&mut short, &a1().bytes(), &mut steps), 1);
+    assert_eq!(SUBJECT.purge(&mut short, 0), 1);
     let request = plain_request(&[0, 0, 0, 0, 0, 10, 0, 0, 0, 1]);
     assert_eq!(SUBJECT.compose(&short, &request, &mut message), 1);
     assert_eq!(log_message_code(&short, 0), 1);
@@ -38,6 +39,7 @@ fn row_2_a_count_without_a_message() {
     station.image[1] = 1;
     assert_eq!(station.code(&a1().bytes()), 2);
     assert_eq!(station.compose_code(line(A)), 2);
+    assert_eq!(station.purge(0), 2);
     assert_eq!(log_message_code(&station.image, 0), 2);
     assert!(log_message(&station.image, 0).is_empty());
     assert_eq!(setpoint(&station.image, 0), (2, 0));
@@ -141,4 +143,18 @@ fn codes_13_and_14_and_1_of_texts() {
     assert_eq!(write(&[1, 2, 3, 4, 5, 6, 7, 8, 9, 10, 0, 0]), refusal(14));
     assert_eq!(read_into(ONE_TEXT.as_bytes(), 95), refusal(1));
     assert_eq!(write_into(&ONE, 198), refusal(1));
+}
+
+/// Change request 4 has no table either; its two conditions, each with one input.
+#[test]
+fn codes_15_and_16_of_a_purge() {
+    let mut station = Station::with(&[a1()]);
+    assert_eq!(station.purge(2), 15);
+    assert_eq!(station.purge(1), 0);
+    assert_eq!(station.purge(1), 15);
+    let lines: Vec<_> = (1..=33).map(|last| delta(last, 1)).collect();
+    let mut station = Station::with(&lines);
+    assert_eq!(station.purge(33), 16);
+    assert_eq!(station.purge(32), 0);
+    assert_eq!(station.purge(1), 16);
 }

@@ -11,7 +11,7 @@ use bivamolune_tests::boundary::{length, offset, value, Reference};
 use bivamolune_tests::call::{Action, Call, Composing, Outcome, View, World};
 use bivamolune_tests::differential::{compare, difference, report, report_of, shrink};
 use bivamolune_tests::faulty::{Fault, Faulty, FAULTS};
-use bivamolune_tests::generate::{case, is_with_floors};
+use bivamolune_tests::generate::{case, is_with_floors, is_with_purges};
 use common::SUBJECT;
 
 #[test]
@@ -82,6 +82,11 @@ fn what_a_call_reads_is_in_its_outcome() {
     let (image, found) = perform(Action::LogMessage(0));
     assert_eq!((offset(found.answer), length(found.answer)), (544, 48));
     assert!(found.image == image);
+    let (image, refused) = perform(Action::Purge(2));
+    assert_eq!(refused.answer, 15);
+    assert!(refused.image == image);
+    let (_, purged) = perform(Action::Purge(1));
+    assert_eq!((purged.answer, &purged.image[..2]), (0, &[0, 0][..]));
     texts_are_in_their_outcome(&mut perform);
 }
 
@@ -116,8 +121,10 @@ fn texts_are_in_their_outcome(perform: &mut dyn FnMut(Action) -> (Vec<u8>, Outco
 
 /// Where the faults of floors begin among all.
 const FLOORS: usize = 40;
-/// Where the faults of texts begin, up to the end.
+/// Where the faults of texts begin.
 const TEXTS: usize = 66;
+/// Where the faults of the purge begin, up to the end.
+const PURGES: usize = 88;
 
 /// The most calls that the shortest list for a fault has.
 fn bound(fault: Fault) -> usize {
@@ -130,21 +137,30 @@ fn bound(fault: Fault) -> usize {
         Fault::TailNotCleared | Fault::RangeBeforeDependencies => 2,
         // Empty, eight ends of the log with all they need, and compose.
         Fault::ComposeAtEight => 25,
+        // Empty, over 32 messages, and a purge of them.
+        Fault::FloorsOfMessages => 66,
+        // Empty, 32 or 33 lines, and purges.
+        Fault::FloorsBeforeCount
+        | Fault::SixteenAt32
+        | Fault::PurgeOfWhatFits
+        | Fault::PurgeRefusalWrites => 40,
         // Empty, the nine that one delta needs, that one, and one beside it.
         Fault::EightHidePredecessor => 12,
         // A call on texts stands alone.
-        fault if FAULTS[TEXTS..].contains(&fault) => 1,
+        fault if FAULTS[TEXTS..PURGES].contains(&fault) => 1,
         _ => 10,
     }
 }
 
 /// The first of the seeds that shows a fault, with its calls. One of floors shows only where
-/// there are some.
+/// there are some, and one of the purge where there is one.
 fn find(fault: Fault) -> (u64, Vec<Call>) {
     let of_floors = FAULTS[FLOORS..TEXTS].contains(&fault);
+    let of_purges = FAULTS[PURGES..].contains(&fault);
     let differs = |calls: &[Call]| compare(&Reference, &Faulty(fault), calls).is_some();
-    let mut seeds = (0..6_000).filter(|seed| !of_floors || is_with_floors(*seed));
-    let found = seeds.find(|seed| differs(&case(*seed)));
+    let fits =
+        |seed: &u64| (!of_floors || is_with_floors(*seed)) && (!of_purges || is_with_purges(*seed));
+    let found = (0..6_000).filter(fits).find(|seed| differs(&case(*seed)));
     let seed = found.unwrap_or_else(|| panic!("{fault:?} was not found"));
     (seed, case(seed))
 }
@@ -223,6 +239,18 @@ fn the_program_takes_each_eighth_seed() {
         printed.contains("cases from seed 204 in steps of 8, "),
         "{printed}"
     );
+}
+
+/// Each eighth seed from 202 on has purges, and the program counts them.
+#[test]
+fn the_program_runs_lists_with_purges_alone() {
+    let output = long_run(&["--deliveries", "200", "--start", "202", "--every", "8"]);
+    let printed = String::from_utf8_lossy(&output.stdout);
+    let (before, _) = printed.split_once(" purges, ").expect("purges are counted");
+    let count: Option<u64> = before.rsplit(' ').next().and_then(|word| word.parse().ok());
+    assert!(count > Some(30), "{printed}");
+    assert!((0..200).all(|seed| !is_with_purges(seed)));
+    assert!((0..100).all(|place| is_with_purges(202 + 8 * place)));
 }
 
 #[test]

@@ -42,6 +42,7 @@ fn name(action: &Action) -> &'static str {
         Action::Compose(_) => "compose",
         Action::Setpoint(_) => "setpoint",
         Action::LogMessage(_) => "log message",
+        Action::Purge(_) => "purge",
         Action::ReadSequences { .. } => "read sequences",
         Action::WriteSequences { .. } => "write sequences",
     }
@@ -203,11 +204,12 @@ fn every_code_of_every_call_and_hard_logs() {
         run(seed, &mut seen);
     }
     println!("{:?}\n{:?}", seen.codes, seen.marks);
-    let lists: [(&str, &[u32]); 8] = [
+    let lists: [(&str, &[u32]); 9] = [
         ("begin", &[0]),
         ("empty", &[0, 1]),
         ("deliver", &[0, 1, 2, 3, 4, 5, 6, 7, 8]),
         ("compose", &[0, 1, 2, 3, 6, 9, 10, 11]),
+        ("purge", &[0, 1, 2, 15, 16]),
         ("log message", &[0, 1, 2, 12]),
         ("setpoint", &[0, 1, 2, 12]),
         ("read sequences", &[0, 1, 13, 14]),

@@ -116,12 +116,16 @@ fn message(image: &[u8], sequence: &[u8]) -> Vec<u8> {
 
 /// Whether the call may change the station's image.
 fn is_of_the_station(call: &Call) -> bool {
-    let begins = matches!(call.action, Action::Empty | Action::Begin(_));
-    call.view == View::Station && (begins || call.action.delivers())
+    let is_no_delivery = matches!(
+        call.action,
+        Action::Empty | Action::Begin(_) | Action::Purge(_)
+    );
+    call.view == View::Station && (is_no_delivery || call.action.delivers())
 }
 
 /// After each call the hardware shows the image's 64 values; each undo restores exactly what
-/// its execution's commands had found; refused and repeated deliveries leave it as it is.
+/// its execution's commands had found; refused and repeated deliveries leave it as it is, and so
+/// do purges.
 #[test]
 fn pairs_lead_to_the_image_s_values() {
     let mut seen: BTreeMap<&str, usize> = BTreeMap::new();
@@ -134,6 +138,8 @@ fn pairs_lead_to_the_image_s_values() {
                 match &call.action {
                     Action::Empty => hardware = Hardware::new(),
                     Action::Begin(image) => hardware = Hardware::of(image),
+                    // No step: what was purged is undone no more.
+                    Action::Purge(k) => drop(hardware.found.drain(..*k as usize)),
                     _ => hardware.play(&outcome),
                 }
                 mark(&mut seen, &hardware, &outcome);

@@ -9,16 +9,17 @@ mod stations;
 use std::ops::Range;
 use std::process::Command;
 
+use bivamolune_tests::call::Composing;
 use bivamolune_tests::faulty::{Fault, Faulty};
-use bivamolune_tests::plant::{run, Duty, Hazard, Left, Run, What, HAZARDS, SECTORS};
+use bivamolune_tests::plant::{run, Duty, Hazard, Left, Run, Station, What, HAZARDS, SECTORS};
 use bivamolune_tests::view::all_messages;
-use bivamolune_tests::wire::{line, sequence, set};
+use bivamolune_tests::wire::{line, sequence, set, Sequence};
 use common::{delta, A, B, C, D, SUBJECT};
 use stations::{deliver, station};
 
-/// Seeds whose stations end with different images where the duty is neglected. No message
-/// comes from outside in them.
-const PARTED: [(Hazard, [u64; 3]); 7] = [
+/// Seeds whose stations end with different images, or different histories where they purge, if
+/// the duty is neglected. No message comes from outside in them.
+const PARTED: [(Hazard, [u64; 3]); 10] = [
     (Hazard::Crash, [91, 127, 133]),
     (Hazard::Damage, [3, 149, 220]),
     (Hazard::SharedLine, [43, 127, 149]),
@@ -26,15 +27,20 @@ const PARTED: [(Hazard, [u64; 3]); 7] = [
     (Hazard::TornSave, [77, 127, 214]),
     (Hazard::OldBackup, [27, 77, 149]),
     (Hazard::Cloning, [27, 127, 133]),
+    (Hazard::Purge, [181, 258, 272]),
+    (Hazard::PurgeEarly, [43, 181, 224]),
+    (Hazard::PurgeEnds, [85, 248, 258]),
 ];
 
 /// A seed in which a save in place leaves an image with a delta that nobody sent.
 const STRANGE: u64 = 148;
 
-/// The seeds that are run here; the program runs more. Full stations take long.
+/// The seeds that are run here; the program runs more. Full stations take long, and so do
+/// stations that purge, of which `plant` runs more with the duty kept.
 fn seeds(hazard: Hazard) -> Range<u64> {
     match hazard {
         Hazard::Overflow => 0..12,
+        _ if hazard.purges() => 0..16,
         _ => 0..80,
     }
 }
@@ -61,6 +67,9 @@ fn came_up(hazard: Hazard, run: &Run) -> bool {
         }
         Hazard::OldBackup => any(|what| matches!(what, What::Restored(_))),
         Hazard::Cloning => any(|what| matches!(what, What::Cloned(..))),
+        Hazard::Purge | Hazard::PurgeEarly | Hazard::PurgeEnds => {
+            any(|what| matches!(what, What::Purged(..)))
+        }
     }
 }
 
@@ -86,8 +95,8 @@ fn duties_keep_stations_together() {
     assert!(rare.is_empty(), "{rare:?}");
 }
 
-/// Neglected, each duty lets stations end with different images; the same seeds do not with
-/// the duty kept. What the library promises of a station holds all the while.
+/// Neglected, each duty lets stations end with different images or histories; the same seeds
+/// do not with the duty kept. What the library promises of a station holds all the while.
 #[test]
 fn neglected_duties_part_stations() {
     let (mut together, mut never) = (Vec::new(), Vec::new());
@@ -182,6 +191,90 @@ fn a_torn_save_can_run_a_delta_that_nobody_sent() {
     let run = neglected(Hazard::TornSave, STRANGE);
     assert!(run.count(|what| matches!(what, What::Cut(_, Left::Mixed))) > 0);
     assert!(!run.strange.is_empty() && run.strange.is_disjoint(&run.sent));
+}
+
+/// Composes at a station, with priority 5 or without, and delivers there.
+fn compose(at: &mut Station, priority: bool, value: i32) -> Vec<u8> {
+    let composing = Composing {
+        priority_flag: u32::from(priority),
+        priority: if priority { 5 } else { 0 },
+        ..Composing::plain(&at.lines[0], &set(0, value))
+    };
+    let (code, message) = at.compose(&SUBJECT, &composing);
+    assert_eq!((code, deliver(at, &message)), (0, 0));
+    message
+}
+
+fn first(letter: u8) -> Sequence {
+    sequence(line(letter), 1)
+}
+
+/// All have executed B1, and C1 needs it. C purges B1 while A1, which was composed without
+/// knowledge of it, is under way: C has it behind B1 for good, all others before.
+#[test]
+fn a_purge_before_all_is_there_parts_stations() {
+    let [mut a, mut b, mut c] = [A, B, C].map(station);
+    let b1 = compose(&mut b, false, 2);
+    let a1 = compose(&mut a, false, 1);
+    assert_eq!([deliver(&mut a, &b1), deliver(&mut c, &b1)], [0, 0]);
+    let c1 = compose(&mut c, false, 3);
+    assert_eq!(c.purge(&SUBJECT, 1), Ok(0));
+    for (to, message) in [(&mut a, &c1), (&mut b, &c1)] {
+        assert_eq!(deliver(to, message), 0);
+    }
+    assert_eq!([deliver(&mut b, &a1), deliver(&mut c, &a1)], [0, 0]);
+    assert_eq!(c.memory.history(), [B, A, C].map(first));
+    for other in [&mut a, &mut b] {
+        assert_eq!(other.memory.history(), [A, B, C].map(first));
+        assert_eq!(other.purge(&SUBJECT, 2), Ok(0));
+    }
+    assert_eq!(c.purge(&SUBJECT, 1), Ok(0));
+    assert!(a.memory.image == b.memory.image);
+    assert_eq!([a.hardware.setpoints[0], c.hardware.setpoints[0]], [3, 3]);
+    assert!(a.memory.image != c.memory.image);
+}
+
+/// Both have executed A1, of block 1, and nothing else is there. B purges it, an end, and
+/// composes B1, which names nothing: where A1 was not purged, B1 is of block 0 and runs first.
+/// Where B keeps the end, B1 names it.
+#[test]
+fn a_purge_of_an_end_parts_stations() {
+    for (purged, history, value) in [(1, [B, A], 1), (0, [A, B], 2)] {
+        let (mut a, mut b) = (station(A), station(B));
+        let a1 = compose(&mut a, true, 1);
+        assert_eq!(deliver(&mut b, &a1), 0);
+        assert_eq!(b.purge(&SUBJECT, purged), Ok(0));
+        let b1 = compose(&mut b, false, 2);
+        assert_eq!(deliver(&mut a, &b1), 0);
+        assert_eq!(b.memory.history(), [A, B].map(first));
+        assert_eq!(a.memory.history(), history.map(first));
+        let shown = [a.hardware.setpoints[0], b.hardware.setpoints[0]];
+        assert_eq!(shown, [value, 2]);
+    }
+}
+
+/// Where histories part, no delivery is refused for it, and no host sees it: the program shows
+/// the place.
+#[test]
+fn the_program_shows_where_histories_part() {
+    let program = |hazard: &str| {
+        let output = Command::new(env!("CARGO_BIN_EXE_plant"))
+            .args(["--hazard", hazard, "--neglected", "--seeds", "43..44"])
+            .output()
+            .expect("the program runs");
+        assert_eq!(output.status.code(), Some(0));
+        String::from_utf8(output.stdout).expect("text")
+    };
+    let printed = program("purge-early");
+    assert!(printed.contains("1 runs, 1 ended with different histories, 0 executed"));
+    let run = neglected(Hazard::PurgeEarly, 43);
+    assert_eq!(run.first_conflict(), None);
+    let [one, two] = [0, 1].map(|at| run.memories[at].history());
+    assert_eq!(one[..1], two[..1]);
+    assert_ne!(one[1], two[1]);
+    let shown = "seed 43: station 1 has another history from place 1 on\n";
+    assert!(printed.ends_with(shown), "{printed}");
+    assert!(program("purge-ends").contains("1 runs, 0 ended with different histories"));
 }
 
 #[test]

@@ -7,6 +7,7 @@ mod common;
 
 use bivamolune_tests::boundary::Calls;
 use bivamolune_tests::reference::compose::Request;
+use bivamolune_tests::sketch::Sketch;
 use bivamolune_tests::wire::{line, sequence, set, Draft, Line};
 use common::text::{read_into, refusal, some_sequences, some_text, write_into};
 use common::{
@@ -244,6 +245,62 @@ fn log_message_and_setpoint_answer_the_lowest() {
 fn empty_answers_1_or_0() {
     for (size, code) in [(IMAGE - 1, 1), (IMAGE, 0), (IMAGE + 1, 1)] {
         assert_eq!(SUBJECT.empty(&mut vec![PATTERN; size]), code);
+    }
+}
+
+/// A station with 32 floors or with none, whose log is two lines and, where 16 shall hold, lines
+/// without a floor.
+fn purge_station(codes: &[u32], floors: bool) -> Station {
+    let count = if floors { 32 } else { 0 };
+    let lines = (0..count).map(|last| sequence(line(0x40 + last), 1));
+    let mut station = Station {
+        image: Sketch {
+            floors: lines.collect(),
+            ..Sketch::default()
+        }
+        .image(),
+    };
+    let own: Vec<Draft> = match (codes.contains(&16), floors) {
+        (false, false) => vec![delta(A, 1), delta(B, 1)],
+        (false, true) => vec![delta(0x40, 2), delta(0x41, 2)],
+        (true, false) => (1..34).map(|last| delta(last, 1)).collect(),
+        (true, true) => vec![delta(0x40, 2), delta(0x10, 1)],
+    };
+    for draft in own {
+        assert_eq!(station.code(&draft.bytes()), 0);
+    }
+    station
+}
+
+/// Purges with these conditions and asks for the lowest. Where K exceeds L, the whole log would
+/// leave too many floors exactly if 16 is among them.
+fn check_purge(codes: &[u32], floors: bool, beyond: u32) {
+    let mut image = purge_station(codes, floors).image;
+    let log = u32::from(image[1]);
+    if codes.contains(&2) {
+        image[IMAGE - 1] ^= 1;
+    }
+    if codes.contains(&1) {
+        image.push(0);
+    }
+    let k = if codes.contains(&15) { beyond } else { log };
+    let before = image.clone();
+    assert_eq!(
+        SUBJECT.purge(&mut image, k),
+        lowest(codes),
+        "{codes:?} {floors} {k}"
+    );
+    assert_eq!(image == before, lowest(codes) != 0);
+}
+
+#[test]
+fn purge_answers_the_lowest() {
+    for codes in choices(&[1, 2, 15, 16]) {
+        for floors in [false, true] {
+            for beyond in [34, 65, 256, 65_536, u32::MAX] {
+                check_purge(&codes, floors, beyond);
+            }
+        }
     }
 }
 

@@ -12,11 +12,11 @@ mod stations;
 use std::collections::{BTreeMap, BTreeSet};
 use std::process::{Command, Output};
 
-use bivamolune_tests::boundary::Calls;
+use bivamolune_tests::boundary::{Calls, Reference};
 use bivamolune_tests::call::Composing;
 use bivamolune_tests::faulty::{Fault, Faulty};
 use bivamolune_tests::plant::{run, Duty, Hazard, Left, Run, Station, What, HAZARDS};
-use bivamolune_tests::view::u16_at;
+use bivamolune_tests::view::{messages, sequence_of, u16_at};
 use bivamolune_tests::wire::{set, Sequence};
 use common::{A, B, C, SUBJECT};
 use passing::{ForgetsHeld, HeldAsTheyCame};
@@ -24,10 +24,18 @@ use stations::{deliver, station};
 
 /// The seeds that are run here; the program runs more.
 const SEEDS: std::ops::Range<u64> = 0..300;
+/// Those of plants whose stations purge.
+const PURGING: std::ops::Range<u64> = 0..200;
+/// A seed of six stations that purge, with twice as many deltas as a station has room for.
+const LONG: u64 = 8;
 
 /// Runs a seed with the duty kept, and checks it.
 fn kept(calls: &dyn Calls, seed: u64) -> Result<Run, String> {
-    let run = run(calls, seed, Duty::Kept(Hazard::Crash))?;
+    kept_against(Hazard::Crash, calls, seed)
+}
+
+fn kept_against(hazard: Hazard, calls: &dyn Calls, seed: u64) -> Result<Run, String> {
+    let run = run(calls, seed, Duty::Kept(hazard))?;
     run.check(calls)?;
     Ok(run)
 }
@@ -83,44 +91,163 @@ fn a_seed_gives_its_run_again() {
     }
 }
 
-/// The events tell the whole run: played again, they give each host's log.
+/// The events tell the whole run: played again, they give each host's log, and what was
+/// purged before it.
 #[test]
 fn events_tell_each_log() {
     for (_, hazard) in HAZARDS {
         for seed in SEEDS.take(30) {
             let run = run(&SUBJECT, seed, Duty::Kept(hazard)).expect("it runs");
-            let hosts: Vec<_> = run.memories.iter().map(|m| m.host.log.clone()).collect();
-            assert_eq!(told_logs(&run), hosts, "{hazard:?}, seed {seed}");
+            let memories = run.memories.iter();
+            let ends: Vec<Told> = memories.map(|m| (m.history(), m.purged.len())).collect();
+            assert_eq!(tale(&run).ends, ends, "{hazard:?}, seed {seed}");
         }
     }
 }
 
-/// The log of each station, by the events alone.
-fn told_logs(run: &Run) -> Vec<Vec<Sequence>> {
-    let mut logs = vec![Vec::new(); run.memories.len()];
-    let (mut saved, mut backups) = (logs.clone(), logs.clone());
+/// A station's whole history, and how much of it was purged.
+type Told = (Vec<Sequence>, usize);
+
+/// What the events alone tell.
+#[derive(Default)]
+struct Tale {
+    ends: Vec<Told>,
+    /// A delta arrived that was purged.
+    late: bool,
+    /// A station purged while another had not yet executed all that this one had.
+    midway: bool,
+    /// A station went down after a purge that it had not saved.
+    forgotten: bool,
+}
+
+fn tale(run: &Run) -> Tale {
+    let mut tale = Tale::default();
+    let mut now: Vec<Told> = vec![(Vec::new(), 0); run.memories.len()];
+    let (mut saved, mut backups) = (now.clone(), now.clone());
     let mut time = 0;
     for event in &run.events {
         assert!(event.time >= time);
         time = event.time;
+        mark_purges(&mut tale, &event.what, &now, &saved);
         match event.what {
-            What::Executed(at, sequence) => logs[at].push(sequence),
-            What::Undone(at, sequence) => assert_eq!(logs[at].pop(), Some(sequence)),
-            What::Saved(at) | What::Cut(at, Left::New) => saved[at] = logs[at].clone(),
+            What::Executed(at, sequence) => now[at].0.push(sequence),
+            What::Undone(at, sequence) => assert_eq!(now[at].0.pop(), Some(sequence)),
+            What::Purged(at, count) => now[at].1 += count,
+            What::Saved(at) | What::Cut(at, Left::New) => saved[at] = now[at].clone(),
             What::BackedUp(at) => backups[at] = saved[at].clone(),
-            What::Restarted(at) => logs[at] = saved[at].clone(),
+            What::Restarted(at) => now[at] = saved[at].clone(),
             What::Restored(at) => {
                 saved[at] = backups[at].clone();
-                logs[at] = backups[at].clone();
+                now[at] = backups[at].clone();
             }
             What::Cloned(from, to) => {
                 saved[to] = saved[from].clone();
-                logs[to] = saved[from].clone();
+                now[to] = saved[from].clone();
             }
             _ => {}
         }
     }
-    logs
+    tale.ends = now;
+    tale
+}
+
+/// Marks what an event shows of purges, with what the stations have and had saved before it.
+fn mark_purges(tale: &mut Tale, what: &What, now: &[Told], saved: &[Told]) {
+    match what {
+        What::Delivered(at, sequence, 0) => {
+            let (history, purged) = &now[*at];
+            tale.late |= history[..*purged].contains(sequence);
+        }
+        What::Purged(at, _) => {
+            let own = &now[*at].0;
+            let behind = |other: &Told| own.iter().any(|delta| !other.0.contains(delta));
+            tale.midway |= now.iter().any(behind);
+        }
+        What::Restarted(at) => tale.forgotten |= saved[*at].1 < now[*at].1,
+        _ => {}
+    }
+}
+
+/// Stations that purge what all have executed, each when it may and as much as it will, agree
+/// in the end all the same: one history, which is the log of all deltas as if nothing had been
+/// purged, one row of setpoints, which each hardware shows, and equal images as soon as they
+/// have purged as far. Deltas that come again after they were purged change nothing.
+#[test]
+fn stations_that_purge_agree_in_the_end() {
+    let mut seen: BTreeMap<&str, usize> = BTreeMap::new();
+    for seed in PURGING {
+        let run = kept_against(Hazard::Purge, &SUBJECT, seed);
+        let run = run.unwrap_or_else(|error| panic!("seed {seed}: {error}"));
+        let mut mark = |name, is: bool| *seen.entry(name).or_default() += usize::from(is);
+        let any = |kind: fn(&What) -> bool| run.count(kind) > 0;
+        let tale = tale(&run);
+        let lengths: BTreeSet<usize> = run.memories.iter().map(|m| m.purged.len()).collect();
+        mark("purged", any(|what| matches!(what, What::Purged(..))));
+        mark("purged late", tale.late);
+        mark("purged apart", lengths.len() > 1);
+        mark("purged alike", lengths.len() < run.memories.len());
+        mark("purged midway", tale.midway);
+        mark("purge forgotten", tale.forgotten);
+        mark("over 64 deltas", run.deltas() > 64);
+        mark("undone", any(|what| matches!(what, What::Undone(..))));
+        mark("lost", any(|what| matches!(what, What::Lost(..))));
+        mark("held for good", u16_at(&run.memories[0].image, 2) > 0);
+    }
+    println!("{seen:?}");
+    assert_eq!(seen.len(), 10);
+    assert!(seen.values().all(|count| *count >= 10), "{seen:?}");
+}
+
+/// A plant runs on past what a station has room for. A station that gets the same deltas in
+/// the same order and never purges takes 64, and refuses each one that follows by 8.
+#[test]
+fn a_plant_that_purges_runs_long() {
+    let run = kept_against(Hazard::Purge, &SUBJECT, LONG).expect("it runs");
+    let first = &run.memories[0];
+    let log = messages(&first.image, 0, u16_at(&first.image, 0));
+    let history = [first.purged.clone(), log].concat();
+    assert_eq!(run.memories.len(), 6);
+    assert!(history.len() > 128, "{}", history.len());
+    for memory in &run.memories {
+        let again = history.iter().map(|message| sequence_of(message));
+        assert!(memory.history().into_iter().eq(again));
+    }
+    let mut full = station(A);
+    let codes: Vec<u32> = history.iter().map(|m| deliver(&mut full, m)).collect();
+    let (taken, refused) = codes.split_at(64);
+    assert!(taken.iter().all(|code| *code == 0));
+    assert!(refused.iter().all(|code| *code == 8));
+}
+
+/// A purge that is wrong in one thing, which the second implementation's is not.
+struct WrongPurge(fn(&mut [u8], u32) -> u32);
+
+impl Calls for WrongPurge {
+    fn purge(&self, image: &mut [u8], k: u32) -> u32 {
+        self.0(image, k)
+    }
+}
+
+/// Purges that are wrong do not come through: nothing is dropped, or one too few, or the
+/// greatest block is forgotten.
+#[test]
+fn the_plant_finds_wrong_purges() {
+    let faults: [fn(&mut [u8], u32) -> u32; 3] = [
+        |_, _| 0,
+        |image, k| Reference.purge(image, k.saturating_sub(1)),
+        |image, k| {
+            let code = Reference.purge(image, k);
+            image[16..20].fill(0);
+            code
+        },
+    ];
+    for (place, fault) in faults.into_iter().enumerate() {
+        let wrong = WrongPurge(fault);
+        let mut seeds = PURGING;
+        let found = seeds.find(|seed| kept_against(Hazard::Purge, &wrong, *seed).is_err());
+        println!("{place}: seed {found:?}");
+        assert!(found.is_some(), "{place}");
+    }
 }
 
 /// Wrong implementations do not come through.

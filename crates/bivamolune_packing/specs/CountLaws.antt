@@ -16,7 +16,7 @@ use Rattle.model_runs.specs.Run.{delivery, CallAgrees}
 use Rattle.laws_state.specs.LogLaws.{log-length}
 use Rattle.laws_state.specs.ImageLaws.{image-own, own-valid}
 use Rattle.laws_state.specs.DeliverLaws.{receive-valid}
-use Rattle.laws_run.specs.RunLaws.{call-facts}
+use Rattle.laws_run.specs.CallRuns.{call-facts}
 use Rattle.laws_codes.specs.Ladder.{all-free, not-not}
 
 pub record Counted (d : Delivered) : Type 0 where

@@ -87,9 +87,11 @@ part-before d at s m j n h k =
     ∙ part-of-first (take at d) (take m s ++ drop (at + m) d) j n inside ∙ sym (part-of-first (take at d) (drop at d) j n inside)
     ∙ ap (λ (l : List ℕ). take n (drop j l)) (take-append-drop at d)
 
-pub part-here : (d : List ℕ) (at : ℕ) (s : List ℕ) (n : ℕ) → at ≤ length d → n ≡ length s → take n (drop at (paste d at s n)) ≡ s
-part-here d at s n h e =
+pub part-pasted : (d : List ℕ) (at : ℕ) (s : List ℕ) (n : ℕ) → at ≤ length d → n ≤ length s → take n (drop at (paste d at s n)) ≡ take n s
+part-pasted d at s n h g =
     let behind : List ℕ = drop (at + n) d in
     ap (λ (l : List ℕ). take n (drop at l)) (append-assoc (take at d) (take n s) behind)
-    ∙ ap (take n) (drop-at (take at d) (take n s ++ behind) at (length-take-le at d h))
-    ∙ take-at (take n s) behind n (length-take-le n s (omega arith)) ∙ take-all n s (omega arith)
+    ∙ ap (take n) (drop-at (take at d) (take n s ++ behind) at (length-take-le at d h)) ∙ take-at (take n s) behind n (length-take-le n s g)
+
+pub part-here : (d : List ℕ) (at : ℕ) (s : List ℕ) (n : ℕ) → at ≤ length d → n ≡ length s → take n (drop at (paste d at s n)) ≡ s
+part-here d at s n h e = part-pasted d at s n h (omega arith) ∙ take-all n s (omega arith)

@@ -2,38 +2,41 @@
 -- them, over what they were proved to leave behind; reader and texts of the library's own calls; images, floors and offsets of the definitions.
 -- A buffer is a list of bytes; `×` is and, `⊎` or, `¬` not, `↔` exactly if, `∈` that a list has it.
 use mathlib.Core.Path.{_≡_, sym, _∙_, ap, subst}
-use mathlib.Core.Logic.{_↔_, _⊎_}
-use mathlib.Core.Bool.{true, not}
+use mathlib.Core.Logic.{_↔_, _⊎_, inr}
+use mathlib.Core.Bool.{Bool, true, not, _&&_}
 use mathlib.Core.Option.{some}
 use mathlib.Core.List.{List, [], _∷_, _++_}
 use Prim.Native.Nat.{ℕ, suc, _+_, _-_, _≤_, _<_, min, max}
+use native.Mathlib.Omega.{arith}
 use lib.ListN.{length, take, drop, getD, replicate}
 use lib.Dec.{T}
 use lib.IntN.{ℤ, pos}
 use Rattle.model.specs.Lists.{_∈_, greatest, sum, ascending}
 use Rattle.model.specs.Bytes.{number, field}
 use Rattle.model.specs.Layout.{capacity, stepRoom, priorityFlagAt, sequencesRoom, textRoom}
-use Rattle.model.specs.Message.{Message, dependencyCount, commandsStart, sequenceOf, groupOf, blockOf, priorityOf, dependenciesOf, needsOf, lineOf, numberOf, predecessorOf, passes}
-use Rattle.model.specs.Order.{State, Ascending, purged, needs, sequencesOf, effectiveBlock, MeetsRing, Executable, Grounded, IsLog, logOf}
+use Rattle.model.specs.Message.{Message, dependencyCount, commandsStart, sequenceOf, groupOf, blockOf, priorityOf, dependenciesOf, needsOf, lineOf, numberOf, predecessorOf, numbered, passes}
+use Rattle.model.specs.Order.{State, Ascending, purged, needs, sequencesOf, effectiveBlock, keyOf, MeetsRing, Executable, Grounded, IsLog, logOf}
 use Rattle.model.specs.Setpoints.{startValues, runLog}
 use Rattle.model.specs.Image.{Valid, imageOf, originIn, valuesIn, logIn, heldIn, stateIn, isImage, messagesIn, messagesStartIn, offsetOf, walk, messageOffset, usedCount}
 use Rattle.model.specs.Steps.{Step, undosOf, executionsOf, recordsOf, Plays, Standing, execute, readSteps}
-use Rattle.model.specs.Compose.{numberOn, lastSequence}
-use Rattle.model.specs.Codes.{Conditions, lowestCode, emptyConditions, deliverConditions, composeConditions, readConditions, logMessageConditions, setpointConditions, readSequencesConditions, writeSequencesConditions}
-use Rattle.model.specs.Calls.{Emptied, empty, Delivered, deliver, Composed, compose, logMessageCode, logMessage, Setpoint, setpoint, start, Converted, convertedAnswer, front, readSequences, writeSequences}
-use Rattle.model_runs.specs.Run.{Given, Event, imageAfter, Run, stateAfter, logAfter, oldLog, accepts?, codeFor, acceptedIn, Played, recordsRead, PairsPlayed}
+use Rattle.model.specs.Compose.{numberOn, lastSequence, newNumber, newBlock, newGroup}
+use Rattle.model.specs.Codes.{Conditions, lowestCode, emptyConditions, deliverConditions, purgeConditions, composeConditions, readConditions, logMessageConditions, setpointConditions, readSequencesConditions, writeSequencesConditions}
+use Rattle.model.specs.Calls.{Emptied, empty, Delivered, deliver, Purged, purge, Composed, compose, logMessageCode, logMessage, Setpoint, setpoint, start, Converted, convertedAnswer, front, readSequences, writeSequences}
+use Rattle.model_runs.specs.Run.{Given, Event, imageAfter, Run, stateAfter, logAfter, oldLog, accepts?, codeFor, acceptedIn, remainingIn, deliveries, purgedAfter, Played, History, recordsRead, PairsPlayed}
 use Rattle.model_runs.specs.RunOrder.{receivedIn}
 use Rattle.laws_run.specs.CalledRuns.{Began, Answered}
 use Rattle.laws_compose.specs.ComposeLaws.{messageBy}
 use Rattle.laws_compose.specs.ComposedFields.{NeededByNone}
 use Rattle.laws_state.specs.ImageLaws.{image-own, own-valid}
+use Rattle.laws_purge.specs.PurgedFloors.{own-numbered}
+use Rattle.theorems.specs.PurgeTheorems.{purge-dropped}
 use Rattle.theorems.specs.Theorems.{CodeLaw, floor-law, purged-law, image-law, image-order, image-of-one-origin, offset-law}
-use Rattle.theorems_refusals.specs.Refusals.{empty-codes, deliver-codes, compose-codes, log-message-codes, setpoint-codes, read-sequences-codes, write-sequences-codes}
+use Rattle.theorems_refusals.specs.Refusals.{empty-codes, deliver-codes, purge-codes, compose-codes, log-message-codes, setpoint-codes, read-sequences-codes, write-sequences-codes}
 use Rattle.theorems_texts.specs.Texts.{ReadFrom, WrittenFrom, written-read, read-written}
 use Rattle.read_log.specs.declared.reader.LogReader.{LogReader}
 use Rattle.read_log.specs.Reader.{readerOf, Starts}
 use Rattle.read_log.specs.Readings.{NextCalls, calls-read}
-use Rattle.theorems_host.specs.HostRuns.{HostEmptied, host-emptied-as, HostDelivered, host-delivered-as, host-agreement, host-order-kept}
+use Rattle.theorems_host.specs.HostRuns.{HostEmptied, host-emptied-as, HostDelivered, host-delivered-as, HostPurged, host-purged-as, host-agreement, host-order-kept, host-equal-accepted}
 use Rattle.theorems_host.specs.HostComposes.{HostComposed, host-composed-as, host-composed-keeps}
 use Rattle.theorems_host.specs.HostReads.{HostLogMessage, host-log-message-as, HostSetpoint, host-setpoint-as, HostRead, host-read-as, HostWritten, host-written-as}
 
@@ -51,6 +54,9 @@ empty-answers buffer a c = (host-emptied-as buffer a c, refuses (empty-codes buf
 pub deliver-answers : (b : List ℕ) (m : Message) (steps : List ℕ) (a : Delivered) → HostDelivered b m steps a → (a ≡ deliver b m steps)
     × Refuses (deliverConditions b m (length steps)) (a .code) ((a .undos ≡ 0) × (a .executions ≡ 0) × (a .image ≡ b) × (a .steps ≡ steps))
 deliver-answers b m steps a c = (host-delivered-as b m steps a c, refuses (deliver-codes b m steps a c))
+
+pub purge-answers : (b : List ℕ) (K : ℕ) (a : Purged) → HostPurged b K a → (a ≡ purge b K) × Refuses (purgeConditions b K) (a .code) (a .image ≡ b)
+purge-answers b K a c = (host-purged-as b K a c, refuses (purge-codes b K a c))
 
 pub compose-answers : (b line commands : List ℕ) (flag priority : ℕ) (buffer : List ℕ) (a : Composed) → HostComposed b line commands flag priority buffer a
     → (a ≡ compose b line commands flag priority buffer) × Refuses (composeConditions b line commands flag priority (length buffer)) (a .code) ((a .size ≡ 0) × (a .message ≡ buffer))
@@ -71,9 +77,9 @@ pub write-answers : (b buffer : List ℕ) (a : Converted) → HostWritten b buff
     → (a ≡ writeSequences b buffer) × Refuses (writeSequencesConditions b (length buffer)) (a .code) ((a .size ≡ 0) × (a .buffer ≡ buffer))
 write-answers b buffer a c = (host-written-as b buffer a c, refuses (write-sequences-codes b buffer a c))
 
--- ---- DEMANDS 3 AND 2: `bivamolune_empty` was lent what is given and wrote the image b, and each `bivamolune_deliver` got it as the last call left it. The latest call stands first.
+-- ---- DEMANDS 3 AND 2: `bivamolune_empty` was lent what is given and wrote the image b, and each `bivamolune_deliver` and `bivamolune_purge` got it as the last call left it. The latest call stands first.
 module _ (given : Given) (b : List ℕ) (begun : Began HostEmptied given b) where
-  module _ (call : Event) (earlier : List Event) (run : Run (Answered HostDelivered) b (call ∷ earlier)) where
+  module _ (call : Event) (earlier : List Event) (run : Run (Answered HostDelivered HostPurged) b (call ∷ earlier)) where
     -- "Deliver answers 0 exactly where the plain station accepts, and otherwise the lowest number that applies."
     pub codes : ((call .answer .code ≡ 0) ↔ T (accepts? (stateAfter given earlier) (call .call))) × (call .answer .code ≡ codeFor (imageAfter b earlier) (call .call))
     codes = let o = host-agreement .call given b begun call earlier run in (o .accepted, o .code)
@@ -88,30 +94,42 @@ module _ (given : Given) (b : List ℕ) (begun : Began HostEmptied given b) wher
         recordsRead (call .answer) ≡ some (recordsOf (startValues next) (oldLog (stateAfter given earlier) (call .call) (call .answer .code)) (logOf next))
     records = host-agreement .call given b begun call earlier run .records
 
-  module _ (calls : List Event) (run : Run (Answered HostDelivered) b calls) where
+  module _ (calls : List Event) (run : Run (Answered HostDelivered HostPurged) b calls) where
     -- "Its log and image are those of the set"; "the played log, the image's log and the plain station's log are the same ..", and the pairs lead to "the image's values".
     pub played : (imageAfter b calls ≡ imageOf (stateAfter given calls))
         × ((log : List ℕ) → Played calls log ↔ (log ≡ logAfter given calls)) × (sequencesOf (logIn (imageAfter b calls)) ≡ logAfter given calls)
         × ((values : List ℤ) → ((standing : List Standing) × PairsPlayed b calls standing values) ↔ (values ≡ valuesIn (imageAfter b calls)))
     played = let o = host-agreement .list given b begun calls run in (o .image, o .played, o .imageLog, o .setpoints)
 
-    -- "the first of all such listings"; received: accepted; "executed exactly when all it needs, step by step back, was received and contains no ring" (demand 2)
-    pub executed : let S = stateAfter given calls in let log = logIn (imageAfter b calls) in IsLog S log × ((m : Message) → (m ∈ S .deltas) ↔ (m ∈ receivedIn calls))
-        × ((m : Message) → m ∈ receivedIn calls → ((m ∈ log) ↔ Executable S m) × ((m ∈ log) ↔ Grounded S m))
+    -- "A floor is a line and its highest purged number"; "Purged deltas keep their order ahead of all later ones": played on a list that no purge shortens, the steps lead to what was purged, and then the log.
+    pub purged-ahead : ((s : ℕ) → (s ∈ purgedAfter given calls) ↔ T (numbered s && purged (stateAfter given calls) s))
+        × ((all : List ℕ) → History calls all ↔ (all ≡ purgedAfter given calls ++ logAfter given calls))
+    purged-ahead = let o = host-agreement .list given b begun calls run in (o .purged, o .history)
+
+    -- "the first of all such listings"; received: accepted, and not purged; "executed exactly when all it needs, step by step back, was received and contains no ring" (demand 2)
+    pub executed : let S = stateAfter given calls in let log = logIn (imageAfter b calls) in IsLog S log × ((m : Message) → (m ∈ S .deltas) ↔ (m ∈ receivedIn given calls))
+        × ((m : Message) → m ∈ receivedIn given calls → ((m ∈ log) ↔ Executable S m) × ((m ∈ log) ↔ Grounded S m))
     executed = let o = host-order-kept .in-order given b begun calls run in (o .first, o .deltas, λ m k. (o .executed m k, o .grounded m k))
 
     -- "All others are held", "by ascending sequence"
-    pub held : ((m : Message) → (m ∈ heldIn (imageAfter b calls)) ↔ ((m ∈ receivedIn calls) × ¬ Executable (stateAfter given calls) m)) × Ascending (heldIn (imageAfter b calls))
+    pub held : ((m : Message) → (m ∈ heldIn (imageAfter b calls)) ↔ ((m ∈ receivedIn given calls) × ¬ Executable (stateAfter given calls) m)) × Ascending (heldIn (imageAfter b calls))
     held = let o = host-order-kept .in-order given b begun calls run in (o .held, o .held-ascend)
 
   -- "a ring of deltas is held for good"
-  pub ring-held : (later calls : List Event) → Run (Answered HostDelivered) b (later ++ calls) → (m : Message) → m ∈ receivedIn calls → MeetsRing (stateAfter given calls) m → m ∈ heldIn (imageAfter b (later ++ calls))
+  pub ring-held : (later calls : List Event) → Run (Answered HostDelivered HostPurged) b (later ++ calls) → (m : Message) → m ∈ receivedIn given calls → MeetsRing (stateAfter given calls) m → m ∈ heldIn (imageAfter b (later ++ calls))
   ring-held = host-order-kept .ring-held given b begun
 
--- "So a set of deltas has one image": two stations that accepted the same messages have equal images.
-pub equal-images : (given other : Given) (b c : List ℕ) → Began HostEmptied given b → Began HostEmptied other c → (calls others : List Event) → Run (Answered HostDelivered) b calls → Run (Answered HostDelivered) c others
-    → ((m : Message) → (m ∈ acceptedIn calls) ↔ (m ∈ acceptedIn others)) → imageAfter b calls ≡ imageAfter c others
-equal-images given other b c p q calls others run run′ same = host-agreement .equal given other b c p q calls others run run′ (record { accepted = same })
+-- "Equal images are promised to stations whose floors, base values, purged block and group agree and whose remaining deltas are the same."
+pub equal-images : (given other : Given) (b c : List ℕ) → Began HostEmptied given b → Began HostEmptied other c → (calls others : List Event) → Run (Answered HostDelivered HostPurged) b calls → Run (Answered HostDelivered HostPurged) c others
+    → let O = stateAfter given calls .origin in let N = stateAfter other others .origin in O .floors ≡ N .floors → O .base ≡ N .base → O .block ≡ N .block → O .group ≡ N .group
+    → ((m : Message) → (m ∈ remainingIn given calls) ↔ (m ∈ remainingIn other others)) → imageAfter b calls ≡ imageAfter c others
+equal-images given other b c p q calls others run run′ floors base block group same =
+    host-agreement .equal given other b c p q calls others run run′ (record { floors = floors; base = base; block = block; group = group; remaining = same })
+
+-- "So a set of deltas has one image": of lists without purges, two stations that accepted the same messages have equal images.
+pub equal-accepted : (given other : Given) (b c : List ℕ) → Began HostEmptied given b → Began HostEmptied other c → (calls others : List Event) → T (deliveries calls) → T (deliveries others)
+    → Run (Answered HostDelivered HostPurged) b calls → Run (Answered HostDelivered HostPurged) c others → ((m : Message) → (m ∈ acceptedIn calls) ↔ (m ∈ acceptedIn others)) → imageAfter b calls ≡ imageAfter c others
+equal-accepted given other b c p q calls others alone alone′ run run′ same = host-equal-accepted given other b c p q calls others alone alone′ run run′ (record { accepted = same })
 
 -- ---- FLOORS, as the host sees them: "A delivery at or below a floor answers 0 with no step, and its message joins no set; 7 and 8 are not looked for there." Every byte stays.
 pub floor-delivered : (b : List ℕ) → T (isImage b) → (m : Message) (steps : List ℕ) → stepRoom ≤ length steps → T (passes m) → T (purged (stateIn b) (sequenceOf m))
@@ -138,6 +156,29 @@ image-ordered b i = let o = image-order b i in (
 -- And of the definitions: "A need at or below its floor counts as placed, and no effective block counts below the greatest purged one."
 pub floors : (S : State) → Valid S → ((m : Message) (s : ℕ) → (s ∈ needs S m) ↔ ((s ∈ needsOf m) × ¬ T (purged S s))) × ((m : Message) → m ∈ S .deltas → Executable S m → S .origin .block ≤ effectiveBlock S m)
 floors S v = (floor-law S v .waits, floor-law S v .block)
+
+-- ---- PURGE, as the host sees it: `bivamolune_purge` answered 0. The rest of the log stands as it stood, with its effective blocks and keys; held ones and setpoints stay; "the setpoints after them
+-- become the base values"; K messages are gone; what is at or below a floor is what was, and what was dropped.
+module _ (b : List ℕ) (image : T (isImage b)) (K : ℕ) (a : Purged) (call : HostPurged b K a) (answered : a .code ≡ 0) where
+  pub purge-drops : T (isImage (a .image)) × (logIn (a .image) ≡ drop K (logIn b)) × (heldIn (a .image) ≡ heldIn b) × (valuesIn (a .image) ≡ valuesIn b)
+      × (originIn (a .image) .base ≡ runLog (take K (logIn b)) (originIn b .base)) × (length (messagesIn (a .image)) + K ≡ length (messagesIn b))
+  purge-drops = let d = purge-dropped b image K a (host-purged-as b K a call) answered in (d .image, d .log, d .held, d .setpoints, d .base, d .freed)
+
+  pub purge-keeps : let S = stateIn b in let R = stateIn (a .image) in ((m : Message) → m ∈ logIn (a .image) → (effectiveBlock R m ≡ effectiveBlock S m) × (keyOf R m ≡ keyOf S m))
+      × ((s : ℕ) → T (numbered s) → T (purged R s) ↔ (T (purged S s) ⊎ (s ∈ sequencesOf (take K (logIn b)))))
+  purge-keeps = let d = purge-dropped b image K a (host-purged-as b K a call) answered in (d .kept .keys, d .kept .floors)
+
+  -- "A delivery at or below a floor answers 0 with no step": a purged delta that comes again leaves every byte.
+  pub purged-again : (m : Message) (steps : List ℕ) → stepRoom ≤ length steps → T (passes m) → sequenceOf m ∈ sequencesOf (take K (logIn b))
+      → (d : Delivered) → HostDelivered (a .image) m steps d → d ≡ record { code = 0; undos = 0; executions = 0; image = a .image; steps = steps }
+  purged-again m steps room pass gone d h =
+      let p = purge-dropped b image K a (host-purged-as b K a call) answered in
+      floor-delivered (a .image) (p .image) m steps room pass (p .kept .floors (sequenceOf m) (own-numbered m pass) .1 (inr gone)) d h
+
+  -- "Compose counts floors, purged group and purged block too; on a log emptied by purging the group is the greatest purged group plus one": what is composed next goes on.
+  pub composed-past : let S = stateIn b in let R = stateIn (a .image) in ((line : ℕ) → newNumber R line ≡ newNumber S line) × ((flag : Bool) → newBlock R flag ≡ newBlock S flag)
+      × (K < length (logIn b) → (s : ℕ) → newGroup R s ≡ newGroup S s) × (K ≡ length (logIn b) → (s : ℕ) → newGroup R s ≡ suc (max (S .origin .group) (greatest groupOf (logIn b))))
+  composed-past = let d = purge-dropped b image K a (host-purged-as b K a call) answered in (d .kept .number, d .kept .block, d .kept .group, λ e. d .kept .emptied (omega (arith, e)))
 
 -- ---- COMPOSE, as the host sees it: `bivamolune_compose` answered 0. Number, dependencies, group, block, and what was handed over; length and rest; delivery. Floors, purged group and
 -- purged block count too; they are none and 0 before any purge.

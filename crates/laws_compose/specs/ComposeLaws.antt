@@ -36,7 +36,7 @@ use Rattle.laws_wire.specs.BytesLaws.{number-range}
 use Rattle.laws_state.specs.ImageLaws.{log-passes, image-own, own-valid}
 use Rattle.laws_state.specs.CodeLaws.{compose-code}
 use Rattle.laws_state.specs.DeliverLaws.{code-zero, receive-accepted, take-in-above}
-use Rattle.laws_run.specs.RunLaws.{steps-read, call-facts}
+use Rattle.laws_run.specs.CallRuns.{steps-read, call-facts}
 use Rattle.laws_codes.specs.Ladder.{all-free, not-not}
 use Rattle.laws_compose.specs.ComposedMessage.{HasParts, Parts, made-parts, made-passes}
 use Rattle.laws_compose.specs.ComposeFacts.{own-numbered, own-new, own-above, predecessor-logged, dependency-logged, dependencies-ascend, dependencies-numbered, dependencies-other, dependencies-not-predecessor, unneeded-named}

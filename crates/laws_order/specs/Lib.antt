@@ -1,11 +1,14 @@
 pub mod ListLaws
 pub mod TestLaws
+pub mod MaxLaws
 pub mod ScanLaws
 pub mod KeyOrder
 pub mod StepLaws
 pub mod CommonLaws
 pub mod ListingLaws
 pub mod Greedy
+pub mod Behind
+pub mod Ascent
 pub mod Extension
 pub mod ListingPlaces
 pub mod InPlace

@@ -1,11 +1,10 @@
-pub mod RaiseLaws
-pub mod RaiseRight
-pub mod Behind
-pub mod Ascent
-pub mod AscentLaws
 pub mod PurgedFloors
 pub mod PurgedBlocks
 pub mod PurgeLaws
-pub mod RunLaws
 pub mod PurgedState
 pub mod PurgeValid
+pub mod PurgeCodes
+pub mod PurgedRings
+pub mod PurgedPairs
+pub mod PurgedCompose
+pub mod PurgeTwice

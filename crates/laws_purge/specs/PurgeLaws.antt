@@ -10,7 +10,7 @@ use Rattle.model.specs.Purge.{purgeFirst}
 use Rattle.laws_order.specs.KeyOrder.{less-total}
 use Rattle.laws_state.specs.SetLaws.{ascending-names}
 use Rattle.laws_state.specs.LogLaws.{keys-differ}
-use Rattle.laws_purge.specs.Behind.{Left, behind-first}
+use Rattle.laws_order.specs.Behind.{Left, behind-first}
 use Rattle.laws_purge.specs.PurgedFloors.{placed-named, named-placed, left-is, left-ascends, needs-fewer, needs-others}
 use Rattle.laws_purge.specs.PurgedBlocks.{key-stays}
 

@@ -2,27 +2,28 @@
 use mathlib.Core.Path.{_≡_, refl, sym, _∙_, ap, subst}
 use mathlib.Core.Bool.{Bool, true, false, cond, _||_}
 use mathlib.Core.List.{List, [], _∷_, List·Memᴰ·head, List·Memᴰ·tail}
-use Prim.Native.Nat.{ℕ, zero, suc, _^_, _≤_, _<_, max}
+use Prim.Native.Nat.{ℕ, zero, suc, _^_, _≤_, _<_}
 use native.Mathlib.Omega.{arith}
-use native.Mathlib.Nat.{le-trans}
+use native.Mathlib.Nat.{le-trans, max-le}
 use lib.ListN.{length, take}
+use lib.IntN.{ℤ, pos}
+use lib.Signed.{leZ}
 use lib.Dec.{T, eqb, ltb, leb, leb→le, le→leb, lt→ltb}
 use Rattle.model.specs.Lists.{_∈_, every}
-use Rattle.model.specs.Layout.{fieldLimit, sequenceSize, tagCount, mostFloors, capacity}
+use Rattle.model.specs.Layout.{lowestValue, highestValue, fieldLimit, sequenceSize, tagCount, mostFloors, capacity}
 use Rattle.model.specs.Message.{Message, sequenceOf, groupOf, blockOf, numbered, contentRight, passes}
 use Rattle.model.specs.Tops.{topsRight, raiseTops}
 use Rattle.model.specs.Order.{Origin, State, inRange, allZero, originRight, find, sequencesOf, needs, blockAlong, effectiveBlock, logOf}
 use Rattle.model.specs.Setpoints.{startValues, runLog}
 use Rattle.model.specs.Image.{Valid}
 use Rattle.model.specs.Purge.{originPast, purgeFirst}
-use Rattle.laws_order.specs.TestLaws.{and-l, and-r, and-i, or-l, eq→eqb, keep-length}
-use Rattle.laws_order.specs.ListLaws.{greatest-≤, ∈-take, map-all}
+use Rattle.laws_order.specs.TestLaws.{∈-every, and-l, and-r, and-i, or-l, eq→eqb, keep-length}
+use Rattle.laws_order.specs.ListLaws.{∈-getD, greatest-≤, ∈-take, map-all}
 use Rattle.laws_wire.specs.MessageLaws.{sequence-range}
 use Rattle.laws_origin.specs.OriginLaws.{floors-right, base-length, block-limit, group-limit}
-use Rattle.laws_state.specs.ValueLaws.{start-range}
-use Rattle.laws_state.specs.ImageLaws.{log-passes}
-use Rattle.laws_purge.specs.RaiseRight.{raised-right, raise-some}
-use Rattle.laws_purge.specs.RunLaws.{length-run, run-range, range-passes}
+use Rattle.laws_state.specs.ValueLaws.{InRange, AllInRange, start-range, log-range}
+use Rattle.laws_state.specs.ImageLaws.{length-run, log-passes}
+use Rattle.laws_origin.specs.RaiseRight.{raised-right, raise-some}
 use Rattle.laws_purge.specs.PurgedFloors.{own-numbered, left-is, left-ascends, left-above}
 use Rattle.laws_purge.specs.PurgedState.{purge-nothing}
 
@@ -35,9 +36,6 @@ passes-block : (m : Message) → T (passes m) → blockOf m ≤ fieldLimit
 unfolding passes contentRight
 passes-block m t = leb→le (blockOf m) fieldLimit (search (and-l, and-r) depth 8)
 
-least-of : {x y z : ℕ} → x ≤ z → y ≤ z → max x y ≤ z
-least-of h k = omega arith
-
 -- and of the one that is found under a sequence, also where none is
 found-block : (l : List Message) → ((m : Message) → m ∈ l → blockOf m ≤ fieldLimit) → (s : ℕ) → blockOf (find l s) ≤ fieldLimit
 found-block [] h s = omega arith
@@ -47,11 +45,18 @@ found-block (m ∷ l) h s = go (eqb (sequenceOf m) s) (found-block l (λ x k. h 
     go true ih = h m (List·Memᴰ·head refl)
     go false ih = ih
 
+-- values in range pass the test
+range-passes : (values : List ℤ) → AllInRange values → T (every inRange values)
+range-passes values h = ∈-every inRange values (λ v k.
+    let g = ∈-getD (pos 0) k in
+    let r : InRange v = subst InRange (g .2) (h (g .0)) in
+    and-i (leZ lowestValue v) (leZ v highestValue) (r .0) (r .1))
+
 module _ (S : State) (valid : Valid S) where
   along-limit : (n s : ℕ) → blockAlong S n s ≤ fieldLimit
   along-limit zero s = omega arith
   along-limit (suc n) s =
-      least-of (least-of (found-block (S .deltas) (λ m k. passes-block m (valid .pass m k)) s) (block-limit (S .origin) (valid .right)))
+      max-le (max-le (found-block (S .deltas) (λ m k. passes-block m (valid .pass m k)) s) (block-limit (S .origin) (valid .right)))
       (greatest-≤ (blockAlong S n) (needs S (find (S .deltas) s)) fieldLimit (λ t k. along-limit n t))
 
   -- an effective block is within the limit
@@ -86,11 +91,11 @@ module _ (S : State) (valid : Valid S) where
         let a : T (leb (length floors) mostFloors) = le→leb (length floors) mostFloors few in
         let b : T (topsRight floors) = raised in
         let c : T (eqb (length (O .base)) tagCount) = eq→eqb base-sized in
-        let d : T (every inRange (O .base)) = range-passes (O .base) (run-range gone (startValues S) pass (start-range S valid)) in
+        let d : T (every inRange (O .base)) = range-passes (O .base) (log-range gone (startValues S) pass (start-range S valid)) in
         let e : T (leb (O .block) fieldLimit) = le→leb (O .block) fieldLimit
-        (least-of (block-limit (S .origin) (valid .right)) (greatest-≤ (effectiveBlock S) gone fieldLimit (λ m k. effective-limit m))) in
+        (max-le (block-limit (S .origin) (valid .right)) (greatest-≤ (effectiveBlock S) gone fieldLimit (λ m k. effective-limit m))) in
         let f : T (leb (O .group) fieldLimit) = le→leb (O .group) fieldLimit
-        (least-of (group-limit (S .origin) (valid .right)) (greatest-≤ groupOf gone fieldLimit (λ m k. passes-group m (pass m k)))) in
+        (max-le (group-limit (S .origin) (valid .right)) (greatest-≤ groupOf gone fieldLimit (λ m k. passes-group m (pass m k)))) in
         let some : 0 < length floors = raise-some (sequencesOf gone) (S .origin .floors) (omega arith) in
         let g : T (ltb 0 (length floors) || allZero O) = or-l (ltb 0 (length floors)) (allZero O) (lt→ltb 0 (length floors) some) in
         search and-i depth 8

@@ -1,66 +1,24 @@
 -- What a purge leaves of a valid state's log keeps its effective blocks, and so its keys.
 use mathlib.Core.Path.{_≡_, refl, sym, _∙_, ap, subst}
 use mathlib.Core.Logic.{⊎-elim}
-use mathlib.Core.List.{List, [], _∷_, _++_, List·Memᴰ·head, List·Memᴰ·tail, List·Memᴰ·not-nil, List·Memᴰ·cases-cons, List·Memᴰ·append-cases, Memᴰ·cast, Memᴰ·map, Memᴰ·of-map, Memᴰ·append-right}
+use mathlib.Core.List.{List, [], _++_, List·Memᴰ·append-cases, Memᴰ·cast, Memᴰ·map, Memᴰ·of-map}
 use Prim.Native.Nat.{ℕ, zero, suc, _≤_, max, zero-le}
 use native.Mathlib.Omega.{arith}
-use native.Mathlib.Nat.{le-refl, le-trans, le-antisymm}
+use native.Mathlib.Nat.{le-refl, le-trans, max-le, max-eq-right}
 use lib.ListN.{take, drop, take-append-drop}
-use lib.Dec.{T-not}
-use Rattle.model.specs.Lists.{_∈_, has, greatest}
+use Rattle.model.specs.Lists.{_∈_, greatest}
 use Rattle.model.specs.Message.{Message, sequenceOf, blockOf}
-use Rattle.model.specs.Listing as L
 use Rattle.model.specs.Order.{State, RightSet, find, sequencesOf, needs, Listing, ownBlock, blockAlong, effectiveBlock, statedPriority, keyWith, keyOf, logOf}
 use Rattle.model.specs.Purge.{originPast, purgeFirst}
 use Rattle.laws_order.specs.ListLaws.{greatest-≤, ∈-take, ∈-drop}
-use Rattle.laws_order.specs.TestLaws.{∈→has, greatest-≥}
-use Rattle.laws_order.specs.ListingLaws.{ready-fresh}
+use Rattle.laws_order.specs.TestLaws.{greatest-≥}
+use Rattle.laws_order.specs.Behind.{parts-apart}
 use Rattle.laws_state.specs.SetLaws.{find-here}
 use Rattle.laws_state.specs.LogLaws.{log-complete, log-received, log-closed}
-use Rattle.laws_purge.specs.Ascent.{Ascends, ascends-across}
-use Rattle.laws_purge.specs.AscentLaws.{logged-is, effective-ascends, along-least}
+use Rattle.laws_order.specs.MaxLaws.{le-left, le-right, max-less, raised-same}
+use Rattle.laws_order.specs.Ascent.{Ascends, ascends-across}
+use Rattle.laws_state.specs.AscentLaws.{logged-is, effective-ascends, along-least}
 use Rattle.laws_purge.specs.PurgedFloors.{left-is, left-ascends, needs-fewer, needs-others}
-
--- ---- numbers
-le-left : {x t : ℕ} (g : ℕ) → x ≤ t → x ≤ max t g
-le-left g h = omega arith
-
-le-right : {x g : ℕ} (t : ℕ) → x ≤ g → x ≤ max t g
-le-right t h = omega arith
-
-max-less : {x g : ℕ} (o : ℕ) → x ≤ g → max o x ≤ max o g
-max-less o h = omega arith
-
-least-of : {x y z : ℕ} → x ≤ z → y ≤ z → max x y ≤ z
-least-of h k = omega arith
-
-greater : {t x : ℕ} → t ≤ x → max t x ≡ x
-greater h = omega arith
-
--- numbers g and h that differ by no more than t
-raised-same : (b : ℕ) {o t g h : ℕ} → o ≤ t → g ≤ max t h → h ≤ max t g → max t (max (max b o) g) ≡ max (max b t) h
-raised-same b {o} {t} {g} {h} p q r =
-    let top : t ≤ max (max b t) h = le-left h (le-right b (le-refl t)) in
-    let old : t ≤ max t (max (max b o) g) = le-left (max (max b o) g) (le-refl t) in
-    le-antisymm
-    (least-of top (least-of (least-of (le-left h (le-left t (le-refl b))) (le-trans p top)) (le-trans q (least-of top (le-right (max b t) (le-refl h))))))
-    (least-of (least-of (le-right t (le-left g (le-left o (le-refl b)))) old) (le-trans r (least-of old (le-right t (le-right (max b o) (le-refl g))))))
-
--- ---- no name stands in both parts of a listing
-listed-fresh : {A : Type 0} (name : A → ℕ) (needs : A → List ℕ) (l : List A) (done : List ℕ)
-    → L.Listing name needs done l → (b : A) → b ∈ l → name b ∈ done → ⊥
-listed-fresh name needs [] done h b k j = List·Memᴰ·not-nil k
-listed-fresh name needs (a ∷ l) done h b k j =
-    let rest : b ∈ l → ⊥ = λ i. listed-fresh name needs l (name a ∷ done) (h .1) b i (List·Memᴰ·tail j) in
-    ⊎-elim (λ e. T-not (has (name a) done) (ready-fresh name needs done a (h .0)) (∈→has (Memᴰ·cast (ap name (sym e)) j))) rest (List·Memᴰ·cases-cons k)
-
-parts-apart : {A : Type 0} (name : A → ℕ) (needs : A → List ℕ) (p q : List A) (done : List ℕ)
-    → L.Listing name needs done (p ++ q) → (a b : A) → a ∈ p → b ∈ q → name a ≡ name b → ⊥
-parts-apart name needs [] q done h a b i j e = List·Memᴰ·not-nil i
-parts-apart name needs (x ∷ p) q done h a b i j e =
-    let rest : a ∈ p → ⊥ = λ k. parts-apart name needs p q (name x ∷ done) (h .1) a b k j e in
-    let clash : a ≡ x → name b ∈ name x ∷ done = λ u. List·Memᴰ·head (sym e ∙ ap name u) in
-    ⊎-elim (λ u. listed-fresh name needs (p ++ q) (name x ∷ done) (h .1) b (Memᴰ·append-right p j) (clash u)) rest (List·Memᴰ·cases-cons i)
 
 module _ (S : State) (right : RightSet S) (K : ℕ) where
   abbrev gone : List Message
@@ -88,7 +46,7 @@ module _ (S : State) (right : RightSet S) (K : ℕ) where
   )
 
   -- and so is what it needs still
-  pub rest-closed : (m : Message) → m ∈ drop K (logOf S) → (s : ℕ) → s ∈ needs (purgeFirst K S) m
+  rest-closed : (m : Message) → m ∈ drop K (logOf S) → (s : ℕ) → s ∈ needs (purgeFirst K S) m
       → (a : Message) × (a ∈ drop K (logOf S)) × (sequenceOf a ≡ s)
   rest-closed m k s j =
       let f = needs-fewer S right K m (rest-left m k) s j in
@@ -111,7 +69,7 @@ module _ (S : State) (right : RightSet S) (K : ℕ) where
   gone-low m k = subst (λ (n : ℕ). effectiveBlock S m ≤ n) (sym top-is) (le-right (S .origin .block) (greatest-≥ (effectiveBlock S) gone m k))
 
   rest-high : (m : Message) → m ∈ rest → top ≤ effectiveBlock S m
-  rest-high m k = subst (λ (n : ℕ). n ≤ effectiveBlock S m) (sym top-is) (least-of old new)
+  rest-high m k = subst (λ (n : ℕ). n ≤ effectiveBlock S m) (sym top-is) (max-le old new)
     where
       old : S .origin .block ≤ effectiveBlock S m
       old = subst (λ (n : ℕ). S .origin .block ≤ n) (sym (logged-is S right m (∈-drop K (logOf S) k)))
@@ -166,7 +124,7 @@ module _ (S : State) (right : RightSet S) (K : ℕ) where
 
   -- What is left of the log keeps its effective block,
   pub effective-stays : (m : Message) → m ∈ drop K (logOf S) → effectiveBlock (purgeFirst K S) m ≡ effectiveBlock S m
-  effective-stays m k = sym (one-more 63 (near-all 63) m k) ∙ greater (rest-high m k)
+  effective-stays m k = sym (one-more 63 (near-all 63) m k) ∙ max-eq-right (rest-high m k)
 
   -- and its key.
   pub key-stays : (m : Message) → m ∈ drop K (logOf S) → keyOf (purgeFirst K S) m ≡ keyOf S m

@@ -2,7 +2,7 @@
 use mathlib.Core.Path.{_≡_, refl, sym, _∙_, subst}
 use mathlib.Core.Logic.{_⊎_, inl, inr, ⊎-elim, _↔_}
 use mathlib.Core.Bool.{Bool, true, false, cond, not, _&&_}
-use mathlib.Core.List.{List, [], _∷_, _++_, List·Memᴰ·head, List·Memᴰ·not-nil, List·Memᴰ·append-cases, List·Memᴰ·eq-of-singleton, Memᴰ·cast, Memᴰ·map, Memᴰ·of-map, Memᴰ·append-left}
+use mathlib.Core.List.{List, [], _∷_, List·Memᴰ·head, List·Memᴰ·not-nil, List·Memᴰ·append-cases, List·Memᴰ·eq-of-singleton, Memᴰ·cast, Memᴰ·map, Memᴰ·of-map, Memᴰ·append-left}
 use Prim.Native.Nat.{ℕ, zero, suc, _+_, _-_, _%_, _≤_, _<_}
 use native.Mathlib.Omega.{arith}
 use lib.ListN.{take, drop, take-append-drop}
@@ -10,22 +10,17 @@ use lib.Dec.{T, eqb, ltb, eqb→eq, ltb→lt, lt→ltb, T-not, not-T}
 use Rattle.model.specs.Lists.{_∈_, has, every}
 use Rattle.model.specs.Message.{Message, sequenceOf, lineOf, numberOf, predecessorOf, dependenciesOf, needsOf, numbered, numbersRight, passes}
 use Rattle.model.specs.Tops.{atOrBelow}
-use Rattle.model.specs.Listing as L
 use Rattle.model.specs.Order.{State, purged, Ascending, RightSet, sequencesOf, needs, placedBy, Listing, logOf}
 use Rattle.model.specs.Purge.{originPast, purgeFirst}
 use Rattle.laws_order.specs.TestLaws.{and-l, and-r, decide, not-eqb, eq→eqb, has→∈, ∈→has, keep-∈, ∈-keep, every-∈, some-∈, ∈-some}
+use Rattle.laws_order.specs.Behind.{listing-front}
 use Rattle.laws_order.specs.ListingLaws.{after-has, after-from, listing-closed}
 use Rattle.laws_wire.specs.MessageLaws.{passes-numbers}
 use Rattle.laws_origin.specs.TopLaws.{below-out, below-in}
 use Rattle.laws_state.specs.SetLaws.{keep-ascending}
 use Rattle.laws_state.specs.LogLaws.{log-complete}
 use Rattle.laws_state.specs.FloorLaws.{needs-above}
-use Rattle.laws_purge.specs.RaiseLaws.{below-self, raised-cover}
-
-pub listing-front : {A : Type 0} (name : A → ℕ) (needs : A → List ℕ) (p q : List A) (done : List ℕ)
-    → L.Listing name needs done (p ++ q) → L.Listing name needs done p
-listing-front name needs [] q done h = tt
-listing-front name needs (a ∷ p) q done h = (h .0, listing-front name needs p q (name a ∷ done) (h .1))
+use Rattle.laws_origin.specs.RaiseLaws.{below-self, raised-cover}
 
 -- ---- a delta that passes has a number, and so has each that it needs
 number-least : (s : ℕ) → T (numbered s) → 1 ≤ numberOf s

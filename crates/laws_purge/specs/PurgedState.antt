@@ -4,8 +4,9 @@ use mathlib.Core.Path.{_≡_, refl, sym, _∙_, ap, ap₂, subst}
 use mathlib.Core.Logic.{⊎-elim}
 use mathlib.Core.Bool.{not}
 use mathlib.Core.List.{List, [], _∷_, _++_, append-assoc, List·Memᴰ·head, List·Memᴰ·tail, List·Memᴰ·not-nil, List·Memᴰ·cases-cons, List·Memᴰ·append-cases, Memᴰ·cast, Memᴰ·map, Memᴰ·of-map}
-use Prim.Native.Nat.{ℕ, _+_, _≤_, _<_, max}
+use Prim.Native.Nat.{ℕ, _+_, _≤_, _<_}
 use native.Mathlib.Omega.{arith}
+use native.Mathlib.Nat.{max-zero}
 use lib.ListN.{length, length-append, length-drop, take, drop, take-append-drop}
 use lib.Seq.{drop-at}
 use lib.Dec.{not-T}
@@ -22,8 +23,8 @@ use Rattle.laws_order.specs.ListLaws.{∈-take, ∈-drop}
 use Rattle.laws_order.specs.ListingLaws.{listing-length}
 use Rattle.laws_wire.specs.BytesLaws.{join-append}
 use Rattle.laws_state.specs.SetLaws.{ascending-names, ascending-unique}
+use Rattle.laws_state.specs.PairLaws.{run-append}
 use Rattle.laws_state.specs.LogLaws.{log-received, held-is, held-ascends, log-held, places}
-use Rattle.laws_purge.specs.RunLaws.{run-append}
 use Rattle.laws_purge.specs.PurgedFloors.{left-is, left-ascends}
 use Rattle.laws_purge.specs.PurgeLaws.{purge-log}
 
@@ -123,6 +124,12 @@ module _ (S : State) (right : RightSet S) (K : ℕ) where
     length-drop K (logOf S),
   )
 
+-- a purge by the deltas that go
+pub purge-past : (K : ℕ) (S : State) (gone : List Message) → take K (logOf S) ≡ gone
+    → purgeFirst K S ≡ holding (originPast S gone) (without gone (S .deltas))
+unfolding purgeFirst
+purge-past K S gone e = ap (λ (l : List Message). holding (originPast S l) (without l (S .deltas))) e
+
 -- ---- where nothing goes the state stays
 without-none : (l : List Message) → without [] l ≡ l
 without-none [] = refl
@@ -132,14 +139,10 @@ past-none : (S : State) → originPast S [] ≡ S .origin
 unfolding originPast startValues
 past-none S =
     let O : Origin = S .origin in
-    let block : max (O .block) 0 ≡ O .block = omega arith in
-    let group : max (O .group) 0 ≡ O .group = omega arith in
-    ap₂ (λ (b g : ℕ). record { floors = O .floors; base = O .base; block = b; group = g }) block group
+    ap₂ (λ (b g : ℕ). record { floors = O .floors; base = O .base; block = b; group = g }) (max-zero (O .block)) (max-zero (O .group))
 
 pub purge-nothing : (K : ℕ) (S : State) → take K (logOf S) ≡ [] → purgeFirst K S ≡ S
-unfolding purgeFirst
-purge-nothing K S e =
-    ap (λ (gone : List Message). holding (originPast S gone) (without gone (S .deltas))) e ∙ ap₂ holding (past-none S) (without-none (S .deltas))
+purge-nothing K S e = purge-past K S [] e ∙ ap₂ holding (past-none S) (without-none (S .deltas))
 
 pub purge-none : (S : State) → purgeFirst 0 S ≡ S
 purge-none S = purge-nothing 0 S refl

@@ -1,4 +1,10 @@
+pub mod CallRuns
+pub mod StateRuns
+pub mod PlayedRuns
+pub mod PurgedRuns
+pub mod RemainingRuns
 pub mod PairRuns
 pub mod RunLaws
 pub mod OrderRuns
+pub mod AcceptedRuns
 pub mod CalledRuns

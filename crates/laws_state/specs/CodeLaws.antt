@@ -13,8 +13,8 @@ use Rattle.model.specs.Bytes.{number}
 use Rattle.model.specs.Message.{Message}
 use Rattle.model.specs.Image.{stateIn, logIn}
 use Rattle.model.specs.Compose.{composed}
-use Rattle.model.specs.Codes.{Conditions, lowestCode, emptyConditions, deliverConditions, composeConditions, setpointConditions}
-use Rattle.model.specs.Calls.{empty, emptyAnswer, deliver, deliverCode, deliverAnswer, compose, composeCode, composeAnswer, logMessageCode, logMessage, setpoint, setpointAnswer}
+use Rattle.model.specs.Codes.{Conditions, lowestCode, emptyConditions, deliverConditions, composeConditions, setpointConditions, purgeConditions}
+use Rattle.model.specs.Calls.{empty, emptyAnswer, deliver, deliverCode, deliverAnswer, purge, purgeCode, purgeAnswer, compose, composeCode, composeAnswer, logMessageCode, logMessage, setpoint, setpointAnswer}
 
 -- ---- the lowest number
 -- the numbers ascend, from one above `low` on
@@ -86,6 +86,14 @@ compose-code b line commands flag priority buffer =
     go zero m = refl
     go (suc n) m = refl
 
+pub purge-code : (b : List ℕ) (K : ℕ) → purge b K .code ≡ lowestCode (purgeConditions b K)
+unfolding purge purgeCode
+purge-code b K = go (lowestCode (purgeConditions b K))
+  where
+    go : (n : ℕ) → purgeAnswer n (stateIn b) b K .code ≡ n
+    go zero = refl
+    go (suc n) = refl
+
 pub setpoint-code : (b : List ℕ) (tag : ℕ) → setpoint b tag .code ≡ lowestCode (setpointConditions b tag)
 unfolding setpoint
 setpoint-code b tag = go (lowestCode (setpointConditions b tag))
@@ -130,6 +138,14 @@ log-message-refused b place h = go (eqb (logMessageCode b place) 0) (eqb→eq (l
     go : (t : Bool) → (T t → logMessageCode b place ≡ 0) → cond t (getD (logIn b) place []) [] ≡ []
     go true f = absurd (h (f tt))
     go false f = refl
+
+pub purge-refused : (b : List ℕ) (K : ℕ) → ¬ (purge b K .code ≡ 0) → purge b K ≡ record { code = purgeCode b K; image = b }
+unfolding purge
+purge-refused b K h = go (purgeCode b K) h
+  where
+    go : (n : ℕ) → ¬ (purgeAnswer n (stateIn b) b K .code ≡ 0) → purgeAnswer n (stateIn b) b K ≡ record { code = n; image = b }
+    go zero h = absurd (h refl)
+    go (suc n) h = refl
 
 pub setpoint-refused : (b : List ℕ) (tag : ℕ) → ¬ (setpoint b tag .code ≡ 0) → setpoint b tag .value ≡ pos 0
 unfolding setpoint

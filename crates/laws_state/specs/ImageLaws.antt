@@ -33,7 +33,7 @@ unfolding runCommand apply
 length-commands [] t = refl
 length-commands (c ∷ l) t = length-commands l (runCommand c t) ∙ length-set t _ _
 
-length-run : (l : List Message) (t : List ℤ) → length (runLog l t) ≡ length t
+pub length-run : (l : List Message) (t : List ℤ) → length (runLog l t) ≡ length t
 unfolding runDelta
 length-run [] t = refl
 length-run (m ∷ l) t = length-run l (runDelta m t) ∙ length-commands (commandsOf m) t

@@ -73,12 +73,12 @@ abbrev pub standingBy : List Standing → List Message → List ℤ → List Sta
 standingBy earlier [] values = earlier
 standingBy earlier (m ∷ l) values = standingBy (standingOf m values ∷ earlier) l (runDelta m values)
 
-standing-append : (earlier : List Standing) (l k : List Message) (values : List ℤ)
+pub standing-append : (earlier : List Standing) (l k : List Message) (values : List ℤ)
     → standingBy earlier (l ++ k) values ≡ standingBy (standingBy earlier l values) k (runLog l values)
 standing-append earlier [] k values = refl
 standing-append earlier (m ∷ l) k values = standing-append (standingOf m values ∷ earlier) l k (runDelta m values)
 
-run-append : (l k : List Message) (values : List ℤ) → runLog (l ++ k) values ≡ runLog k (runLog l values)
+pub run-append : (l k : List Message) (values : List ℤ) → runLog (l ++ k) values ≡ runLog k (runLog l values)
 run-append [] k values = refl
 run-append (m ∷ l) k values = run-append l k (runDelta m values)
 

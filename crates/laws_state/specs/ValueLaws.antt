@@ -118,7 +118,7 @@ pub delta-range : (m : Message) (t : List ℤ) → T (passes m) → AllInRange t
 unfolding runDelta
 delta-range m t pass h = commands-range (commandsOf m) t (every-∈ commandRight (commandsOf m) (passes-commands m pass)) h
 
-log-range : (l : List Message) (t : List ℤ) → ((m : Message) → m ∈ l → T (passes m)) → AllInRange t → AllInRange (runLog l t)
+pub log-range : (l : List Message) (t : List ℤ) → ((m : Message) → m ∈ l → T (passes m)) → AllInRange t → AllInRange (runLog l t)
 log-range [] t pass h = h
 log-range (m ∷ l) t pass h = log-range l (runDelta m t) (λ x k. pass x (List·Memᴰ·tail k)) (delta-range m t (pass m (List·Memᴰ·head refl)) h)
 

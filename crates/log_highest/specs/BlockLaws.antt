@@ -12,6 +12,7 @@ use Rattle.model.specs.Message.{Message, sequenceOf, groupOf, blockOf, contentR
 use Rattle.model.specs.Order.{State, RightSet, find, needs, blockAlong, effectiveBlock, logOf}
 use Rattle.model.specs.Compose.{highestBlock}
 use Rattle.laws_order.specs.TestLaws.{and-l, and-r, greatest-cong}
+use Rattle.laws_order.specs.MaxLaws.{greatest-map}
 use Rattle.laws_order.specs.ListLaws.{greatest-≤, getD-∈}
 use Rattle.laws_origin.specs.OriginLaws.{block-limit}
 use Rattle.laws_state.specs.LogLaws.{log-executable}
@@ -22,7 +23,6 @@ use Rattle.set_closure.specs.Closing.{Closed}
 use Rattle.set_closure.specs.ClosingLaws.{closed-block}
 use Rattle.image_sections.specs.LogPlaceLaws.{log-inside}
 use Rattle.log_highest.specs.Logged.{LoggedPlaces}
-use Rattle.log_highest.specs.GreatestLaws.{greatest-map}
 
 -- ---- of a message that passes 3 to 6
 passes-content : (m : Message) → T (passes m) → T (contentRight m)

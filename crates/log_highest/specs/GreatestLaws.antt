@@ -1,6 +1,6 @@
--- The greatest over a list, taken one item at a time, and over a list that is mapped.
-use mathlib.Core.Path.{_≡_, refl, ap}
-use mathlib.Core.List.{List, [], _∷_, map}
+-- The greatest over a list, taken one item at a time.
+use mathlib.Core.Path.{_≡_}
+use mathlib.Core.List.{List}
 use Prim.Native.Nat.{ℕ, _+_, _≤_, _<_, max}
 use native.Mathlib.Omega.{arith}
 use lib.ListN.{length, getD, drop}
@@ -14,7 +14,3 @@ module _ {A : Type 0} (f : A → ℕ) (l : List A) (k so : ℕ) {n : ℕ} (is : 
 
   pub greatest-last : length l ≤ k → so ≡ n
   greatest-last h = omega (arith, greatest-end f l k h)
-
-pub greatest-map : {A B : Type 0} (f : B → ℕ) (g : A → B) (l : List A) → greatest (λ a. f (g a)) l ≡ greatest f (map g l)
-greatest-map f g [] = refl
-greatest-map f g (a ∷ l) = ap (max (f (g a))) (greatest-map f g l)

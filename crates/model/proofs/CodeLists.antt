@@ -3,7 +3,7 @@ use mathlib.Core.Path.{_≡_, refl}
 use mathlib.Core.List.{List, [], _∷_, map}
 use Prim.Native.Nat.{ℕ}
 use Rattle.model.specs.Message.{Message}
-use Rattle.model.specs.Codes.{Conditions, emptyConditions, deliverConditions, composeConditions, logMessageConditions, setpointConditions, readSequencesConditions, writeSequencesConditions}
+use Rattle.model.specs.Codes.{Conditions, emptyConditions, deliverConditions, composeConditions, logMessageConditions, setpointConditions, purgeConditions, readSequencesConditions, writeSequencesConditions}
 
 numbersOf : Conditions → List ℕ
 numbersOf l = map (λ c. c .0) l
@@ -29,6 +29,11 @@ log-message-meets b place = refl
 setpoint-meets : (b : List ℕ) (tag : ℕ) → numbersOf (setpointConditions b tag) ≡ 1 ∷ 2 ∷ 12 ∷ []
 unfolding numbersOf
 setpoint-meets b tag = refl
+
+-- Paper 4: 15, then 16, "both after 2"
+purge-meets : (b : List ℕ) (K : ℕ) → numbersOf (purgeConditions b K) ≡ 1 ∷ 2 ∷ 15 ∷ 16 ∷ []
+unfolding numbersOf
+purge-meets b K = refl
 
 -- Paper 2: 1, then 13, then 14
 read-sequences-meets : (t : List ℕ) (room : ℕ) → numbersOf (readSequencesConditions t room) ≡ 1 ∷ 13 ∷ 14 ∷ []

@@ -19,5 +19,6 @@ pub mod AnswerExamples
 pub mod PlainStationExamples
 pub mod FloorExamples
 pub mod FloorImageExamples
+pub mod PurgeExamples
 pub mod PairExamples
 pub mod ProgramExamples

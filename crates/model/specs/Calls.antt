@@ -67,7 +67,7 @@ deliverCode b m room = lowestCode (deliverConditions b m room)
 unfoldable pub deliver : List ℕ → Message → List ℕ → Delivered
 deliver b m steps = deliverAnswer (deliverCode b m (length steps)) (stateIn b) b m steps
 
--- ---- purge: image and K
+-- ---- purge: image and K; "drops the first K log messages and frees their bytes"
 pub record Purged : Type 0 where
   pub code : ℕ
   pub image : List ℕ

@@ -135,7 +135,7 @@ starts-empty : Played [] (A 1 ∷ []) → ⊥
 starts-empty e = let one : length (A 1 ∷ []) ≡ length {A = ℕ} [] = ap length e in omega arith
 
 -- ---- the pairs of the first two calls, played from an image of zeros on
-over-both : PairsPlayed (replicate (setpointsStart + valuesSize) 0) two (standing (B 1) (pos 1500) ∷ standing (A 1) (pos 0) ∷ []) (tag3 (pos 1480))
+pub over-both : PairsPlayed (replicate (setpointsStart + valuesSize) 0) two (standing (B 1) (pos 1500) ∷ standing (A 1) (pos 0) ∷ []) (tag3 (pos 1480))
 unfolding valuesIn readRecord recordBytes
 over-both = (
   standing (B 1) (pos 0) ∷ [],

@@ -74,8 +74,8 @@ stateAfter given (e ∷ earlier) = stateNext (stateAfter given earlier) (e .call
 abbrev pub logAfter : Given → List Event → List ℕ
 logAfter given events = sequencesOf (logOf (stateAfter given events))
 
--- the log that a call's steps are played from, by the call's code; a delivery's: the log as it was left, whatever its code. "A purge gives
--- no step; the log that the steps are played on loses the same K": where the purge was accepted
+-- The log that a call's steps are played from, by the call's code. A delivery's steps find the log as the calls before left it. "A purge gives
+-- no step; the log that the steps are played on loses the same K": where the purge was answered with 0.
 abbrev pub playedFrom : {A : Type 0} → Call → ℕ → List A → List A
 playedFrom (delivery m steps) code log = log
 playedFrom (purging K) code log = cond (eqb code 0) (drop K log) log
@@ -121,10 +121,6 @@ abbrev pub purgedAfter : Given → List Event → List ℕ
 purgedAfter given [] = []
 purgedAfter given (e ∷ earlier) = purgedAfter given earlier ++ purgedBy (e .call) (e .answer .code) (logAfter given earlier)
 
--- all that a station executed and did not undo, in its order: what was purged, then its log
-abbrev pub executedAfter : Given → List Event → List ℕ
-executedAfter given events = purgedAfter given events ++ logAfter given events
-
 -- ---- "The steps of a call are the records at the front of its step buffer: as many undos as its answer counts,
 -- then as many executions as its answer counts; a refused call has none" (its counts are 0)
 pub record StepsTaken (e : Event) (undone executed : List ℕ) : Type 0 where
@@ -132,12 +128,20 @@ pub record StepsTaken (e : Event) (undone executed : List ℕ) : Type 0 where
   pub undos : length undone ≡ e .answer .undos
   pub executions : length executed ≡ e .answer .executions
 
+-- What the steps of all calls lead to. `from` says what a call's steps are played on, by its code and by what the calls before it led to.
+abbrev pub PlayedOn : (Call → ℕ → List ℕ → List ℕ) → List Event → List ℕ → Type 0
+PlayedOn from [] log = log ≡ []
+PlayedOn from (e ∷ earlier) log =
+    (old : List ℕ) × (undone : List ℕ) × (executed : List ℕ) × PlayedOn from earlier old × StepsTaken e undone executed
+    × Plays (from (e .call) (e .answer .code) old) (map undo undone ++ map execute executed) log
+
 -- "The played log starts empty."
 abbrev pub Played : List Event → List ℕ → Type 0
-Played [] log = log ≡ []
-Played (e ∷ earlier) log =
-    (old : List ℕ) × (undone : List ℕ) × (executed : List ℕ) × Played earlier old × StepsTaken e undone executed
-    × Plays (playedFrom (e .call) (e .answer .code) old) (map undo undone ++ map execute executed) log
+Played = PlayedOn playedFrom
+
+-- All that was executed and never undone, a term of ours: the steps are played on a list that no purge shortens.
+abbrev pub History : List Event → List ℕ → Type 0
+History = PlayedOn (λ c code log. log)
 
 -- The records of a call, with their pairs.
 abbrev pub recordsRead : Delivered → Option (List StepRecord)
@@ -170,8 +174,8 @@ pub record CallAgrees (S next : State) (b : List ℕ) (c : Call) (a : Delivered)
   -- together": no rival is shorter.
   pub fewest : (rival : List Step) → Plays (sequencesOf (oldLog S c (a .code))) rival (sequencesOf (logOf next)) → a .undos + a .executions ≤ length rival
   -- "An execution lists the value after each command; an undo lists the value restored by each command, last command first": the records
-  -- of a call are those between its old log and its new one, both run from the start values after it (a delivery leaves these as they were;
-  -- a purge has none).
+  -- of a call are those between its old log and its new one, both run from the start values after it, which a delivery leaves as they
+  -- were. (Of a purge there are none.)
   pub records : recordsRead a ≡ some (recordsOf (startValues next) (oldLog S c (a .code)) (logOf next))
 
 -- What it says after a list of calls.
@@ -186,6 +190,8 @@ pub record ListAgrees (given : Given) (b : List ℕ) (events : List Event) : Typ
   pub setpoints : (values : List ℤ) → ((standing : List Standing) × PairsPlayed b events standing values) ↔ (values ≡ valuesIn (imageAfter b events))
   -- "A floor is a line and its highest purged number": what was purged is what is at or below a floor (a number 0000 is no delta's).
   pub purged : (s : ℕ) → (s ∈ purgedAfter given events) ↔ T (numbered s && purgedAt (stateAfter given events) s)
+  -- "Purged deltas keep their order ahead of all later ones": all that was executed and never undone is what was purged, and then the log.
+  pub history : (all : List ℕ) → History events all ↔ (all ≡ purgedAfter given events ++ logAfter given events)
 
 -- "a single claim over whole lists": what holds after every list of calls from an image that empty wrote, and of every call, which is the
 -- latest of the list up to it.
@@ -196,15 +202,8 @@ pub record Agreement (begins : Given → List ℕ → Type 0) (answers : List �
   -- "So a set of deltas has one image", on any two stations: of what remains, beside the same floors, base values, block and group.
   pub equal : (given other : Given) (b c : List ℕ) → begins given b → begins other c → (events others : List Event)
       → Run answers b events → Run answers c others → SameStation given events other others → imageAfter b events ≡ imageAfter c others
-  -- "Purged deltas keep their order ahead of all later ones": a purge moves nothing of all that was executed, and what was purged is the
-  -- start of all that is, after whatever later calls. (The latest call stands first.)
-  pub unmoved : (given : Given) (b : List ℕ) → begins given b → (K : ℕ) (a : Delivered) (earlier : List Event)
-      → Run answers b (record { call = purging K; answer = a } ∷ earlier)
-      → executedAfter given (record { call = purging K; answer = a } ∷ earlier) ≡ executedAfter given earlier
-  pub ahead : (given : Given) (b : List ℕ) → begins given b → (later events : List Event) → Run answers b (later ++ events)
-      → (rest : List ℕ) × (executedAfter given (later ++ events) ≡ purgedAfter given events ++ rest)
 
--- ---- what document 01 says of lists of deliveries alone, in its own words: "equal accepted sets give byte-equal images"
+-- ---- lists of deliveries alone, which are document 01's: there equal accepted sets are enough, since "a set of deltas has one image"
 abbrev pub deliveries : List Event → Bool
 deliveries events = every (λ e. isDelivery (e .call)) events
 

@@ -19,8 +19,8 @@ pub record InOrder (received : List Message) (S : State) (image : List ℕ) : Ty
   pub deltas : (m : Message) → (m ∈ S .deltas) ↔ (m ∈ received)
   -- "The log lists each executable delta once, needs before, and is the first of all such listings when keys are compared place by place."
   pub first : IsLog S (logIn image)
-  -- A received delta is in the log exactly if it is executable, which is to say that all it needs, step by step back, was received and
-  -- contains no ring.
+  -- A received delta is in the log exactly if it is executable, which is to say that all it needs above the floors, step by step back,
+  -- was received and contains no ring.
   pub executed : (m : Message) → m ∈ received → (m ∈ logIn image) ↔ Executable S m
   pub grounded : (m : Message) → m ∈ received → (m ∈ logIn image) ↔ Grounded S m
   -- "All others are held", "the held ones by ascending sequence".

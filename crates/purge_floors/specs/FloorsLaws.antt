@@ -11,12 +11,13 @@ use Rattle.model.specs.Tops.{raiseTop, raiseTops}
 use Rattle.model.specs.Order.{originRight, sequencesOf}
 use Rattle.model.specs.Image.{floorCount, floorsIn, originIn, messagesStartIn}
 use Rattle.laws_origin.specs.OriginLaws.{few-floors, floors-in, room-of}
-use Rattle.laws_purge.specs.RaiseRight.{raise-length}
+use Rattle.laws_origin.specs.RaiseRight.{raise-length}
+use Rattle.buffer_writes.specs.PasteLaws.{part-pasted}
 use Rattle.set_table.specs.Table.{deltasOf, deltasAt}
 use Rattle.set_table.specs.Places.{sequenceIn}
 use Rattle.image_sections.specs.LogPlaceLaws.{next-message, no-message}
 use Rattle.purge_floors.specs.TopsIn.{topsIn}
-use Rattle.purge_floors.specs.TopsLaws.{tops-length, tops-agree, pasted-part}
+use Rattle.purge_floors.specs.TopsLaws.{tops-length, tops-agree}
 
 -- ---- the floors of an image: they are few, lie in it, and copied to the front of a buffer are its tops
 module _ (pool : List ℕ) (right : T (originRight (originIn pool))) where
@@ -35,7 +36,7 @@ module _ (pool : List ℕ) (right : T (originRight (originIn pool))) where
       let left : ℕ = length pool - floorsStart in
       let size : sequenceSize * n ≤ left = omega (arith, floors-room) in
       tops-agree (paste b 0 (take left past) (sequenceSize * n)) past n
-      (pasted-part b 0 (take left past) (sequenceSize * n) (omega arith) (omega (arith, length-take-le left past (omega (arith, length-drop floorsStart pool))))
+      (part-pasted b 0 (take left past) (sequenceSize * n) (omega arith) (omega (arith, length-take-le left past (omega (arith, length-drop floorsStart pool))))
       ∙ take-take (sequenceSize * n) left past size)
       ∙ ap (topsIn past) e
 

@@ -12,7 +12,7 @@ use Rattle.laws_order.specs.ListLaws.{getD-map}
 use Rattle.laws_wire.specs.BytesLaws.{length-bytes, length-parts, parts-at, number-bytes, field-range}
 use Rattle.laws_origin.specs.OriginLaws.{parts-agree}
 use Rattle.laws_origin.specs.SectionLaws.{sequences-bytes}
-use Rattle.buffer_writes.specs.PasteLaws.{part-before}
+use Rattle.buffer_writes.specs.PasteLaws.{part-before, part-pasted}
 use Rattle.set_table.specs.Table.{insertAt}
 use Rattle.purge_floors.specs.TopsIn.{topsIn}
 
@@ -94,14 +94,7 @@ tops-put-over b p n v small h room =
     (ap (λ (m : ℕ). topsIn (drop m b) k) {x = sequenceSize * p + sequenceSize} {y = sequenceSize * suc p} (omega arith)
     ∙ tops-behind b (suc p) k ∙ ap (λ (m : ℕ). drop (suc p) (topsIn b m)) next)
 
--- ---- bytes pasted into others are there
-pub pasted-part : (d : List ℕ) (at : ℕ) (s : List ℕ) (n : ℕ) → at ≤ length d → n ≤ length s → take n (drop at (paste d at s n)) ≡ take n s
-pasted-part d at s n h g =
-    let behind : List ℕ = drop (at + n) d in
-    ap (λ (l : List ℕ). take n (drop at l)) (append-assoc (take at d) (take n s) behind)
-    ∙ ap (take n) (drop-at (take at d) (take n s ++ behind) at (length-take-le at d h)) ∙ take-at (take n s) behind n (length-take-le n s g)
-
--- the bytes of the tops from a place on are copied out, and back one top further on; a sequence is put before them
+-- ---- the bytes of the tops from a place on are copied out, and back one top further on; a sequence is put before them
 module _ (b : List ℕ) (p n v : ℕ) (small : v < 256 ^ sequenceSize) (inside : p ≤ n) (room : sequenceSize * n + sequenceSize ≤ length b) where
   abbrev at : ℕ
   at = sequenceSize * p
@@ -121,7 +114,7 @@ module _ (b : List ℕ) (p n v : ℕ) (small : v < 256 ^ sequenceSize) (inside :
       ∙ ap₂ (λ (y z : List ℕ). y ++ v ∷ z)
       (tops-agree moved b p (part-before b (at + sequenceSize) x size 0 at (omega arith) (omega arith))
       ∙ tops-before b p k ∙ ap (λ (m : ℕ). take p (topsIn b m)) whole)
-      (tops-agree (drop (at + sequenceSize) moved) (drop at b) k (pasted-part b (at + sequenceSize) x size (omega arith) long ∙ same)
+      (tops-agree (drop (at + sequenceSize) moved) (drop at b) k (part-pasted b (at + sequenceSize) x size (omega arith) long ∙ same)
       ∙ tops-behind b p k ∙ ap (λ (m : ℕ). drop p (topsIn b m)) whole)
 
   pub tops-put-in : (clear : List ℕ) {behind back out : List ℕ} → behind ≡ paste clear 0 (take (length b - at) (drop at b)) size → size ≤ length behind
@@ -131,4 +124,4 @@ module _ (b : List ℕ) (p n v : ℕ) (small : v < 256 ^ sequenceSize) (inside :
       let left : length rest ≡ length b - at = length-take-le (length b - at) (drop at b) (omega (arith, length-drop at b)) in
       ap (λ (l : List ℕ). topsIn l (n + 1)) (put ∙ ap (λ (l : List ℕ). paste l at (bytes sequenceSize v) sequenceSize) moved)
       ∙ tops-moved behind long
-      (ap (take size) copied ∙ pasted-part clear 0 rest size (omega arith) (omega arith) ∙ take-take size (length b - at) (drop at b) (omega arith))
+      (ap (take size) copied ∙ part-pasted clear 0 rest size (omega arith) (omega arith) ∙ take-take size (length b - at) (drop at b) (omega arith))

@@ -10,21 +10,31 @@ use set_table::entry::sequence_at;
 ghost use mathlib.Core.Path.{_≡_};
 ghost use Prim.Native.Nat.{_≤_};
 ghost use lib.ListN.{length};
-ghost use Rattle.model.specs.Layout.{capacity};
+ghost use lib.Dec.{T};
+ghost use Rattle.model.specs.Layout.{mostFloors, capacity};
 ghost use Rattle.model.specs.Tops.{raiseTops};
-ghost use Rattle.model.specs.Order.{sequencesOf};
+ghost use Rattle.model.specs.Order.{originRight, sequencesOf};
 ghost use Rattle.model.specs.Image.{originIn};
 ghost use Rattle.set_table.specs.Table.{deltasOf, deltasAt};
 ghost use Rattle.image_sections.specs.LogPlaces.{TablePlaces};
 ghost use Rattle.purge_floors.specs.TopsIn.{topsRoom, topsIn};
 
-// Writes the floors of the image that a pool begins with, then raises them by each sequence; answers how many there are now.
+// Writes the floors of the image that a pool begins with, and answers how many there are.
+fn copy_floors(tops: &mut [u8], pool: &[u8]) -> usize
+    requires { ⌜ T (originRight (originIn (now pool))) × (topsRoom ≤ length (now tops)) ⌝ }
+    ensures { λ r. ⌜ (topsIn (now (tops .exit)) r ≡ originIn (now (pool .entry)) .floors) × (r ≤ mostFloors) ⌝ }
+{
+    let count = count_floors(pool);
+    copy_at(tops, 0, &pool[FLOORS_START..], SEQUENCE_SIZE * count);
+    count
+}
+
+// Writes the image's floors, raised by the sequence of the delta at each place, and answers how many there are then.
 pub fn raise_floors(tops: &mut [u8], pool: &[u8], starts: &[u16], places: &[u8]) -> usize
     requires { ⌜ TablePlaces (now pool) (now starts) (now places) × (length (now places) ≤ capacity) × (topsRoom ≤ length (now tops)) ⌝ }
     ensures { λ r. ⌜ topsIn (now (tops .exit)) r ≡ raiseTops (sequencesOf (deltasAt (deltasOf (now (pool .entry)) (now (starts .entry))) (now (places .entry)))) (originIn (now (pool .entry)) .floors) ⌝ }
 {
-    let mut count = count_floors(pool);
-    copy_at(tops, 0, &pool[FLOORS_START..], SEQUENCE_SIZE * count);
+    let mut count = copy_floors(tops, pool);
     let mut k = 0;
     while k < places.len() {
         let s = sequence_at(pool, starts, places[k] as usize);

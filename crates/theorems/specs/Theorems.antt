@@ -17,8 +17,8 @@ use Rattle.model.specs.Order.{Origin, State, holding, stateOf, purged, Ascendin
 use Rattle.model.specs.Setpoints.{startValues, runLog, setpointsOf}
 use Rattle.model.specs.Image.{imageOf, Valid, IsImage, originIn, stateIn, valuesIn, logCount, messagesStartIn, logIn, messagesIn, heldIn, walk, messageOffset, usedCount, isImage}
 use Rattle.model.specs.Steps.{Step, common, undosOf, executionsOf, stepsOf, recordsBetween, recordsBytes, readRecords, Plays, Standing, PlaysPairs}
-use Rattle.model.specs.Codes.{Conditions, lowestCode, smallSteps, deliverConditions, composeConditions, emptyConditions, logMessageConditions, setpointConditions, readSequencesConditions, writeSequencesConditions}
-use Rattle.model.specs.Calls.{empty, Delivered, deliver, compose, logMessageCode, logMessage, setpoint, messageAt, convertedAnswer, front, readSequences, writeSequences}
+use Rattle.model.specs.Codes.{Conditions, lowestCode, smallSteps, deliverConditions, composeConditions, emptyConditions, logMessageConditions, setpointConditions, purgeConditions, readSequencesConditions, writeSequencesConditions}
+use Rattle.model.specs.Calls.{empty, Delivered, deliver, Purged, purge, compose, logMessageCode, logMessage, setpoint, messageAt, convertedAnswer, front, readSequences, writeSequences}
 use Rattle.model.specs.PlainStation.{receive}
 use Rattle.model_runs.specs.Run.{delivery, Agreement, Begins, Answers}
 use Rattle.model_runs.specs.RunOrder.{InOrder, OrderKept}
@@ -36,9 +36,10 @@ use Rattle.laws_state.specs.OffsetLaws.{offset-join, walk-offset, message-at-of
 use Rattle.laws_state.specs.ImageValueLaws.{values-back}
 use Rattle.laws_state.specs.RecordRange.{records-back}
 use Rattle.laws_state.specs.PairLaws.{standingIn, state-pairs-play, pairs-unique}
-use Rattle.laws_state.specs.CodeLaws.{Above, Lowest, lowest-is, empty-code, deliver-code, compose-code, setpoint-code, deliver-refused, empty-refused, compose-refused, log-message-refused, setpoint-refused}
+use Rattle.laws_state.specs.CodeLaws.{Above, Lowest, lowest-is, empty-code, deliver-code, purge-code, compose-code, setpoint-code, deliver-refused, purge-refused, empty-refused, compose-refused, log-message-refused, setpoint-refused}
 use Rattle.laws_state.specs.DeliverLaws.{code-zero, receive-accepted, take-in-purged, receive-valid, purged-accepted, purged-delivery}
-use Rattle.laws_run.specs.RunLaws.{CallFacts, call-facts, agreement}
+use Rattle.laws_run.specs.CallRuns.{CallFacts, call-facts}
+use Rattle.laws_run.specs.RunLaws.{agreement}
 use Rattle.laws_run.specs.OrderRuns.{image-in-order, order-kept}
 use Rattle.laws_text.specs.AnswerLaws.{read-code, read-refused, write-code, write-refused}
 use Rattle.laws_text.specs.RoundTrips as trips
@@ -247,6 +248,9 @@ log-message-codes b place = code-law (logMessageConditions b place) (omega arith
 
 pub setpoint-codes : (b : List ℕ) (tag : ℕ) → CodeLaw (setpointConditions b tag) (setpoint b tag .code) (setpoint b tag .value ≡ pos 0)
 setpoint-codes b tag = code-law (setpointConditions b tag) (omega arith) (setpoint-code b tag) (setpoint-refused b tag)
+
+pub purge-codes : (b : List ℕ) (K : ℕ) → CodeLaw (purgeConditions b K) (purge b K .code) (purge b K .image ≡ b)
+purge-codes b K = code-law (purgeConditions b K) (omega arith) (purge-code b K) (λ h. ap (λ (a : Purged). a .image) (purge-refused b K h))
 
 pub read-sequences-codes : (t buffer : List ℕ) → let a = readSequences t buffer in
     CodeLaw (readSequencesConditions t (length buffer)) (a .code) ((a .size ≡ 0) × (a .buffer ≡ buffer))

@@ -6,11 +6,11 @@ use Prim.Native.Nat.{ℕ}
 use lib.ListN.{length}
 use lib.IntN.{pos}
 use Rattle.model.specs.Message.{Message}
-use Rattle.model.specs.Codes.{emptyConditions, deliverConditions, composeConditions, logMessageConditions, setpointConditions, readSequencesConditions, writeSequencesConditions}
-use Rattle.model.specs.Calls.{Emptied, Delivered, Composed, Setpoint, Converted, logMessageCode}
+use Rattle.model.specs.Codes.{emptyConditions, deliverConditions, purgeConditions, composeConditions, logMessageConditions, setpointConditions, readSequencesConditions, writeSequencesConditions}
+use Rattle.model.specs.Calls.{Emptied, Delivered, Purged, Composed, Setpoint, Converted, logMessageCode}
 use Rattle.theorems.specs.Theorems as laws
 use Rattle.theorems.specs.Theorems.{CodeLaw, LeftAlone}
-use Rattle.theorems_host.specs.HostRuns.{HostEmptied, host-emptied-as, HostDelivered, host-delivered-as}
+use Rattle.theorems_host.specs.HostRuns.{HostEmptied, host-emptied-as, HostDelivered, host-delivered-as, HostPurged, host-purged-as}
 use Rattle.theorems_host.specs.HostComposes.{HostComposed, host-composed-as}
 use Rattle.theorems_host.specs.HostReads.{HostLogMessage, host-log-message-as, HostSetpoint, host-setpoint-as, HostRead, host-read-as, HostWritten, host-written-as}
 
@@ -21,6 +21,9 @@ pub deliver-codes : (b : List ℕ) (m : Message) (steps : List ℕ) (a : Deliver
     → CodeLaw (deliverConditions b m (length steps)) (a .code) (LeftAlone b steps a)
 deliver-codes b m steps a c =
     subst (λ (x : Delivered). CodeLaw (deliverConditions b m (length steps)) (x .code) (LeftAlone b steps x)) (sym (host-delivered-as b m steps a c)) (laws.deliver-codes b m steps)
+
+pub purge-codes : (b : List ℕ) (K : ℕ) (a : Purged) → HostPurged b K a → CodeLaw (purgeConditions b K) (a .code) (a .image ≡ b)
+purge-codes b K a c = subst (λ (x : Purged). CodeLaw (purgeConditions b K) (x .code) (x .image ≡ b)) (sym (host-purged-as b K a c)) (laws.purge-codes b K)
 
 pub compose-codes : (b line commands : List ℕ) (flag priority : ℕ) (buffer : List ℕ) (a : Composed) → HostComposed b line commands flag priority buffer a
     → CodeLaw (composeConditions b line commands flag priority (length buffer)) (a .code) ((a .size ≡ 0) × (a .message ≡ buffer))

@@ -1,9 +1,9 @@
 //! The cases of the benchmark: an image, a message that arrives, and the answer. Those of
-//! texts are in `texts`, those of log message in `places`.
+//! texts are in `texts`, those of log message in `places`, those of a purge in `purges`.
 
 use std::fmt;
 
-use crate::bench::{places, texts};
+use crate::bench::{places, purges, texts};
 use crate::boundary::{Calls, Reference};
 use crate::edit::Edit;
 use crate::reference::steps::BUFFER;
@@ -14,6 +14,9 @@ use crate::wire::{command, line, sequence, set, Command, Draft, Sequence};
 pub const COUNTS: [usize; 4] = [0, 16, 40, 63];
 /// The ring has this many deltas, so that the 64th closes it.
 const RING: usize = 64;
+/// How many lines woven deltas have, and the floor of each where there is one.
+const WOVEN: usize = 32;
+const WOVEN_FLOOR: u16 = 9;
 /// The line of the first delta of an image; a lower one stays free.
 const FIRST_LINE: u8 = 0x10;
 const LOWER_LINE: u8 = 0x01;
@@ -45,6 +48,11 @@ pub enum Shape {
     ChainFloors,
     LongestFloors,
     RingFloors,
+    /// 32 lines in turn, each delta names the eight before it and has eight commands: as the
+    /// longest, but all of 64 can be purged.
+    Woven,
+    /// The same behind 32 floors of these very lines.
+    WovenFloors,
     /// No deltas: a text is read.
     Read,
     /// No deltas: sequences are written as text.
@@ -74,6 +82,8 @@ pub enum Arrival {
     Begin,
     End,
     Whole,
+    /// A purge of the first so many.
+    Purge(u32),
 }
 
 /// A case before its image is built, which takes as many deliveries as it holds.
@@ -92,6 +102,15 @@ pub enum Call {
     Write,
     /// Log message, once for each place from the first to the last given.
     Places(u32, u32),
+    /// A purge of so many.
+    Purge(u32),
+}
+
+impl Call {
+    /// Whether it writes what it reads, and so cannot be made again on the same buffers.
+    pub fn writes(self) -> bool {
+        matches!(self, Call::Deliver | Call::Purge(_))
+    }
 }
 
 /// A case: what a delivery gets, and what it must answer. A call on texts gets its input as
@@ -152,6 +171,7 @@ pub fn specs() -> Vec<Spec> {
         specs.push(Spec::new(Shape::Longest, Arrival::Refused(code), count));
     }
     specs.push(Spec::new(Shape::Chain, Arrival::Refused(2), 64));
+    specs.extend(purges::specs());
     specs.extend(places::specs());
     specs.extend(texts::specs());
     specs
@@ -173,9 +193,10 @@ impl Spec {
 
     /// The case, its image as the second implementation writes it.
     pub fn build(&self) -> Case {
-        match self.shape {
-            Shape::Read | Shape::Write => return texts::build(self),
-            Shape::Log => return places::build(self),
+        match (self.shape, self.arrival) {
+            (_, Arrival::Purge(k)) => return purges::build(self, k),
+            (Shape::Read | Shape::Write, _) => return texts::build(self),
+            (Shape::Log, _) => return places::build(self),
             _ => {}
         }
         let mut case = Case {
@@ -238,7 +259,7 @@ impl Shape {
         let draft = match self.without_floors() {
             Shape::Chain => Draft::new(line(FIRST_LINE), number + 1),
             Shape::Waiting => Draft::new(line(FIRST_LINE), number + 2),
-            _ => Draft::new(own_line(place), 1),
+            _ => self.of_own_line(place),
         };
         let draft = draft.naming(&self.names(place));
         let draft = draft.commands(&self.commands(place));
@@ -248,24 +269,40 @@ impl Shape {
         }
     }
 
+    /// A delta of the line of a place, the first of it or woven with the others.
+    fn of_own_line(self, place: usize) -> Draft {
+        let turn = (place / WOVEN) as u16;
+        match self {
+            Shape::Woven => Draft::new(own_line(place % WOVEN), 1 + turn),
+            Shape::WovenFloors => Draft::new(own_line(place % WOVEN), WOVEN_FLOOR + 1 + turn),
+            _ => Draft::new(own_line(place), 1),
+        }
+    }
+
     /// What the delta at a place names, ascending.
     fn names(self, place: usize) -> Vec<Sequence> {
-        let mut places: Vec<usize> = match self.without_floors() {
-            Shape::Needs | Shape::Longest => (place.saturating_sub(8)..place).collect(),
+        let places: Vec<usize> = match self.without_floors() {
+            Shape::Needs | Shape::Longest | Shape::Woven | Shape::WovenFloors => {
+                (place.saturating_sub(8)..place).collect()
+            }
             Shape::Fan => (0..place.min(8)).collect(),
             Shape::Ring => vec![(place + 1) % RING],
             Shape::RingLongest => (1..=8).map(|step| (place + step) % RING).collect(),
             _ => Vec::new(),
         };
-        places.sort_unstable();
-        let named = |place: &usize| sequence(own_line(*place), 1);
-        places.iter().map(named).collect()
+        let named = places
+            .iter()
+            .map(|place| self.of_own_line(*place).sequence());
+        let mut named: Vec<Sequence> = named.collect();
+        named.sort_unstable();
+        named
     }
 
     /// One command or eight, of all three operations over all tags.
     fn commands(self, place: usize) -> Vec<Command> {
         let count = match self.without_floors() {
             Shape::Longest | Shape::Fan | Shape::RingLongest => 8,
+            Shape::Woven | Shape::WovenFloors => 8,
             _ => 1,
         };
         let numbered = |at: usize| {
@@ -284,10 +321,14 @@ impl Shape {
         }
     }
 
-    /// The image of no members: with no floor or with 32, of lines above all others.
+    /// The image of no members: with no floor or with 32, of lines above all others or of the
+    /// members' own.
     fn first_image(self) -> Vec<u8> {
         let mut sketch = Sketch::default();
-        if self != self.without_floors() {
+        if self == Shape::WovenFloors {
+            let lines = (0..WOVEN).map(own_line);
+            sketch.floors = lines.map(|line| sequence(line, WOVEN_FLOOR)).collect();
+        } else if self != self.without_floors() {
             let lines = (0xC0..0xE0).map(line);
             sketch.floors = lines.map(|line| sequence(line, 9)).collect();
         }
@@ -344,6 +385,8 @@ impl fmt::Display for Shape {
             Shape::ChainFloors => "chain32",
             Shape::LongestFloors => "longest32",
             Shape::RingFloors => "ring32",
+            Shape::Woven => "woven",
+            Shape::WovenFloors => "woven32",
             Shape::Read => "read",
             Shape::Write => "write",
             Shape::Log => "log",
@@ -364,6 +407,7 @@ impl fmt::Display for Arrival {
             Arrival::Begin => f.write_str("begin"),
             Arrival::End => f.write_str("end"),
             Arrival::Whole => f.write_str("whole"),
+            Arrival::Purge(k) => write!(f, "purge{k}"),
         }
     }
 }

@@ -2,7 +2,7 @@
 
 use std::time::{Duration, Instant};
 
-use crate::bench::cases::{Call, Case};
+use crate::bench::cases::Case;
 use crate::bench::sides::{black_box, sides, Buffers, NAMES};
 use crate::boundary::Calls;
 
@@ -109,7 +109,7 @@ struct Track<'a> {
 impl<'a> Track<'a> {
     fn new(case: &'a Case) -> Result<Track<'a>, String> {
         // A call on texts writes nothing that it reads, and so may be made again as well.
-        let still = check(case)? || case.call != Call::Deliver;
+        let still = check(case)? || !case.call.writes();
         let mut buffers = Buffers::new(case);
         let batch = if still { batch(case, &mut buffers) } else { 1 };
         Ok(Track {

@@ -4,6 +4,7 @@
 pub mod cases;
 pub mod measure;
 pub mod places;
+pub mod purges;
 pub mod report;
 pub mod saved;
 pub mod sides;

@@ -29,9 +29,12 @@ pub fn run(specs: &[Spec], effort: Effort) -> Result<Vec<Row>, String> {
     Ok(rows)
 }
 
-/// Whether two cases are measured in the same rounds: those of one row of the growth.
+/// Whether two cases are measured in the same rounds: those of one row of the growth, and the
+/// purges of one shape.
 fn together(one: &Spec, two: &Spec) -> bool {
-    one.shape == two.shape && one.arrival == two.arrival
+    let purge = |spec: &Spec| matches!(spec.arrival, Arrival::Purge(_));
+    let alike = one.arrival == two.arrival || (purge(one) && purge(two));
+    one.shape == two.shape && alike
 }
 
 /// Says that there is no library, if so.
@@ -39,6 +42,9 @@ pub fn print_sides() {
     if !cfg!(feature = "library-deliver") {
         println!("NO LIBRARY: built without the feature `library`. The column `{FIRST}` is the");
         println!("second implementation once more, and what differs from it is noise.");
+    } else if !cfg!(feature = "library-purge") {
+        println!("NO PURGE OF THE LIBRARY: built without the feature `library-purge`. Of purges");
+        println!("the column `{FIRST}` is the second implementation once more.");
     }
 }
 
@@ -46,9 +52,8 @@ fn print_head() {
     print_sides();
     println!("Nanoseconds a call: the median over the rounds, and the worst of them. In a round");
     println!("all sides take turns, and who goes first alternates; the cases that differ only in");
-    println!(
-        "the number of deltas share their rounds. A whole log is as many calls as it has places."
-    );
+    println!("the number of deltas, or of those that are purged, share their rounds. A whole log");
+    println!("is as many calls as it has places.");
     println!("Each timed call follows an untimed one of the same side, and gets a fresh copy of");
     println!("image and step buffer, made outside the timed part. Calls that write nothing, and");
     println!(

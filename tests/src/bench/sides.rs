@@ -88,7 +88,7 @@ pub fn black_box<T>(value: T) -> T {
 }
 
 /// The image and the step buffer of a call, or the buffer of a call on texts, at the same
-/// addresses for both sides. Log message has the image alone.
+/// addresses for both sides. Log message and a purge have the image alone.
 #[derive(Clone, Debug, PartialEq, Eq)]
 pub struct Buffers {
     pub image: Vec<u8>,
@@ -118,6 +118,7 @@ impl Buffers {
             Call::Deliver => calls.deliver(&mut self.image, &case.message, steps).into(),
             Call::Read => calls.read_sequences(&case.message, steps).into(),
             Call::Write => calls.write_sequences(&case.message, steps).into(),
+            Call::Purge(k) => calls.purge(&mut self.image, k).into(),
             Call::Places(first, last) => {
                 let places = first..=last;
                 places

@@ -26,6 +26,7 @@ use crate::bench::report::print_sides;
 use crate::bench::sides::{black_box, library, second, Buffers, FIRST};
 use crate::boundary::Calls;
 use crate::reference::compose::Request;
+use crate::view::u16_at;
 
 /// The thread's stack, and how much of it is painted.
 const STACK: usize = 8 << 20;
@@ -38,9 +39,11 @@ enum Job<'a> {
     Nothing,
     Empty,
     Case(&'a Case),
-    /// On the image of the case: a compose, and the calls that only look.
+    /// On the image of the case: a compose, the calls that only look, and a purge of its log,
+    /// of 32 deltas at most.
     Compose(&'a Case),
     Read(&'a Case),
+    Purge(&'a Case),
 }
 
 /// Eight commands that set tag 0 to 0.
@@ -105,6 +108,7 @@ fn measure(specs: &[Spec]) -> Result<(usize, Vec<Depths>), String> {
             let name = |call| format!("{call} {} {}", spec.shape, spec.count);
             rows.push(probe.depths(&name("compose"), Job::Compose(&case))?);
             rows.push(probe.depths(&name("read"), Job::Read(&case))?);
+            rows.push(probe.depths(&name("purge"), Job::Purge(&case))?);
         }
     }
     Ok((floor, rows))
@@ -176,7 +180,9 @@ impl Probe {
 impl Job<'_> {
     fn buffers(self) -> Buffers {
         match self {
-            Job::Case(case) | Job::Compose(case) | Job::Read(case) => Buffers::new(case),
+            Job::Case(case) | Job::Compose(case) | Job::Read(case) | Job::Purge(case) => {
+                Buffers::new(case)
+            }
             Job::Nothing | Job::Empty => Buffers {
                 image: vec![0xA5; 16_384],
                 steps: Vec::new(),
@@ -200,6 +206,10 @@ impl Job<'_> {
             Job::Read(_) => {
                 black_box(calls.setpoint(&buffers.image, 63));
                 black_box(calls.log_message(&buffers.image, 0));
+            }
+            Job::Purge(_) => {
+                let log = u16_at(&buffers.image, 0) as u32;
+                black_box(calls.purge(&mut buffers.image, log.min(32)));
             }
         }
     }

@@ -1,5 +1,5 @@
-//! Measures deliver, log message and the two calls on texts of the static library beside the
-//! second implementation.
+//! Measures deliver, purge, log message and the two calls on texts of the static library
+//! beside the second implementation.
 //!
 //! Without options it prints the time of every case and the growth with the number of
 //! deltas; `--case NAME` keeps to one, `--rounds N` and `--seconds N` say how long.

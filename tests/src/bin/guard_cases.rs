@@ -1,5 +1,6 @@
 //! Writes the calls of the generator's first seeds to standard output, for the host with
-//! guarded pages (`c/guard.c`), which makes them on the library.
+//! guarded pages (`c/guard.c`), which makes them on the library; then purges of images of all
+//! shapes, right ones, damaged ones and bytes that are none, by the same seeds.
 //!
 //! `guard_cases COUNT`, the number of seeds. A call is a letter, then each buffer that it
 //! reads as a size and its bytes, then its numbers, all numbers of four bytes.
@@ -13,8 +14,16 @@ use std::process::ExitCode;
 
 use bivamolune_tests::boundary::{Calls, Reference};
 use bivamolune_tests::call::World;
-use bivamolune_tests::generate::case;
+use bivamolune_tests::generate::{case, image_input};
 use bivamolune_tests::reference::compose::Request;
+use bivamolune_tests::view::u16_at;
+
+/// The size of an image.
+const IMAGE: usize = 16_384;
+/// The host has no room for larger buffers.
+const MOST: usize = 20_000;
+/// How many floors some of the images claim.
+const CLAIMS: [u16; 4] = [1, 33, 1_321, 0xFFFF];
 
 /// The second implementation, which writes down what it was called with.
 #[derive(Default)]
@@ -77,6 +86,13 @@ impl Calls for Recorder {
         Reference.log_message(image, place)
     }
 
+    fn purge(&self, image: &mut [u8], k: u32) -> u32 {
+        self.letter(b'p');
+        self.buffer(image);
+        self.number(k);
+        Reference.purge(image, k)
+    }
+
     fn read_sequences(&self, text: &[u8], sequences: &mut [u8]) -> u32 {
         self.letter(b'r');
         self.buffer(text);
@@ -108,7 +124,7 @@ fn main() -> ExitCode {
     }
 }
 
-/// Makes the calls of a seed, and writes them.
+/// Makes the calls of a seed, and its purges, and writes them.
 fn write_case(seed: u64) -> io::Result<()> {
     let recorder = Recorder::default();
     let mut world = World::default();
@@ -116,6 +132,26 @@ fn write_case(seed: u64) -> io::Result<()> {
         let outcome = world.perform(&recorder, &call);
         world.follow(&call, &outcome);
     }
+    let mut image = image_input(seed);
+    image.truncate(MOST);
+    purge_each(&recorder, &image);
+    if image.len() == IMAGE {
+        let claim = CLAIMS[seed as usize % CLAIMS.len()];
+        image[10..12].copy_from_slice(&claim.to_be_bytes());
+        purge_each(&recorder, &image);
+    }
     let written = recorder.written.borrow();
     io::stdout().lock().write_all(&written)
+}
+
+/// Purges copies of an image: by none, one, half of the log, the log, one more, and by the most
+/// that can be said.
+fn purge_each(calls: &Recorder, image: &[u8]) {
+    let log = match image.len() {
+        0 | 1 => 0,
+        _ => u16_at(image, 0) as u32,
+    };
+    for k in [0, 1, log / 2, log, log + 1, u32::MAX] {
+        calls.purge(&mut image.to_vec(), k);
+    }
 }

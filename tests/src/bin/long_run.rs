@@ -143,12 +143,13 @@ fn many_seeds(other: &Counted, options: &Options, what: &str) -> bool {
     }
     println!(
         "no difference: {cases} cases from seed {} in steps of {every}, {all_calls} calls, {} deliveries, {} empties, \
-         {} composes, {} setpoints, {} log messages, {} texts read, {} texts written, {} s; \
+         {} composes, {} purges, {} setpoints, {} log messages, {} texts read, {} texts written, {} s; \
          compared: {what}",
         options.start,
         other.deliver.get(),
         other.empty.get(),
         other.compose.get(),
+        other.purge.get(),
         other.setpoint.get(),
         other.log_message.get(),
         other.read_sequences.get(),
@@ -164,6 +165,7 @@ struct Counted<'a> {
     empty: Cell<u64>,
     deliver: Cell<u64>,
     compose: Cell<u64>,
+    purge: Cell<u64>,
     setpoint: Cell<u64>,
     log_message: Cell<u64>,
     read_sequences: Cell<u64>,
@@ -177,6 +179,7 @@ impl Counted<'_> {
             empty: Cell::new(0),
             deliver: Cell::new(0),
             compose: Cell::new(0),
+            purge: Cell::new(0),
             setpoint: Cell::new(0),
             log_message: Cell::new(0),
             read_sequences: Cell::new(0),
@@ -199,6 +202,11 @@ impl Calls for Counted<'_> {
     fn compose(&self, image: &[u8], request: &Request, message: &mut [u8]) -> u32 {
         self.compose.set(self.compose.get() + 1);
         self.calls.compose(image, request, message)
+    }
+
+    fn purge(&self, image: &mut [u8], k: u32) -> u32 {
+        self.purge.set(self.purge.get() + 1);
+        self.calls.purge(image, k)
     }
 
     fn setpoint(&self, image: &[u8], tag: u32) -> u64 {

@@ -42,6 +42,9 @@ extern "C" {
     #[cfg(feature = "library-log-message")]
     fn bivamolune_log_message(image: *const u8, image_size: usize, place: u32) -> u64;
 
+    #[cfg(feature = "library-purge")]
+    fn bivamolune_purge(image: *mut u8, image_size: usize, k: u32) -> u32;
+
     #[cfg(feature = "library-read-sequences")]
     fn bivamolune_read_sequences(
         text: *const u8,
@@ -102,6 +105,11 @@ impl Calls for Library {
     #[cfg(feature = "library-log-message")]
     fn log_message(&self, image: &[u8], place: u32) -> u64 {
         unsafe { bivamolune_log_message(image.as_ptr(), image.len(), place) }
+    }
+
+    #[cfg(feature = "library-purge")]
+    fn purge(&self, image: &mut [u8], k: u32) -> u32 {
+        unsafe { bivamolune_purge(image.as_mut_ptr(), image.len(), k) }
     }
 
     #[cfg(feature = "library-read-sequences")]

@@ -1,4 +1,4 @@
-//! The seven calls on byte buffers, with their answers packed into one number.
+//! The eight calls on byte buffers, with their answers packed into one number.
 
 #[cfg(feature = "earlier")]
 mod earlier;
@@ -14,6 +14,7 @@ pub use library::Library;
 
 use crate::reference::code::Code;
 use crate::reference::compose::{compose, Request};
+use crate::reference::purge::purge;
 use crate::reference::station::{deliver, empty, log_message, log_message_code, setpoint};
 use crate::reference::text::{read_sequences, write_sequences};
 
@@ -44,6 +45,11 @@ pub trait Calls {
     /// beside a refusal.
     fn log_message(&self, image: &[u8], place: u32) -> u64 {
         Reference.log_message(image, place)
+    }
+
+    /// The code.
+    fn purge(&self, image: &mut [u8], k: u32) -> u32 {
+        Reference.purge(image, k)
     }
 
     /// The code + 256 * length of the sequences.
@@ -90,6 +96,10 @@ impl Calls for Reference {
             _ => part.as_ptr() as usize - image.as_ptr() as usize,
         };
         packed(code + 256 * part.len() as u32, offset as u32)
+    }
+
+    fn purge(&self, image: &mut [u8], k: u32) -> u32 {
+        purge(image, k).map_or_else(Code::number, |()| 0)
     }
 
     fn read_sequences(&self, text: &[u8], sequences: &mut [u8]) -> u32 {
@@ -163,6 +173,8 @@ pub const COMPARED: &[&str] = &[
     "bivamolune_setpoint",
     #[cfg(feature = "library-log-message")]
     "bivamolune_log_message",
+    #[cfg(feature = "library-purge")]
+    "bivamolune_purge",
     #[cfg(feature = "library-read-sequences")]
     "bivamolune_read_sequences",
     #[cfg(feature = "library-write-sequences")]

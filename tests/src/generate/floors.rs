@@ -30,10 +30,10 @@ pub fn is_with_floors(seed: u64) -> bool {
 
 /// A set of deltas, some of which are in the image that the list begins from, and what was
 /// purged before them.
-struct Start {
-    drafts: Vec<Draft>,
-    present: Vec<Draft>,
-    purged: Purged,
+pub struct Start {
+    pub drafts: Vec<Draft>,
+    pub present: Vec<Draft>,
+    pub purged: Purged,
 }
 
 /// The list of a seed.
@@ -82,7 +82,7 @@ fn set_of(messages: &[Vec<u8>]) -> Set<'_> {
 }
 
 impl Start {
-    fn new(random: &mut Random, style: &Style) -> Start {
+    pub fn new(random: &mut Random, style: &Style) -> Start {
         let count = random.pick(&[1, 2, 3, 5, 8, 8, 20, 63, MOST]);
         let drafts = styled_drafts(random, style, count);
         let purged = match random.below(5) {
@@ -230,7 +230,7 @@ fn fillers() -> impl Iterator<Item = Draft> {
 }
 
 /// A number at or beside this one, or at an end.
-fn near(random: &mut Random, number: u16) -> u16 {
+pub fn near(random: &mut Random, number: u16) -> u16 {
     let ends = [1, 0xFFFF];
     match random.below(8) {
         0 | 1 => number.saturating_sub(1).max(1),

@@ -4,6 +4,7 @@
 mod floors;
 mod images;
 mod limits;
+mod purges;
 mod right;
 mod sets;
 mod streams;
@@ -13,6 +14,7 @@ mod wrong;
 pub use floors::{image_with, is_with_floors};
 pub use images::{damaged_image, image_input};
 pub use limits::{is_at_limits, wrong_images};
+pub use purges::is_with_purges;
 pub use right::any_draft;
 pub use sets::{drafts, LIMIT, LINES};
 pub use streams::stream;
@@ -65,6 +67,9 @@ pub fn case(seed: u64) -> Vec<Call> {
     }
     if is_with_floors(seed) {
         return floors::case(seed);
+    }
+    if is_with_purges(seed) {
+        return purges::case(seed);
     }
     let mut random = Random::new(seed);
     let style = Style::new(&mut random);

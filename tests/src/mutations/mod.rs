@@ -4,7 +4,7 @@
 pub mod trial;
 
 /// The tests that are run on each change first: those of few inputs.
-pub const QUICK: [&str; 19] = [
+pub const QUICK: [&str; 21] = [
     "examples",
     "codes",
     "edges_message",
@@ -12,6 +12,8 @@ pub const QUICK: [&str; 19] = [
     "edges_log",
     "edges_floors",
     "floors",
+    "purge",
+    "edges_purge",
     "edges_compose",
     "edges_buffers",
     "edges_steps",
@@ -29,11 +31,14 @@ pub const QUICK: [&str; 19] = [
 /// The tests that are run after those: of many inputs. The tests of the differential runner
 /// are not among them, as they would compare the second implementation with itself. The
 /// last one sees nearly every change by digests, which name no rule.
-pub const SLOW: [&str; 12] = [
+pub const SLOW: [&str; 15] = [
     "accepted",
     "generator",
     "limits",
     "limits_floors",
+    "limits_purges",
+    "purge_small",
+    "purge_runs",
     "brute_force",
     "hostile",
     "round_trips",

@@ -77,6 +77,7 @@ impl Teller {
             // A picture is of the hazard of crashes alone.
             What::Cut(..) | What::BackedUp(_) | What::Restored(_) => {}
             What::Cloned(..) | What::Damaged(..) => {}
+            What::Purged(..) | What::NotPurged(..) | What::CatchUp => {}
         }
     }
 

@@ -28,6 +28,9 @@ pub enum What {
     /// The steps of the delivery, in order.
     Undone(usize, Sequence),
     Executed(usize, Sequence),
+    /// So many were purged, or would have been but for this code.
+    Purged(usize, usize),
+    NotPurged(usize, usize, u32),
     /// The image was saved.
     Saved(usize),
     /// A save was cut, and left this on the disk.
@@ -48,6 +51,8 @@ pub enum What {
     Lost(usize, Sequence),
     /// The network fell apart, or came together.
     Sides(Sides),
+    /// Each station gets what it has not yet.
+    CatchUp,
     /// From here on everything reaches all.
     Exchange,
 }
@@ -84,6 +89,8 @@ impl Display for Event {
             What::Delivered(at, own, code) => write!(f, "{at} deliver {} code {code}", hex(own)),
             What::Undone(at, own) => write!(f, "{at} undo {}", hex(own)),
             What::Executed(at, own) => write!(f, "{at} execute {}", hex(own)),
+            What::Purged(at, count) => write!(f, "{at} purge {count}"),
+            What::NotPurged(at, count, code) => write!(f, "{at} no-purge {count} code {code}"),
             What::Saved(at) => write!(f, "{at} save"),
             What::Cut(at, left) => write!(f, "{at} cut-save {left}"),
             What::BackedUp(at) => write!(f, "{at} back-up"),
@@ -94,6 +101,7 @@ impl Display for Event {
             What::Damaged(to, own, bit) => write!(f, "- flip {} bit {bit} to {to}", hex(own)),
             What::Lost(to, own) => write!(f, "- lose {} to {to}", hex(own)),
             What::Sides(sides) => write!(f, "- sides {sides}"),
+            What::CatchUp => write!(f, "- catch-up"),
             What::Exchange => write!(f, "- exchange"),
         }
     }

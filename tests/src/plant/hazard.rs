@@ -19,10 +19,25 @@ pub enum Hazard {
     /// A station's disk is copied to another station. The duty: the clone gets lines of its
     /// own.
     Cloning,
+    /// Stations purge what all have executed. The duty: only while the station has all that
+    /// there is, and only up to the first log delta that no other log delta needs. Neglected,
+    /// neither is asked.
+    Purge,
+    /// The same, and only the first of the two is neglected.
+    PurgeEarly,
+    /// The same, and only the second of the two is neglected.
+    PurgeEnds,
+}
+
+impl Hazard {
+    /// Whether stations purge.
+    pub fn purges(self) -> bool {
+        matches!(self, Hazard::Purge | Hazard::PurgeEarly | Hazard::PurgeEnds)
+    }
 }
 
 /// Every hazard, by the name that the command line takes.
-pub const HAZARDS: [(&str, Hazard); 7] = [
+pub const HAZARDS: [(&str, Hazard); 10] = [
     ("crash", Hazard::Crash),
     ("damage", Hazard::Damage),
     ("shared-line", Hazard::SharedLine),
@@ -30,6 +45,9 @@ pub const HAZARDS: [(&str, Hazard); 7] = [
     ("torn-save", Hazard::TornSave),
     ("old-backup", Hazard::OldBackup),
     ("cloning", Hazard::Cloning),
+    ("purge", Hazard::Purge),
+    ("purge-early", Hazard::PurgeEarly),
+    ("purge-ends", Hazard::PurgeEnds),
 ];
 
 /// A hazard, and whether the hosts do what it asks of them.
@@ -48,5 +66,17 @@ impl Duty {
 
     pub fn is_kept(self) -> bool {
         self == Duty::Kept(self.hazard())
+    }
+
+    /// Whether a station purges only while it has all that there is.
+    pub fn waits_for_all(self) -> bool {
+        let neglected = [Hazard::Purge, Hazard::PurgeEarly];
+        !neglected.map(Duty::Neglected).contains(&self)
+    }
+
+    /// Whether a station purges no delta at or past the first that no other one needs.
+    pub fn keeps_ends(self) -> bool {
+        let neglected = [Hazard::Purge, Hazard::PurgeEnds];
+        !neglected.map(Duty::Neglected).contains(&self)
     }
 }

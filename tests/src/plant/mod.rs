@@ -1,6 +1,6 @@
 //! A plant in motion: stations over a network that loses, repeats, reorders and splits, with
-//! operators who compose, restarts from saved images, a hazard with a host's duty against it,
-//! and a last exchange of everything.
+//! operators who compose, restarts from saved images, purges, a hazard with a host's duty
+//! against it, and a last exchange of everything.
 
 mod disk;
 mod event;
@@ -9,6 +9,7 @@ mod motion;
 mod network;
 mod outage;
 mod outside;
+mod purging;
 mod run;
 mod station;
 mod traffic;
@@ -18,7 +19,7 @@ pub use disk::{Left, SECTORS};
 pub use event::{Event, What};
 pub use hazard::{Duty, Hazard, HAZARDS};
 pub use run::Run;
-pub use station::{Delivery, Hardware, Station};
+pub use station::{Delivery, Hardware, Memory, Station};
 
 use crate::boundary::Calls;
 use motion::Plant;

@@ -1,4 +1,4 @@
-//! The plant's day: operators compose, packets arrive, stations save and begin again.
+//! The plant's day: operators compose, packets arrive, stations save, purge and begin again.
 
 use std::collections::{BTreeMap, BTreeSet};
 
@@ -86,6 +86,7 @@ impl<'a> Plant<'a> {
         while self.time < most {
             self.time += 1;
             self.clone_once();
+            self.purge_at_times()?;
             let at = self.random.below(self.stations.len());
             if self.random.chance(self.pace) {
                 self.operate(at)?;
@@ -108,7 +109,7 @@ impl<'a> Plant<'a> {
 
     /// An operator's turn. A crash may come between any two things.
     fn operate(&mut self, at: usize) -> Result<(), String> {
-        if self.budget == 0 {
+        if self.budget == 0 || !self.finds_room()? {
             return Ok(());
         }
         let composing = self.composing(at);
@@ -222,11 +223,12 @@ impl<'a> Plant<'a> {
 }
 
 /// How many deltas operators may compose: with those from outside at most 64, unless the duty
-/// against overflow is neglected.
+/// against overflow is neglected, or stations purge.
 fn budget(random: &mut Random, duty: Duty, most: usize, outside: usize) -> usize {
     match duty {
         Duty::Kept(Hazard::Overflow) => 64 - outside,
         Duty::Neglected(Hazard::Overflow) => 64 - outside + random.within(1, 20),
+        _ if duty.hazard().purges() => 3 * random.within(most / 2, most),
         _ => random.within(most / 2, most),
     }
 }

@@ -5,7 +5,7 @@ use std::collections::BTreeSet;
 
 use crate::boundary::{code, executions, length, undos, Calls};
 use crate::call::{hex, Composing};
-use crate::view::{log, sequence_of, steps, values, Kind, Pair, Step, STEP};
+use crate::view::{floors, log, messages, sequence_of, steps, values, Kind, Pair, Step, STEP};
 use crate::wire::{Line, Sequence};
 
 /// The size of an image.
@@ -13,7 +13,9 @@ const IMAGE: usize = 16_384;
 /// The size of a step buffer.
 const STEPS: usize = 10_160;
 /// As many deltas as an image has room for.
-const MOST: usize = 64;
+pub const MOST: usize = 64;
+/// As many floors as an image has room for.
+const MOST_FLOORS: usize = 32;
 /// What bytes hold that nobody has written.
 const PATTERN: u8 = 0xA5;
 
@@ -42,6 +44,12 @@ impl Host {
             true => Ok(()),
             false => Err(format!("undo of {name} restores other values")),
         }
+    }
+
+    /// A purge has no step; the log loses its first ones.
+    fn lose(&mut self, count: usize) {
+        self.log.drain(..count);
+        self.found.drain(..count);
     }
 }
 
@@ -77,12 +85,13 @@ impl Hardware {
 }
 
 /// An image, the host that belongs to it, and the messages that were accepted on the way to
-/// it, as the plain station keeps them.
+/// it, as the plain station keeps them. Those that were purged lie apart, in their order.
 #[derive(Clone, Debug, PartialEq, Eq)]
 pub struct Memory {
     pub image: Vec<u8>,
     pub host: Host,
     pub accepted: BTreeSet<Vec<u8>>,
+    pub purged: Vec<Vec<u8>>,
 }
 
 impl Memory {
@@ -91,9 +100,24 @@ impl Memory {
         self.accepted.len() == MOST
     }
 
+    /// The whole history: what was purged, then the log.
+    pub fn history(&self) -> Vec<Sequence> {
+        let purged = self.purged.iter().map(|message| sequence_of(message));
+        purged.chain(self.host.log.iter().copied()).collect()
+    }
+
+    /// Whether a sequence was purged.
+    pub fn has_purged(&self, own: &Sequence) -> bool {
+        let mut purged = self.purged.iter();
+        purged.any(|message| sequence_of(message) == *own)
+    }
+
     /// What deliver must answer to a message that passes 3 to 6.
     pub fn due(&self, message: &[u8]) -> u32 {
         let own = sequence_of(message);
+        if self.has_purged(&own) {
+            return 0;
+        }
         let mut accepted = self.accepted.iter();
         match accepted.find(|known| sequence_of(known) == own) {
             Some(known) if known == message => 0,
@@ -102,6 +126,38 @@ impl Memory {
             None => 0,
         }
     }
+
+    /// What a purge of so many must answer.
+    fn due_of_purge(&self, count: usize) -> u32 {
+        let history = self.history();
+        match history.get(..self.purged.len() + count) {
+            None => 15,
+            Some(purged) if highest(purged).len() > MOST_FLOORS => 16,
+            Some(_) => 0,
+        }
+    }
+
+    /// Puts the first messages of a log, which were accepted, to those that were purged.
+    fn put_away(&mut self, dropped: Vec<Vec<u8>>) {
+        self.host.lose(dropped.len());
+        for message in &dropped {
+            self.accepted.remove(message);
+        }
+        self.purged.extend(dropped);
+    }
+}
+
+/// Of each line the sequence of highest number, ascending.
+fn highest(sequences: &[Sequence]) -> Vec<Sequence> {
+    let sorted: BTreeSet<Sequence> = sequences.iter().copied().collect();
+    let mut highest: Vec<Sequence> = Vec::new();
+    for sequence in sorted {
+        match highest.last_mut() {
+            Some(last) if last[..10] == sequence[..10] => *last = sequence,
+            _ => highest.push(sequence),
+        }
+    }
+    highest
 }
 
 /// A station with what it has in memory, its hardware, and on its disk what it has saved and
@@ -134,14 +190,21 @@ impl Station {
             image,
             host: Host::default(),
             accepted: BTreeSet::new(),
+            purged: Vec::new(),
         };
-        Ok(Station {
-            lines,
-            hardware: Hardware::default(),
+        let station = Station::at(memory, Hardware::default());
+        Ok(Station { lines, ..station })
+    }
+
+    /// A station without a line that has this, saved and backed up.
+    pub fn at(memory: Memory, hardware: Hardware) -> Station {
+        Station {
+            lines: Vec::new(),
+            hardware,
             saved: memory.clone(),
             backup: memory.clone(),
             memory,
-        })
+        }
     }
 
     /// A station without a line that got these messages, one after another.
@@ -155,26 +218,58 @@ impl Station {
 
     /// Delivers and lets the host play the steps. Whatever the answer, the host's log is
     /// the image's, and so are the setpoints of the hardware; a refusal writes nothing, nor
-    /// does anything past the steps.
+    /// does anything past the steps, nor a delta that was purged.
     pub fn deliver(&mut self, calls: &dyn Calls, message: &[u8]) -> Result<Delivery, String> {
         let before = self.memory.image.clone();
         let mut buffer = vec![PATTERN; STEPS];
         let answer = calls.deliver(&mut self.memory.image, message, &mut buffer);
         let steps = self.play(&buffer, undos(answer), executions(answer))?;
-        if code(answer) != 0 && (self.memory.image != before || !steps.is_empty()) {
-            return Err(format!("a refusal by {} wrote", code(answer)));
-        }
-        if self.memory.host.log != log(&self.memory.image) {
-            return Err("the host's log is not the image's".to_string());
-        }
-        if !self.hardware.shows(&self.memory.image) {
-            return Err("the hardware's setpoints are not the image's".to_string());
-        }
+        let still = self.memory.image == before && steps.is_empty();
         let code = code(answer);
-        if code == 0 {
+        if code != 0 && !still {
+            return Err(format!("a refusal by {code} wrote"));
+        }
+        let purged = self.memory.has_purged(&sequence_of(message));
+        if purged && !still {
+            return Err("a delta that was purged wrote".to_string());
+        }
+        self.look()?;
+        if code == 0 && !purged {
             self.memory.accepted.insert(message.to_vec());
         }
         Ok(Delivery { code, steps })
+    }
+
+    /// Purges the first ones of the log, and lets the host's log lose them; the code. The
+    /// hardware hears nothing of it. A refusal writes nothing.
+    pub fn purge(&mut self, calls: &dyn Calls, count: usize) -> Result<u32, String> {
+        let before = self.memory.image.clone();
+        let due = self.memory.due_of_purge(count);
+        let code = calls.purge(&mut self.memory.image, count as u32);
+        if code != due {
+            return Err(format!("a purge of {count} answers {code}, not {due}"));
+        }
+        if code == 0 {
+            self.memory.put_away(messages(&before, 0, count));
+        } else if self.memory.image != before {
+            return Err(format!("a refusal by {code} wrote"));
+        }
+        let purged = self.memory.history();
+        if floors(&self.memory.image) != highest(&purged[..self.memory.purged.len()]) {
+            return Err("the floors are not those of what was purged".to_string());
+        }
+        self.look().map(|()| code)
+    }
+
+    /// The host's log is the image's, and so are the setpoints of the hardware.
+    fn look(&self) -> Result<(), String> {
+        if self.memory.host.log != log(&self.memory.image) {
+            return Err("the host's log is not the image's".to_string());
+        }
+        match self.hardware.shows(&self.memory.image) {
+            true => Ok(()),
+            false => Err("the hardware's setpoints are not the image's".to_string()),
+        }
     }
 
     /// Plays the steps at the front of a buffer, behind which nothing is written.

@@ -14,7 +14,7 @@ impl Plant<'_> {
     /// Delivers what came over the network: a wrong message is refused by its code, a right
     /// one is accepted. Where a duty is neglected, a right one may answer 7 or 8, and does so
     /// exactly if the station has its sequence under other bytes or is full.
-    fn receive(&mut self, at: usize, message: &[u8]) -> Result<(), String> {
+    pub fn receive(&mut self, at: usize, message: &[u8]) -> Result<(), String> {
         let right = self.stations[at].memory.due(message);
         let wrong = self.outside.wrong.get(message).copied();
         let code = self.deliver(at, message)?.code;

@@ -31,6 +31,10 @@ pub enum Code {
     Form = 13,
     /// Text: a number 0000.
     Zero = 14,
+    /// Purge: K exceeds L.
+    Beyond = 15,
+    /// Purge: over 32 floors would result.
+    Floors = 16,
 }
 
 impl Code {

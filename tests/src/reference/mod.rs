@@ -9,6 +9,7 @@ pub mod message;
 pub mod order;
 pub mod plain;
 pub mod print_log;
+pub mod purge;
 pub mod purged;
 pub mod reader;
 pub mod sequences;

@@ -7,6 +7,7 @@ use super::code::Code;
 use super::image;
 use super::message::{Delta, Sequence};
 use super::order::{order, Order, Set};
+use super::purge::{first, purged_with};
 use super::purged::Purged;
 use super::steps;
 
@@ -49,6 +50,22 @@ impl PlainStation {
             return Err(Code::Full);
         }
         self.messages.insert(sequence, message.to_vec());
+        Ok(())
+    }
+
+    /// Takes a purge's K: "a purge, refused or not, may stand in demand 3's lists".
+    pub fn purge(&mut self, k: u32) -> Result<(), Code> {
+        let (dropped, purged) = {
+            let order = self.order();
+            let dropped = first(&order, k)?;
+            let purged = purged_with(&order.purged, dropped)?;
+            let sequences = dropped.iter().map(|placed| placed.delta.sequence());
+            (sequences.collect::<Vec<_>>(), purged)
+        };
+        for sequence in dropped {
+            self.messages.remove(&sequence);
+        }
+        self.purged = purged;
         Ok(())
     }
 

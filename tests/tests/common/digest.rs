@@ -170,7 +170,7 @@ fn name(action: &Action) -> &'static str {
         Action::Compose(_) => "compose",
         Action::Setpoint(_) => "setpoint",
         Action::LogMessage(_) => "log message",
-        Action::Empty | Action::Begin(_) => "other",
+        Action::Empty | Action::Begin(_) | Action::Purge(_) => "other",
         Action::ReadSequences { .. } | Action::WriteSequences { .. } => "other",
     }
 }

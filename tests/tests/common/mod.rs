@@ -124,6 +124,16 @@ impl Station {
         read.iter().map(with_pairs).collect()
     }
 
+    /// Purges; the code. A refusal must leave the image as it was.
+    pub fn purge(&mut self, k: u32) -> u32 {
+        let before = self.image.clone();
+        let answer = SUBJECT.purge(&mut self.image, k);
+        if answer != 0 {
+            assert!(before == self.image, "a refusal wrote the image");
+        }
+        answer
+    }
+
     /// Composes into a buffer of 200 bytes.
     pub fn compose(&self, request: &Request) -> (u32, Vec<u8>) {
         self.compose_into(request, MESSAGE)

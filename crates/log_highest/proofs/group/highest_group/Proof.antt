@@ -11,7 +11,8 @@ use Rattle.model.specs.Message.{Message, groupOf}
 use Rattle.set_table.specs.Table.{deltasOf}
 use Rattle.set_table.specs.PlaceLaws.{entry-long}
 use Rattle.image_sections.specs.LogPlaceLaws.{place-inside, place-passes}
-use Rattle.log_highest.specs.GreatestLaws.{greatest-next, greatest-last, greatest-map}
+use Rattle.laws_order.specs.MaxLaws.{greatest-map}
+use Rattle.log_highest.specs.GreatestLaws.{greatest-next, greatest-last}
 use Rattle.log_highest.specs.BlockLaws.{group-small}
 use Rattle.log_highest.proofs.group.highest_group.Statement.{statement}
 use Rattle.log_highest.proofs.group.highest_group.Tie as tie

@@ -1,5 +1,5 @@
 -- What is left of the first listing when its first items are gone: the first listing of the other items, which no longer need the gone ones.
-use mathlib.Core.Path.{_≡_, refl, sym, subst}
+use mathlib.Core.Path.{_≡_, refl, sym, _∙_, ap, subst}
 use mathlib.Core.Logic.{_⊎_, inl, inr, ⊎-elim}
 use mathlib.Core.Bool.{Bool, not}
 use mathlib.Core.List.{List, [], _∷_, _++_, List·Memᴰ·head, List·Memᴰ·tail, List·Memᴰ·not-nil, List·Memᴰ·cases-cons, List·Memᴰ·append-cases, Memᴰ·cast, Memᴰ·append-right}
@@ -7,16 +7,38 @@ use Prim.Native.Nat.{ℕ}
 use lib.ListN.{length}
 use lib.Dec.{T, T-not, not-T}
 use Rattle.model.specs.Lists.{_∈_, has, hasAll}
-use Rattle.model.specs.Listing.{after, ready, Complete, firstOf}
+use Rattle.model.specs.Listing.{after, ready, Listing, Complete, firstOf}
 use Rattle.laws_order.specs.TestLaws.{and-i, has→∈, ∈→has, hasAll→∈, ∈→hasAll}
 use Rattle.laws_order.specs.KeyOrder.{Total}
 use Rattle.laws_order.specs.ListingLaws.{Stuck, stuck-placed, complete-stuck, Next, first-complete, ready-fresh, ready-needs, after-has, after-from, after-keeps}
 use Rattle.laws_order.specs.Greedy.{Greedy, grow-greedy, greedy-first}
 
 -- items placed one list after the other
 pub after-append : {A : Type 0} (name : A → ℕ) (p q : List A) (done : List ℕ) → after name done (p ++ q) ≡ after name (after name done p) q
 after-append name [] q done = refl
 after-append name (a ∷ p) q done = after-append name p q (name a ∷ done)
+
+-- ---- a listing in two parts
+pub listing-front : {A : Type 0} (name : A → ℕ) (needs : A → List ℕ) (p q : List A) (done : List ℕ)
+    → Listing name needs done (p ++ q) → Listing name needs done p
+listing-front name needs [] q done h = tt
+listing-front name needs (a ∷ p) q done h = (h .0, listing-front name needs p q (name a ∷ done) (h .1))
+
+-- no name stands in both parts
+listed-fresh : {A : Type 0} (name : A → ℕ) (needs : A → List ℕ) (l : List A) (done : List ℕ)
+    → Listing name needs done l → (b : A) → b ∈ l → name b ∈ done → ⊥
+listed-fresh name needs [] done h b k j = List·Memᴰ·not-nil k
+listed-fresh name needs (a ∷ l) done h b k j =
+    let rest : b ∈ l → ⊥ = λ i. listed-fresh name needs l (name a ∷ done) (h .1) b i (List·Memᴰ·tail j) in
+    ⊎-elim (λ e. T-not (has (name a) done) (ready-fresh name needs done a (h .0)) (∈→has (Memᴰ·cast (ap name (sym e)) j))) rest (List·Memᴰ·cases-cons k)
+
+pub parts-apart : {A : Type 0} (name : A → ℕ) (needs : A → List ℕ) (p q : List A) (done : List ℕ)
+    → Listing name needs done (p ++ q) → (a b : A) → a ∈ p → b ∈ q → name a ≡ name b → ⊥
+parts-apart name needs [] q done h a b i j e = List·Memᴰ·not-nil i
+parts-apart name needs (x ∷ p) q done h a b i j e =
+    let rest : a ∈ p → ⊥ = λ k. parts-apart name needs p q (name x ∷ done) (h .1) a b k j e in
+    let clash : a ≡ x → name b ∈ name x ∷ done = λ u. List·Memᴰ·head (sym e ∙ ap name u) in
+    ⊎-elim (λ u. listed-fresh name needs (p ++ q) (name x ∷ done) (h .1) b (Memᴰ·append-right p j) (clash u)) rest (List·Memᴰ·cases-cons i)
 
 module _ {A : Type 0} (name : A → ℕ) {K : Type 0} (less : K → K → Bool) (tot : Total less) where
   greedy-behind : (needs : A → List ℕ) (key : A → K) (S p q : List A) (done : List ℕ)

@@ -1,16 +1,16 @@
 -- Raised tops: what they cover.
 use mathlib.Core.Path.{_≡_, refl, sym, _∙_, subst}
 use mathlib.Core.Logic.{_⊎_, inl, inr, ⊎-elim, _↔_}
-use mathlib.Core.Bool.{Bool, true, false, cond}
 use mathlib.Core.List.{List, [], _∷_, List·Memᴰ·head, List·Memᴰ·tail, List·Memᴰ·not-nil, List·Memᴰ·cases-cons}
 use Prim.Native.Nat.{ℕ, _≤_, _<_, max}
 use native.Mathlib.Omega.{arith}
-use lib.Dec.{T, eqb, ltb, eqb→eq, ltb→lt, nltb→le}
+use lib.Dec.{T, ltb, ltb→lt, nltb→le}
 use Rattle.model.specs.Lists.{_∈_}
 use Rattle.model.specs.Message.{lineOf, numberOf}
 use Rattle.model.specs.Tops.{atOrBelow, covered, raiseTop, raiseTops}
 use Rattle.laws_order.specs.TestLaws.{or-l, or-r, or-e, decide}
 use Rattle.laws_origin.specs.TopLaws.{below-out, below-in}
+use Rattle.laws_origin.specs.RaiseRight.{raise-cases}
 
 pub below-self : (s : ℕ) → T (atOrBelow s s)
 below-self s = below-in s s refl (omega arith)
@@ -45,7 +45,7 @@ first-covers top l s = (or-e (atOrBelow top s) (covered l s), ⊎-elim (or-l (at
 -- A raised top covers what the tops covered, and what is at or below it.
 pub raise-covers : (r : ℕ) (tops : List ℕ) (s : ℕ) → T (covered (raiseTop r tops) s) ↔ (T (covered tops s) ⊎ T (atOrBelow r s))
 raise-covers r [] s = (λ t. ⊎-elim inr inl (first-covers r [] s .0 t), ⊎-elim (λ z. absurd z) (λ u. first-covers r [] s .1 (inl u)))
-raise-covers r (top ∷ l) s = go (ltb (lineOf r) (lineOf top)) (eqb (lineOf r) (lineOf top)) (eqb→eq (lineOf r) (lineOf top)) (raise-covers r l s)
+raise-covers r (top ∷ l) s = raise-cases Both r top l (λ h. new) level (λ h. later (raise-covers r l s))
   where
     all : T (covered (top ∷ l) s) ↔ (T (atOrBelow top s) ⊎ T (covered l s))
     all = first-covers top l s
@@ -70,12 +70,6 @@ raise-covers r (top ∷ l) s = go (ltb (lineOf r) (lineOf top)) (eqb (lineOf r) 
           λ t. ⊎-elim (λ u. inl (all .1 (inl u))) (λ u. ⊎-elim (λ v. inl (all .1 (inr v))) inr (ih .0 u)) (f .0 t),
           ⊎-elim (λ t. ⊎-elim (λ v. f .1 (inl v)) (λ v. f .1 (inr (ih .1 (inl v)))) (all .0 t)) (λ u. f .1 (inr (ih .1 (inr u)))),
         )
-
-    go : (b c : Bool) → (T c → lineOf r ≡ lineOf top) → T (covered (raiseTop r l) s) ↔ (T (covered l s) ⊎ T (atOrBelow r s))
-        → Both (cond b (r ∷ top ∷ l) (cond c (max r top ∷ l) (top ∷ raiseTop r l)))
-    go true c f ih = new
-    go false true f ih = level (f tt)
-    go false false f ih = later ih
 
 -- Raised by some sequences, tops cover what they covered, and what is at or below one of these.
 pub raised-cover : (l tops : List ℕ) (s : ℕ)

@@ -10,16 +10,11 @@ use Rattle.model.specs.Order.{State, RightSet, find, needs, ownBlock, blockAlon
 use Rattle.laws_order.specs.ListLaws.{greatest-≤}
 use Rattle.laws_order.specs.TestLaws.{nor-l, greatest-≥}
 use Rattle.laws_order.specs.KeyOrder.{less-total}
 use Rattle.laws_state.specs.SetLaws.{find-here}
 use Rattle.laws_state.specs.LogLaws.{log-received, log-executable, log-closed}
 use Rattle.laws_state.specs.EffectiveLaws.{effective-is}
-use Rattle.laws_purge.specs.Ascent.{Ascends, first-ascends}
-
-below-max : {x g : ℕ} (o : ℕ) → x ≤ g → x ≤ max o g
-below-max o h = omega arith
-
-max-less : {x g : ℕ} (o : ℕ) → x ≤ g → max o x ≤ max o g
-max-less o h = omega arith
+use Rattle.laws_order.specs.MaxLaws.{le-right, max-less}
+use Rattle.laws_order.specs.Ascent.{Ascends, first-ascends}
 
 module _ (S : State) (right : RightSet S) where
   -- the effective block of the delta of a sequence
@@ -42,7 +37,7 @@ module _ (S : State) (right : RightSet S) where
   by-need b k x j i =
       let g : blockAt (sequenceOf x) ≤ greatest blockAt (needs S b) = greatest-≥ blockAt (needs S b) (sequenceOf x) i in
       subst (λ (n : ℕ). effectiveBlock S x ≤ n) (sym (logged-is b k))
-      (below-max (ownBlock S b) (subst (λ (n : ℕ). n ≤ greatest blockAt (needs S b)) (block-here x j) g))
+      (le-right (ownBlock S b) (subst (λ (n : ℕ). n ≤ greatest blockAt (needs S b)) (block-here x j) g))
 
   pub effective-ascends : Ascends (effectiveBlock S) (logOf S)
   unfolding logOf
