@@ -6,9 +6,11 @@ pub mod texts;
 
 use bivamolune_packing::deliveries::pack_delivery;
 use bivamolune_packing::deliveries::pack_emptying;
+use bivamolune_packing::purges::pack_purging;
 use deliver::delivery::deliver;
 use empty::empty;
-ghost use Rattle.bivamolune_packing.specs.Answers.{Empties, Delivers};
+use purge::purge;
+ghost use Rattle.bivamolune_packing.specs.Answers.{Empties, Delivers, Purges};
 
 // Writes the image of no deltas, and answers the code.
 #[no_mangle]
@@ -26,4 +28,13 @@ pub extern "C" fn bivamolune_deliver(image: &mut [u8], message: &[u8], steps: &m
 {
     let delivered = deliver(image, message, steps);
     pack_delivery(delivered)
+}
+
+// Drops the first k log messages, and answers the code.
+#[no_mangle]
+pub extern "C" fn bivamolune_purge(image: &mut [u8], k: u32) -> u32
+    ensures { λ r. ⌜ Purges (now (image .entry)) k r (now (image .exit)) ⌝ }
+{
+    let purged = purge(image, k as usize);
+    pack_purging(purged)
 }

@@ -11,10 +11,12 @@ use Rattle.empty.specs.declared.Emptying.{Emptying}
 use Rattle.empty.specs.declared.Emptying.the-variants as emptying
 use Rattle.deliver_taking.specs.Answer.{codeBy, deliveredBy}
 use Rattle.empty.specs.EmptyAnswer.{emptiedBy}
+use Rattle.purge.specs.declared.Purging.{Purging}
+use Rattle.purge.specs.PurgeAnswer.{purgedCode, purgedBy}
 use Rattle.bivamolune_packing.specs.CountLaws.{Counted, deliver-counted}
 use Rattle.bivamolune_packing.specs.Packing.{packed, AnswerFits, Unpacks}
 use Rattle.bivamolune_packing.specs.PackingLaws.{unpacked}
-use Rattle.bivamolune_packing.specs.Answers.{Empties, Delivers, Small, packedBy, emptiedCode}
+use Rattle.bivamolune_packing.specs.Answers.{Empties, Purges, Delivers, Small, packedBy, emptiedCode}
 
 -- the code of an answer is a byte, and its counts are small
 code-small : (d : Delivery) → codeBy d < 256
@@ -57,6 +59,9 @@ delivers image m steps d r i s e p = record {
 pub empties : (image : List ℕ) (d : Emptying) (r : ℕ) (exit : List ℕ) → emptiedBy d exit ≡ model.empty image → r ≡ emptiedCode d → Empties image r exit
 empties image emptying.Done r exit e p = record { code = p ∙ ap (λ (x : model.Emptied). x .code) e; image = ap (λ (x : model.Emptied). x .image) e }
 empties image emptying.WrongSize r exit e p = record { code = p ∙ ap (λ (x : model.Emptied). x .code) e; image = ap (λ (x : model.Emptied). x .image) e }
+
+pub purges : (image : List ℕ) (k : ℕ) (d : Purging) (r : ℕ) (exit : List ℕ) → purgedBy d exit ≡ model.purge image k → r ≡ purgedCode d → Purges image k r exit
+purges image k d r exit e p = record { code = p ∙ ap (λ (x : model.Purged). x .code) e; image = ap (λ (x : model.Purged). x .image) e }
 
 pub small : (image : List ℕ) (m : Message) (steps : List ℕ) (d : Delivery) (image-exit steps-exit : List ℕ)
     → deliveredBy d image-exit steps-exit ≡ model.deliver image m steps → Small d

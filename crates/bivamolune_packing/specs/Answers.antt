@@ -4,7 +4,7 @@ use mathlib.Core.List.{List}
 use Prim.Native.Nat.{ℕ, _≤_}
 use Rattle.model.specs.Layout.{capacity}
 use Rattle.model.specs.Message.{Message}
-use Rattle.model.specs.Calls.{empty, deliver}
+use Rattle.model.specs.Calls.{empty, deliver, purge}
 use Rattle.deliver_taking.specs.declared.answer.Delivery.{Delivery}
 use Rattle.deliver_taking.specs.Answer.{codeBy, countsBy}
 use Rattle.empty.specs.declared.Emptying.{Emptying}
@@ -14,6 +14,10 @@ use Rattle.bivamolune_packing.specs.Packing.{packed, Unpacks}
 pub record Empties (entry : List ℕ) (r : ℕ) (exit : List ℕ) : Type 0 where
   pub code : r ≡ empty entry .code
   pub image : exit ≡ empty entry .image
+
+pub record Purges (entry : List ℕ) (k r : ℕ) (exit : List ℕ) : Type 0 where
+  pub code : r ≡ purge entry k .code
+  pub image : exit ≡ purge entry k .image
 
 -- code + 256 × undos + 65536 × executions, and the header gives the three back
 pub record Delivers (image : List ℕ) (message : Message) (steps : List ℕ) (r : ℕ) (image-exit steps-exit : List ℕ) : Type 0 where

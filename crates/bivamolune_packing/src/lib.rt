@@ -1,6 +1,7 @@
 // Answers as one number for C, and what the header takes out of it.
 pub mod compositions;
 pub mod deliveries;
+pub mod purges;
 pub mod reads;
 pub mod texts;
 

@@ -1,0 +1,4 @@
+pub mod PurgeAnswer
+pub mod Purging
+pub mod PurgeCases
+pub mod DropLaws
