@@ -22,8 +22,8 @@ use Rattle.image_sections.specs.LogPlaces.{LogPlaces}
 use Rattle.image_sections.specs.LogPlaceLaws.{log-count, log-fits}
 use Rattle.image_listed.specs.declared.Station.{Station}
 use Rattle.image_listed.specs.Listed.{placesIn}
-use Rattle.purge_floors.specs.TopsIn.{topsRoom, topsIn}
-use Rattle.purge_floors.specs.TopsLaws.{tops-length}
+use Rattle.set_tops.specs.TopsIn.{topsRoom, topsIn}
+use Rattle.set_tops.specs.TopsLaws.{tops-length}
 use Rattle.purge_rest.specs.declared.Rest.{Rest}
 use Rattle.purge_rest.specs.Rest.{FirstPlaces, IsRest}
 use Rattle.purge_rest.specs.RestLaws.{first-deltas}

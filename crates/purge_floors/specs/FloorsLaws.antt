@@ -16,8 +16,8 @@ use Rattle.buffer_writes.specs.PasteLaws.{part-pasted}
 use Rattle.set_table.specs.Table.{deltasOf, deltasAt}
 use Rattle.set_table.specs.Places.{sequenceIn}
 use Rattle.image_sections.specs.LogPlaceLaws.{next-message, no-message}
-use Rattle.purge_floors.specs.TopsIn.{topsIn}
-use Rattle.purge_floors.specs.TopsLaws.{tops-length, tops-agree}
+use Rattle.set_tops.specs.TopsIn.{topsIn}
+use Rattle.set_tops.specs.TopsLaws.{tops-length, tops-agree}
 
 -- ---- the floors of an image: they are few, lie in it, and copied to the front of a buffer are its tops
 module _ (pool : List ℕ) (right : T (originRight (originIn pool))) where

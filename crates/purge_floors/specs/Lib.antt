@@ -1,5 +1,1 @@
-pub mod TopsIn
-pub mod TopsLaws
-pub mod Raising
-pub mod RaisingLaws
 pub mod FloorsLaws

@@ -1,12 +1,10 @@
 // The floors that a purge leaves: those of the image, raised by the sequences of the deltas that go.
-pub mod tops;
-
-use crate::tops::raise_top;
 use buffer_writes::copy_at;
 use layout::FLOORS_START;
 use layout::SEQUENCE_SIZE;
 use set_floors::count_floors;
 use set_table::entry::sequence_at;
+use set_tops::raise_top;
 ghost use mathlib.Core.Path.{_≡_};
 ghost use Prim.Native.Nat.{_≤_};
 ghost use lib.ListN.{length};
@@ -17,7 +15,7 @@ ghost use Rattle.model.specs.Order.{originRight, sequencesOf};
 ghost use Rattle.model.specs.Image.{originIn};
 ghost use Rattle.set_table.specs.Table.{deltasOf, deltasAt};
 ghost use Rattle.image_sections.specs.LogPlaces.{TablePlaces};
-ghost use Rattle.purge_floors.specs.TopsIn.{topsRoom, topsIn};
+ghost use Rattle.set_tops.specs.TopsIn.{topsRoom, topsIn};
 
 // Writes the floors of the image that a pool begins with, and answers how many there are.
 fn copy_floors(tops: &mut [u8], pool: &[u8]) -> usize

@@ -9,7 +9,7 @@ use Rattle.model.specs.Message.{Message}
 use Rattle.model.specs.Order.{logOf}
 use Rattle.model.specs.Purge.{originPast}
 use Rattle.model.specs.Image.{stateIn, isImage}
-use Rattle.purge_floors.specs.TopsIn.{topsIn}
+use Rattle.set_tops.specs.TopsIn.{topsIn}
 use Rattle.purge_rest.specs.declared.Rest.{Rest}
 use Rattle.purge_rest.specs.Rest.{IsRest}
 

@@ -23,7 +23,7 @@ use Rattle.image_header.specs.Pieces.{pasted, Copied, headerBytes}
 use Rattle.image_header.specs.PieceLaws.{length-pasted}
 use Rattle.image_sections.specs.Sections.{originBytes}
 use Rattle.image_sections.specs.SectionLaws.{header-is, used-written, used-cleared}
-use Rattle.purge_floors.specs.TopsLaws.{tops-length, tops-bytes}
+use Rattle.set_tops.specs.TopsLaws.{tops-length, tops-bytes}
 use Rattle.purge_rest.specs.declared.Rest.{Rest}
 use Rattle.purge_writing.specs.Writing.{goneFrom, Writable}
 use Rattle.purge_writing.specs.StandingLaws.{Stands, pasted-standing, stands-before, stands-behind}

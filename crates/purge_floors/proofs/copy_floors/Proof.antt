@@ -8,7 +8,7 @@ use lib.Seq.{length-take-le}
 use borrow.Author.Needs.{needs}
 use Rattle.model.specs.Layout.{floorsStart, mostFloors}
 use Rattle.laws_origin.specs.OriginLaws.{header-room}
-use Rattle.purge_floors.specs.TopsIn.{topsIn}
+use Rattle.set_tops.specs.TopsIn.{topsIn}
 use Rattle.purge_floors.specs.FloorsLaws.{floors-few, floors-room, tops-copied}
 use Rattle.purge_floors.proofs.copy_floors.Statement.{statement}
 use Rattle.purge_floors.proofs.copy_floors.Tie as tie

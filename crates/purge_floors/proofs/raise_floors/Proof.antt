@@ -12,8 +12,8 @@ use Rattle.set_table.specs.Table.{deltasOf}
 use Rattle.set_table.specs.Places.{sequenceIn}
 use Rattle.set_table.specs.PlaceLaws.{entry-passes}
 use Rattle.image_sections.specs.LogPlaceLaws.{place-inside}
-use Rattle.purge_floors.specs.TopsIn.{topsIn}
-use Rattle.purge_floors.specs.TopsLaws.{tops-length}
+use Rattle.set_tops.specs.TopsIn.{topsIn}
+use Rattle.set_tops.specs.TopsLaws.{tops-length}
 use Rattle.purge_floors.specs.FloorsLaws.{goneFrom, raised-next, raised-last, raised-count}
 use Rattle.purge_floors.proofs.raise_floors.Statement.{statement}
 use Rattle.purge_floors.proofs.raise_floors.Tie as tie

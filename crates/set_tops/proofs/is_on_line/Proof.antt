@@ -9,10 +9,10 @@ use borrow.Author.Needs.{needs}
 use borrow.Author.Tests.{lt-ltb, le-ltb}
 use Rattle.model.specs.Message.{lineOf}
 use Rattle.message_sequence.specs.Sequence.{sequenceNumber}
-use Rattle.purge_floors.specs.TopsIn.{topsIn}
-use Rattle.purge_floors.specs.TopsLaws.{tops-length, top-at}
-use Rattle.purge_floors.proofs.tops.is_on_line.Statement.{statement}
-use Rattle.purge_floors.proofs.tops.is_on_line.Tie as tie
+use Rattle.set_tops.specs.TopsIn.{topsIn}
+use Rattle.set_tops.specs.TopsLaws.{tops-length, top-at}
+use Rattle.set_tops.proofs.is_on_line.Statement.{statement}
+use Rattle.set_tops.proofs.is_on_line.Tie as tie
 
 returns : tie.Need-returns
 returns c =

@@ -4,8 +4,8 @@ use native.Mathlib.Omega.{arith}
 use borrow.Author.Needs.{needs}
 use borrow.Author.Tests.{ltb-true, ltb-false}
 use Rattle.message_sequence.specs.Sequence.{sequenceNumber}
-use Rattle.purge_floors.proofs.tops.higher.Statement.{statement}
-use Rattle.purge_floors.proofs.tops.higher.Tie as tie
+use Rattle.set_tops.proofs.higher.Statement.{statement}
+use Rattle.set_tops.proofs.higher.Tie as tie
 
 returns : tie.Need-returns
 returns c =

@@ -2,9 +2,9 @@
 use native.Mathlib.Omega.{arith}
 use borrow.Author.Needs.{needs}
 use Rattle.message_sequence.specs.Sequence.{sequenceNumber}
-use Rattle.purge_floors.specs.TopsLaws.{tops-put-in}
-use Rattle.purge_floors.proofs.tops.insert_top.Statement.{statement}
-use Rattle.purge_floors.proofs.tops.insert_top.Tie as tie
+use Rattle.set_tops.specs.TopsLaws.{tops-put-in}
+use Rattle.set_tops.proofs.insert_top.Statement.{statement}
+use Rattle.set_tops.proofs.insert_top.Tie as tie
 
 returns : tie.Need-returns
 returns c =

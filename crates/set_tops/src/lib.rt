@@ -16,8 +16,8 @@ ghost use Rattle.model.specs.Layout.{sequenceSize};
 ghost use Rattle.model.specs.Tops.{raiseTop};
 ghost use Rattle.message_sequence.specs.Sequence.{sequenceNumber};
 ghost use Rattle.set_table.specs.Table.{insertAt};
-ghost use Rattle.purge_floors.specs.TopsIn.{mostTops, topsRoom, topsIn};
-ghost use Rattle.purge_floors.specs.Raising.{PlaceOf, onLine};
+ghost use Rattle.set_tops.specs.TopsIn.{mostTops, topsRoom, topsIn};
+ghost use Rattle.set_tops.specs.Raising.{PlaceOf, onLine};
 
 // The room of the most tops: an image's floors, and one more for each delta of its log.
 pub const TOPS_ROOM: usize = SEQUENCE_SIZE * (MOST_FLOORS + CAPACITY);

@@ -14,7 +14,7 @@ use Rattle.laws_origin.specs.OriginLaws.{parts-agree}
 use Rattle.laws_origin.specs.SectionLaws.{sequences-bytes}
 use Rattle.buffer_writes.specs.PasteLaws.{part-before, part-pasted}
 use Rattle.set_table.specs.Table.{insertAt}
-use Rattle.purge_floors.specs.TopsIn.{topsIn}
+use Rattle.set_tops.specs.TopsIn.{topsIn}
 
 pub tops-length : (b : List ℕ) (n : ℕ) → length (topsIn b n) ≡ n
 unfolding topsIn

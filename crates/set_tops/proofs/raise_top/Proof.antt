@@ -7,11 +7,11 @@ use lib.ListN.{take, drop, getD}
 use borrow.Author.Needs.{needs}
 use Rattle.buffer_reads.specs.FieldLaws.{all-bytes}
 use Rattle.message_sequence.specs.Sequence.{sequenceNumber}
-use Rattle.purge_floors.specs.TopsIn.{topsIn}
-use Rattle.purge_floors.specs.TopsLaws.{tops-length, top-at, top-small, tops-put-over}
-use Rattle.purge_floors.specs.RaisingLaws.{on-line-left, raised-on, raised-in}
-use Rattle.purge_floors.proofs.tops.raise_top.Statement.{statement}
-use Rattle.purge_floors.proofs.tops.raise_top.Tie as tie
+use Rattle.set_tops.specs.TopsIn.{topsIn}
+use Rattle.set_tops.specs.TopsLaws.{tops-length, top-at, top-small, tops-put-over}
+use Rattle.set_tops.specs.RaisingLaws.{on-line-left, raised-on, raised-in}
+use Rattle.set_tops.proofs.raise_top.Statement.{statement}
+use Rattle.set_tops.proofs.raise_top.Tie as tie
 
 -- the call as it began, and its tops then
 abbrev start : tie.After-top-place → tie.Start

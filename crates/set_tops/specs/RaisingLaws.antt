@@ -14,7 +14,7 @@ use Rattle.model.specs.Message.{lineOf}
 use Rattle.model.specs.Tops.{raiseTop}
 use Rattle.laws_order.specs.TestLaws.{and-l, and-r, and-i, true-T, eq→eqb, decide}
 use Rattle.set_table.specs.Table.{insertAt}
-use Rattle.purge_floors.specs.Raising.{Passes, PlaceOf, onLine}
+use Rattle.set_tops.specs.Raising.{Passes, PlaceOf, onLine}
 
 pub passes-none : (s : ℕ) (tops : List ℕ) → Passes s tops 0
 passes-none s tops = record { inside = omega arith; rest = refl }

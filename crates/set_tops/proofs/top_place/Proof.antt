@@ -7,12 +7,12 @@ use borrow.Author.Needs.{needs}
 use borrow.Author.Tests.{ltb-true, ltb-false, not-true, not-false}
 use Rattle.model.specs.Message.{lineOf}
 use Rattle.message_sequence.specs.Sequence.{sequenceNumber}
-use Rattle.purge_floors.specs.TopsIn.{topsIn}
-use Rattle.purge_floors.specs.TopsLaws.{tops-length, top-at}
-use Rattle.purge_floors.specs.Raising.{Passes}
-use Rattle.purge_floors.specs.RaisingLaws.{passes-none, passes-more}
-use Rattle.purge_floors.proofs.tops.top_place.Statement.{statement}
-use Rattle.purge_floors.proofs.tops.top_place.Tie as tie
+use Rattle.set_tops.specs.TopsIn.{topsIn}
+use Rattle.set_tops.specs.TopsLaws.{tops-length, top-at}
+use Rattle.set_tops.specs.Raising.{Passes}
+use Rattle.set_tops.specs.RaisingLaws.{passes-none, passes-more}
+use Rattle.set_tops.proofs.top_place.Statement.{statement}
+use Rattle.set_tops.proofs.top_place.Tie as tie
 
 abbrev Inv-loop : tie.InvT-loop
 Inv-loop tops count s p₀ p = Passes (sequenceNumber s) (topsIn tops count) p

@@ -1,0 +1,4 @@
+pub mod TopsIn
+pub mod TopsLaws
+pub mod Raising
+pub mod RaisingLaws
