@@ -16,7 +16,8 @@ use Rattle.message_sequence.specs.Sequence.{sequenceNumber}
 use Rattle.set_table.specs.Table.{deltasOf}
 use Rattle.set_table.specs.Places.{sequenceIn}
 use Rattle.image_sections.specs.LogPlaceLaws.{log-inside, place-inside}
-use Rattle.log_highest.specs.GreatestLaws.{greatest-next, greatest-last, greatest-map}
+use Rattle.laws_order.specs.MaxLaws.{greatest-map}
+use Rattle.log_highest.specs.GreatestLaws.{greatest-next, greatest-last}
 use Rattle.compose_numbering.specs.NumberLaws.{number-small}
 use Rattle.compose_numbering.proofs.number.new_number.Statement.{statement}
 use Rattle.compose_numbering.proofs.number.new_number.Tie as tie
