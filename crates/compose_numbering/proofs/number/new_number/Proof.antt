@@ -12,11 +12,11 @@ use Rattle.model.specs.Image.{originIn}
 use Rattle.model.specs.Message.{Message, sequenceOf, lineOf}
 use Rattle.model.specs.Compose.{numberOn, highestNumber}
 use Rattle.laws_order.specs.ListLaws.{greatest-≤}
-use Rattle.laws_order.specs.MaxLaws.{greatest-map}
 use Rattle.message_sequence.specs.Sequence.{sequenceNumber}
 use Rattle.set_table.specs.Table.{deltasOf}
 use Rattle.set_table.specs.Places.{sequenceIn}
 use Rattle.image_sections.specs.LogPlaceLaws.{log-inside, place-inside}
+use Rattle.laws_order.specs.MaxLaws.{greatest-map}
 use Rattle.log_highest.specs.GreatestLaws.{greatest-next, greatest-last}
 use Rattle.compose_numbering.specs.NumberLaws.{number-small}
 use Rattle.compose_numbering.proofs.number.new_number.Statement.{statement}
