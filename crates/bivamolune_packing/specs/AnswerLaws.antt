@@ -11,8 +11,8 @@ use Rattle.empty.specs.declared.Emptying.{Emptying}
 use Rattle.empty.specs.declared.Emptying.the-variants as emptying
 use Rattle.deliver_taking.specs.Answer.{codeBy, deliveredBy}
 use Rattle.empty.specs.EmptyAnswer.{emptiedBy}
-use Rattle.purge.specs.declared.Purging.{Purging}
-use Rattle.purge.specs.PurgeAnswer.{purgedCode, purgedBy}
+use Rattle.purge_dropping.specs.declared.answer.Purging.{Purging}
+use Rattle.purge_dropping.specs.PurgeAnswer.{purgedCode, purgedBy}
 use Rattle.bivamolune_packing.specs.CountLaws.{Counted, deliver-counted}
 use Rattle.bivamolune_packing.specs.Packing.{packed, AnswerFits, Unpacks}
 use Rattle.bivamolune_packing.specs.PackingLaws.{unpacked}

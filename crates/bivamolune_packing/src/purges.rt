@@ -1,7 +1,7 @@
 // The answers of purge.
-use purge::Purging;
+use purge_dropping::answer::Purging;
 ghost use mathlib.Core.Path.{_≡_};
-ghost use Rattle.purge.specs.PurgeAnswer.{purgedCode};
+ghost use Rattle.purge_dropping.specs.PurgeAnswer.{purgedCode};
 
 // The code of what purge answers.
 pub fn pack_purging(p: Purging) -> u32

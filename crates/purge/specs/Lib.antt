@@ -1,4 +1,1 @@
-pub mod PurgeAnswer
-pub mod Purging
-pub mod PurgeCases
-pub mod DropLaws
+pub mod Judged

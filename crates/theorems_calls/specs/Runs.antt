@@ -14,8 +14,8 @@ use Rattle.deliver_taking.specs.declared.answer.Delivery.{Delivery}
 use Rattle.empty.specs.declared.Emptying.{Emptying}
 use Rattle.deliver_taking.specs.Answer.{deliveredBy}
 use Rattle.empty.specs.EmptyAnswer.{emptiedBy}
-use Rattle.purge.specs.declared.Purging.{Purging}
-use Rattle.purge.specs.PurgeAnswer.{purgedBy}
+use Rattle.purge_dropping.specs.declared.answer.Purging.{Purging}
+use Rattle.purge_dropping.specs.PurgeAnswer.{purgedBy}
 use Rattle.empty.proofs.empty.Reads as empty-reads
 use Rattle.deliver.proofs.delivery.deliver.Reads as deliver-reads
 use Rattle.purge.proofs.purge.Reads as purge-reads

@@ -12,7 +12,7 @@ use Rattle.message_header.specs.Check.{right}
 use Rattle.laws_codes.specs.Ladder.{tells}
 use Rattle.image_judged.specs.Judging.{IsStation, Copies}
 use Rattle.image_judged.specs.JudgingLaws.{judges-wrong, judges-right}
-use Rattle.purge.specs.PurgeCases.{size-case, image-case}
+use Rattle.purge_dropping.specs.PurgeCases.{size-case, image-case}
 use Rattle.purge.proofs.purge.Statement.{statement}
 use Rattle.purge.proofs.purge.Tie as tie
 

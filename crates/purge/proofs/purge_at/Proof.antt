@@ -10,8 +10,8 @@ use Rattle.model.specs.Layout.{capacity}
 use Rattle.model.specs.Calls.{purge}
 use Rattle.message_header.specs.Check.{right}
 use Rattle.laws_codes.specs.Ladder.{tells}
-use Rattle.purge.specs.PurgeCases.{log-case}
-use Rattle.purge.specs.DropLaws.{log-asked, gone-count, droppable}
+use Rattle.purge_dropping.specs.PurgeCases.{log-case}
+use Rattle.purge.specs.Judged.{log-asked, gone-count, droppable}
 use Rattle.purge.proofs.purge_at.Statement.{statement}
 use Rattle.purge.proofs.purge_at.Tie as tie
 

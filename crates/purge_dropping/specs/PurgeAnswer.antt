@@ -2,8 +2,8 @@
 use mathlib.Core.List.{List}
 use Prim.Native.Nat.{ℕ}
 use Rattle.model.specs.Calls.{Purged}
-use Rattle.purge.specs.declared.Purging.{Purging}
-use Rattle.purge.specs.declared.Purging.the-variants as purging
+use Rattle.purge_dropping.specs.declared.answer.Purging.{Purging}
+use Rattle.purge_dropping.specs.declared.answer.Purging.the-variants as purging
 
 abbrev pub purgedCode : Purging → ℕ
 purgedCode purging.Accepted = 0

@@ -1,11 +1,10 @@
--- The first deltas of a judged image's log, at their places; what is found of them is what the definitions purge.
+-- The first deltas of a log at their places: what is found of them is what the definitions purge.
 use mathlib.Core.Path.{_≡_, refl, sym, _∙_, ap, ap₂, subst}
 use mathlib.Core.Bool.{false}
 use mathlib.Core.List.{List}
 use Prim.Native.Nat.{ℕ, _≤_}
 use native.Mathlib.Omega.{arith}
 use lib.ListN.{length, take}
-use lib.Seq.{length-take-le, take-take}
 use lib.Dec.{ltb}
 use borrow.Author.Tests.{le-ltb}
 use Rattle.model.specs.Layout.{mostFloors, capacity}
@@ -15,13 +14,8 @@ use Rattle.model.specs.Order.{Origin, State, sequencesOf, logOf}
 use Rattle.model.specs.Purge.{originPast}
 use Rattle.model.specs.Image.{originIn, stateIn}
 use Rattle.model.specs.Codes.{exceedsLog, manyFloors}
-use Rattle.laws_state.specs.ImageLaws.{own-log}
-use Rattle.laws_state.specs.OffsetLaws.{log-count as offset-log}
-use Rattle.set_table.specs.Table.{startsOf, deltasOf, deltasAt, setIn}
-use Rattle.image_sections.specs.LogPlaces.{LogPlaces}
+use Rattle.set_table.specs.Table.{deltasOf, deltasAt, setIn}
 use Rattle.image_sections.specs.LogPlaceLaws.{log-count, log-fits}
-use Rattle.image_listed.specs.declared.Station.{Station}
-use Rattle.image_listed.specs.Listed.{placesIn}
 use Rattle.set_tops.specs.TopsIn.{topsRoom, topsIn}
 use Rattle.set_tops.specs.TopsLaws.{tops-length}
 use Rattle.purge_rest.specs.declared.Rest.{Rest}
@@ -29,30 +23,8 @@ use Rattle.purge_rest.specs.Rest.{FirstPlaces, IsRest}
 use Rattle.purge_rest.specs.RestLaws.{first-deltas}
 use Rattle.purge_writing.specs.Writing.{goneFrom, Writable}
 use Rattle.purge_writing.specs.WritingLaws.{purged-origin}
-use Rattle.purge.specs.Purging.{Judged, Droppable}
+use Rattle.purge_dropping.specs.Dropping.{Droppable}
 
--- ---- the first k places of a judged image
-module _ (b pool : List ℕ) (station : Station) (j : Judged b pool station) (size : length (station .places) ≡ capacity) where
-  -- k is not past the log exactly if it is not past the places
-  pub log-asked : (k : ℕ) → exceedsLog (stateIn b) k ≡ ltb (station .logged) k
-  log-asked k = ap (λ (n : ℕ). ltb n k) (ap length (sym (own-log b (j .judged .image))) ∙ offset-log b ∙ sym (j .judged .count))
-
-  module _ (k : ℕ) (within : k ≤ station .logged) where
-    pub gone-count : length (take k (station .places)) ≡ k
-    gone-count = length-take-le k (station .places) (omega (arith, j .judged .fits, size))
-
-    pub droppable : Droppable b pool (startsOf (station .table)) (take k (station .places))
-    droppable = record {
-      image = j .judged .image;
-      pooled = j .pooled;
-      set = j .judged .table .set;
-      all = placesIn station;
-      log = subst (λ (x : List ℕ). LogPlaces x (startsOf (station .table)) (placesIn station)) (sym (j .pooled)) (record { holds = j .judged .table .holds; log = j .judged .log });
-      inside = omega (arith, gone-count, length-take-le (station .logged) (station .places) (omega (arith, j .judged .fits, size)));
-      first = sym (ap (λ (n : ℕ). take n (placesIn station)) gone-count ∙ take-take k (station .logged) (station .places) within);
-    }
-
--- ---- the deltas at them
 floors-past : (S : State) (gone : List Message) → originPast S gone .floors ≡ raiseTops (sequencesOf gone) (S .origin .floors)
 unfolding originPast
 floors-past S gone = refl

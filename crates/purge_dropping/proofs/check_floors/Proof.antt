@@ -2,8 +2,8 @@
 use mathlib.Core.Bool.{not}
 use mathlib.Core.Path.{sym, ap}
 use borrow.Author.Tests.{lt-ltb, le-ltb}
-use Rattle.purge.proofs.check_floors.Statement.{statement}
-use Rattle.purge.proofs.check_floors.Tie as tie
+use Rattle.purge_dropping.proofs.check_floors.Statement.{statement}
+use Rattle.purge_dropping.proofs.check_floors.Tie as tie
 
 returns : tie.Need-returns
 returns c = sym (ap not (lt-ltb _ _ (c .if1 .taken)))

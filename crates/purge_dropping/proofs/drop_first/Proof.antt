@@ -14,10 +14,10 @@ use Rattle.model.specs.Codes.{manyFloors}
 use Rattle.message_header.specs.Check.{right}
 use Rattle.laws_codes.specs.Ladder.{tells}
 use Rattle.purge_rest.specs.RestLaws.{first-inside}
-use Rattle.purge.specs.PurgeCases.{floors-case, left-case}
-use Rattle.purge.specs.DropLaws.{first-places, few-places, within, floors-asked, writable}
-use Rattle.purge.proofs.drop_first.Statement.{statement}
-use Rattle.purge.proofs.drop_first.Tie as tie
+use Rattle.purge_dropping.specs.PurgeCases.{floors-case, left-case}
+use Rattle.purge_dropping.specs.DropLaws.{first-places, few-places, within, floors-asked, writable}
+use Rattle.purge_dropping.proofs.drop_first.Statement.{statement}
+use Rattle.purge_dropping.proofs.drop_first.Tie as tie
 
 -- where the call began, from where the floors are raised; and that from where they are counted
 abbrev began : tie.After-raise-floors → tie.Start

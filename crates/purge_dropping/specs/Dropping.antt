@@ -1,4 +1,4 @@
--- What is known on the way of a purge.
+-- What is known where the first deltas of a log are dropped.
 use mathlib.Core.Path.{_≡_}
 use mathlib.Core.List.{List}
 use Prim.Native.Nat.{ℕ, _≤_}
@@ -7,13 +7,6 @@ use lib.Dec.{T}
 use Rattle.model.specs.Image.{stateIn, isImage}
 use Rattle.set_table.specs.Table.{setIn}
 use Rattle.image_sections.specs.LogPlaces.{LogPlaces}
-use Rattle.image_listed.specs.declared.Station.{Station}
-use Rattle.image_judged.specs.Judging.{IsStation}
-
--- A judged image, and a copy of it.
-pub record Judged (b pool : List ℕ) (station : Station) : Type 0 where
-  pub judged : IsStation b station
-  pub pooled : pool ≡ b
 
 -- An image, its copy with the table of its messages, and the places of the first deltas of its log.
 pub record Droppable (b pool starts gone : List ℕ) : Type 0 where

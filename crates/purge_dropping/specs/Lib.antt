@@ -1,0 +1,4 @@
+pub mod PurgeAnswer
+pub mod PurgeCases
+pub mod Dropping
+pub mod DropLaws

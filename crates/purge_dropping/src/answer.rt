@@ -1,0 +1,8 @@
+// What purge answers.
+pub enum Purging {
+    Accepted,
+    WrongSize,
+    NoImage,
+    PastLog,
+    ManyFloors,
+}
