@@ -54,10 +54,11 @@
  *   begins again with a new line, from a copy of the image of a station with the right one; where nobody has purged, also with
  *   empty and every delta of such a station. A second delta under a purged sequence is not found: 7 is not looked for there.
  * - Code 8 of a delivery: a station keeps 64 deltas and no more, and one that is full differs from those that accepted the delta.
- *   A purge makes room, but the refused delta is then one that is still on its way (see below): if it belongs before what is
- *   purged, the station differs for good. So purge in good time, and share the 64 out among the stations: one that has composed
- *   its share since the last purge composes no more and tells the operators. Compose does not ask for room; a message that the
- *   station's own image refuses is not sent.
+ *   A purge makes room, and the message may be delivered again; but it was still on its way when the station purged (see below):
+ *   if it belongs before what was purged, the station differs for good. The safe way is a copy of the image of a station that
+ *   accepted it, and a new line. So purge in good time, and share the free places out: 64 less the log count and held count of the
+ *   fullest station after a purge. A station that has composed its share since then composes no more and tells the operators.
+ *   Compose does not ask for room; a message that the station's own image refuses is not sent.
  *
  * Floors
  * - A floor is a line and the highest number of it that was purged. An image has at most 32, and beside them the base values,
@@ -69,23 +70,27 @@
  *
  * Before a host purges
  * - Purged deltas keep their place ahead of all that comes later, whatever its block, priority, group and sequence. A delta that
- *   is still on its way, or not yet composed elsewhere, may belong before what is purged. A station that has purged then runs it
- *   behind, one that has not runs it before, and no code tells: the two differ for good.
+ *   is still on its way, or that is yet to be composed at a station which has not all that is purged, may belong before it. A
+ *   station that has purged then runs it behind, one that has not runs it before, and no code tells: the two differ for good.
  * - The library cannot see what is on its way. What is safe comes with reports from the stations, which these calls do not have
- *   yet. Until then purge only what every station has executed, and at a time when nothing is on its way to any station and
- *   nothing is being composed. A delta that was refused by 8 is on its way, and one that some station holds waits for another
- *   that is (but for a ring, which is held for good).
+ *   yet. Until then purge only what every station has executed and saved, and at a time when every station is up, nothing is on
+ *   its way to any of them and nothing is being composed. A station that goes down before it saved begins again without the delta,
+ *   and nobody can send it what all others have purged; one that is down or cut off may have deltas that nobody else has. A delta
+ *   that was refused by 8 is on its way, and one that some station holds waits for another that is (but for a ring, which is held
+ *   for good).
  * - Let the last delta of the log stand, so that k is below the log count, unless all stations purge the same before any of them
- *   composes again. What is composed names deltas of the log alone. On a log that was purged whole, one without priority names
- *   nothing, and a station that still has a delta with a block runs it before that one.
+ *   composes again. What is composed names deltas of the log alone. On a log that was purged whole, a delta composed without
+ *   priority names nothing: a station that has not purged runs it before every delta with a block that it still has, and the
+ *   station that purged runs it behind them.
  * - Stations that have purged different numbers of deltas have different images, also where all is well. Images are equal where
  *   floors, base values, purged block and group agree and the remaining deltas are the same.
  * - Purged deltas cannot be undone, and log message no longer shows them. Who wants them later reads or saves them before.
- * - What all stations have purged, none can send any more. So a station that joins, or comes back from a backup of before, begins
- *   from a copy of another one's image, with a new line. From empty it would run what it gets from zeros, and hold for good what
+ * - What all stations have purged, none can send any more. So a station that joins, or comes back from a backup that lacks
+ *   what the others have purged, begins from a copy of another one's image, with a new line. From empty it would run what it gets from zeros, and hold for good what
  *   needs a purged delta.
- * - A line that has a floor keeps it. So 32 lines can be purged in all, those of stations that are gone among them, and of a 33rd
- *   line nothing (code 16): new lines are given sparingly.
+ * - A line that has a floor keeps it, and a line has 65,535 numbers. So 32 lines can be purged in all, those of stations that are
+ *   gone among them. From the first delta of a 33rd line on nothing can be purged any more (code 16), neither of it nor behind it:
+ *   the image fills up, and answers 8. So new lines are given sparingly.
  * - A purge gives no step, and hardware that plays steps has nothing to do. Whoever keeps the log that the steps were played on
  *   takes the first k off it.
  * - After a purge the image is saved as after a delivery (tests/c/save.h). A host that goes down before begins again as if it had
