@@ -7,7 +7,7 @@
  * - The lowest code that applies is answered. A refused call changes no byte of any buffer, and its counts, length, offset
  *   and value are 0.
  * - An accepted call writes what the paper says and leaves every other byte. Compose, setpoint and log message only read the
- *   image. So does a delivery at or below a floor, which writes no step either, and a purge of no messages.
+ *   image. A delivery at or below a floor and a purge of no messages leave every byte as it was; the former writes no step either.
  * - A composed message that is delivered to the image it was composed on, if that holds fewer than 64 deltas, is accepted
  *   with no undo, and its execution is the first step.
  * - The pairs of a delivery's steps, each of which sets its tag to its value, lead in turn from the image's 64 values before

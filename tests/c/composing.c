@@ -223,9 +223,11 @@ static void run_last_one(void) {
     check(answers(receive_there(named), 0, 0, 1, "xA1 3=1500"), "it is the last one there, too");
     begin_both();
     check(purge(2) == 0 && goes_on(request(10, a1), lone, "xA1 3=1500"), "composed with none left");
+    memcpy(expected, image, sizeof image);
     check(answers(receive_there(lone), 0, 2, 3, "uC1 4=0,uB1 3=0,xA1 3=1500,xB1 3=1480,xC1 4=9"), "it goes before a block there");
     begin_both();
-    check(purge(2) == 0 && answers(deliver(lone), 0, 0, 1, "xA1 3=1500"), "not where the same was purged");
+    check(purge(2) == 0 && answers(deliver(lone), 0, 0, 1, "xA1 3=1500") && memcmp(image, expected, sizeof image) == 0,
+          "not where the same was purged");
 }
 
 /* An image of 16,383, and null with size 0 for each buffer and for all. */

@@ -229,7 +229,7 @@ static int is_played(void) {
 
 static int plays(struct delta d) {
     uint32_t answer = deliver(d), count = bivamolune_undos(answer) + bivamolune_executions(answer);
-    int right = 1;
+    int right = bivamolune_accepted(answer);
     for (uint32_t i = 0; i < count; i++) right = play(steps + (size_t)i * BIVAMOLUNE_STEP_SIZE) && right;
     return right && is_played();
 }

@@ -2,7 +2,7 @@
 
 #![deny(warnings)]
 
-use std::collections::BTreeMap;
+use std::collections::{BTreeMap, BTreeSet};
 
 use bivamolune_tests::boundary::{code, Reference};
 use bivamolune_tests::call::{Action, Call, Outcome, View, World};
@@ -115,20 +115,24 @@ impl Seen {
     }
 }
 
+/// How many lines the log and the floors have together.
+fn lines(image: &[u8]) -> usize {
+    let all = log(image).into_iter().chain(floors(image));
+    let lines: BTreeSet<Vec<u8>> = all.map(|sequence| sequence[..10].to_vec()).collect();
+    lines.len()
+}
+
 /// Notes a call; what it purged is gone.
 fn note(seen: &mut Seen, world: &World, call: &Call, outcome: &Outcome, gone: &mut Vec<Vec<u8>>) {
     let answered = code(outcome.answer);
     match (&call.view, &call.action) {
         (View::Station, Action::Purge(k)) => {
             seen.mark_count(&world.image, *k, answered);
-            let floors = floor_count(&world.image);
             seen.mark("16", answered == 16);
-            seen.mark("16 with 32 floors", answered == 16 && floors == 32);
-            let whole = log(&world.image).len();
-            seen.mark(
-                "15 with over 32 lines",
-                answered == 15 && whole + floors > 32,
-            );
+            let full = floor_count(&world.image) == 32;
+            seen.mark("16 with 32 floors", answered == 16 && full);
+            let many = lines(&world.image) > 32;
+            seen.mark("15 with over 32 lines", answered == 15 && many);
             if answered == 0 && *k > 0 {
                 seen.mark_purge(&world.image, &outcome.image, *k as usize);
                 gone.extend(messages(&world.image, 0, *k as usize));

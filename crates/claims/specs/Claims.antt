@@ -25,11 +25,13 @@ use Rattle.model.specs.Calls.{Emptied, empty, Delivered, deliver, Purged, purge
 use Rattle.model_runs.specs.Run.{Given, Event, imageAfter, Run, stateAfter, logAfter, oldLog, accepts?, codeFor, acceptedIn, remainingIn, deliveries, purgedAfter, Played, History, recordsRead, PairsPlayed}
 use Rattle.model_runs.specs.RunOrder.{receivedIn}
 use Rattle.laws_run.specs.CalledRuns.{Began, Answered}
+use Rattle.laws_run.specs.StateRuns.{state-valid}
 use Rattle.laws_compose.specs.ComposeLaws.{messageBy}
 use Rattle.laws_compose.specs.ComposedFields.{NeededByNone}
+use Rattle.laws_order.specs.TestLaws.{and-r}
 use Rattle.laws_state.specs.ImageLaws.{image-own, own-valid}
 use Rattle.laws_purge.specs.PurgedFloors.{own-numbered}
-use Rattle.theorems.specs.PurgeTheorems.{purge-dropped}
+use Rattle.theorems.specs.PurgeTheorems.{purge-dropped, purge-of-none}
 use Rattle.theorems.specs.Theorems.{CodeLaw, floor-law, purged-law, image-law, image-order, image-of-one-origin, offset-law}
 use Rattle.theorems_refusals.specs.Refusals.{empty-codes, deliver-codes, purge-codes, compose-codes, log-message-codes, setpoint-codes, read-sequences-codes, write-sequences-codes}
 use Rattle.theorems_texts.specs.Texts.{ReadFrom, WrittenFrom, written-read, read-written}
@@ -106,6 +108,17 @@ module _ (given : Given) (b : List ℕ) (begun : Began HostEmptied given b) wher
         × ((all : List ℕ) → History calls all ↔ (all ≡ purgedAfter given calls ++ logAfter given calls))
     purged-ahead = let o = host-agreement .list given b begun calls run in (o .purged, o .history)
 
+    -- "A delivery at or below a floor answers 0 with no step, and its message joins no set": whatever was purged, and whatever came since.
+    pub purged-later : (m : Message) (steps : List ℕ) → stepRoom ≤ length steps → T (passes m) → sequenceOf m ∈ purgedAfter given calls
+        → (d : Delivered) → HostDelivered (imageAfter b calls) m steps d → d ≡ record { code = 0; undos = 0; executions = 0; image = imageAfter b calls; steps = steps }
+    purged-later m steps room pass gone d h =
+        let o = host-agreement .list given b begun calls run in
+        let S : State = stateAfter given calls in
+        let answer : List ℕ → Delivered = λ image. record { code = 0; undos = 0; executions = 0; image = image; steps = steps } in
+        let low : T (purged S (sequenceOf m)) = and-r (numbered (sequenceOf m)) (purged S (sequenceOf m)) (o .purged (sequenceOf m) .0 gone) in
+        host-delivered-as (imageAfter b calls) m steps d h ∙ ap (λ (x : List ℕ). deliver x m steps) (o .image)
+        ∙ purged-law S (state-valid given calls) m steps room pass low .answer ∙ ap answer (sym (o .image))
+
     -- "the first of all such listings"; received: accepted, and not purged; "executed exactly when all it needs, step by step back, was received and contains no ring" (demand 2)
     pub executed : let S = stateAfter given calls in let log = logIn (imageAfter b calls) in IsLog S log × ((m : Message) → (m ∈ S .deltas) ↔ (m ∈ receivedIn given calls))
         × ((m : Message) → m ∈ receivedIn given calls → ((m ∈ log) ↔ Executable S m) × ((m ∈ log) ↔ Grounded S m))
@@ -139,7 +152,7 @@ floor-delivered b i m steps room pass low a h =
     host-delivered-as b m steps a h ∙ ap (λ (x : List ℕ). deliver x m steps) (image-own b i)
     ∙ purged-law (stateIn b) (own-valid b i) m steps room pass low .answer ∙ ap answer (sym (image-own b i))
 
--- "Equal images are promised to stations whose floors, base values, purged block and group agree and whose remaining deltas are the same."
+-- The same of any two images, whoever wrote them.
 pub equal-stations : (b c : List ℕ) → T (isImage b) → T (isImage c) → originIn b ≡ originIn c → ((m : Message) → (m ∈ messagesIn b) ↔ (m ∈ messagesIn c)) → b ≡ c
 equal-stations = image-of-one-origin
 
@@ -158,27 +171,34 @@ pub floors : (S : State) → Valid S → ((m : Message) (s : ℕ) → (s ∈ nee
 floors S v = (floor-law S v .waits, floor-law S v .block)
 
 -- ---- PURGE, as the host sees it: `bivamolune_purge` answered 0. The rest of the log stands as it stood, with its effective blocks and keys; held ones and setpoints stay; "the setpoints after them
--- become the base values"; K messages are gone; what is at or below a floor is what was, and what was dropped.
-module _ (b : List ℕ) (image : T (isImage b)) (K : ℕ) (a : Purged) (call : HostPurged b K a) (answered : a .code ≡ 0) where
+-- become the base values"; the greatest purged block and group count what was dropped; K messages are gone; what is at or below a floor is what was, and what was dropped.
+module _ (b : List ℕ) (K : ℕ) (a : Purged) (call : HostPurged b K a) (answered : a .code ≡ 0) where
   pub purge-drops : T (isImage (a .image)) × (logIn (a .image) ≡ drop K (logIn b)) × (heldIn (a .image) ≡ heldIn b) × (valuesIn (a .image) ≡ valuesIn b)
-      × (originIn (a .image) .base ≡ runLog (take K (logIn b)) (originIn b .base)) × (length (messagesIn (a .image)) + K ≡ length (messagesIn b))
-  purge-drops = let d = purge-dropped b image K a (host-purged-as b K a call) answered in (d .image, d .log, d .held, d .setpoints, d .base, d .freed)
+      × (originIn (a .image) .base ≡ runLog (take K (logIn b)) (originIn b .base))
+      × (originIn (a .image) .block ≡ max (originIn b .block) (greatest (effectiveBlock (stateIn b)) (take K (logIn b))))
+      × (originIn (a .image) .group ≡ max (originIn b .group) (greatest groupOf (take K (logIn b)))) × (length (messagesIn (a .image)) + K ≡ length (messagesIn b))
+  purge-drops = let d = purge-dropped b K a (host-purged-as b K a call) answered in (d .image, d .log, d .held, d .setpoints, d .base, d .block, d .group, d .freed)
 
   pub purge-keeps : let S = stateIn b in let R = stateIn (a .image) in ((m : Message) → m ∈ logIn (a .image) → (effectiveBlock R m ≡ effectiveBlock S m) × (keyOf R m ≡ keyOf S m))
       × ((s : ℕ) → T (numbered s) → T (purged R s) ↔ (T (purged S s) ⊎ (s ∈ sequencesOf (take K (logIn b)))))
-  purge-keeps = let d = purge-dropped b image K a (host-purged-as b K a call) answered in (d .kept .keys, d .kept .floors)
+  purge-keeps = let d = purge-dropped b K a (host-purged-as b K a call) answered in (d .kept .keys, d .kept .floors)
 
-  -- "A delivery at or below a floor answers 0 with no step": a purged delta that comes again leaves every byte.
+  -- "A delivery at or below a floor answers 0 with no step": a purged delta that comes again leaves every byte (after later calls too: `purged-later`).
   pub purged-again : (m : Message) (steps : List ℕ) → stepRoom ≤ length steps → T (passes m) → sequenceOf m ∈ sequencesOf (take K (logIn b))
       → (d : Delivered) → HostDelivered (a .image) m steps d → d ≡ record { code = 0; undos = 0; executions = 0; image = a .image; steps = steps }
   purged-again m steps room pass gone d h =
-      let p = purge-dropped b image K a (host-purged-as b K a call) answered in
+      let p = purge-dropped b K a (host-purged-as b K a call) answered in
       floor-delivered (a .image) (p .image) m steps room pass (p .kept .floors (sequenceOf m) (own-numbered m pass) .1 (inr gone)) d h
 
-  -- "Compose counts floors, purged group and purged block too; on a log emptied by purging the group is the greatest purged group plus one": what is composed next goes on.
+  -- What `composed-carries` counts by: number and block are those that compose would have given before; so is the group, unless the log is emptied: then "the group is the greatest purged group
+  -- plus one". (Dependencies are of the log that is left.)
   pub composed-past : let S = stateIn b in let R = stateIn (a .image) in ((line : ℕ) → newNumber R line ≡ newNumber S line) × ((flag : Bool) → newBlock R flag ≡ newBlock S flag)
       × (K < length (logIn b) → (s : ℕ) → newGroup R s ≡ newGroup S s) × (K ≡ length (logIn b) → (s : ℕ) → newGroup R s ≡ suc (max (S .origin .group) (greatest groupOf (logIn b))))
-  composed-past = let d = purge-dropped b image K a (host-purged-as b K a call) answered in (d .kept .number, d .kept .block, d .kept .group, λ e. d .kept .emptied (omega (arith, e)))
+  composed-past = let d = purge-dropped b K a (host-purged-as b K a call) answered in (d .kept .number, d .kept .block, d .kept .group, λ e. d .kept .emptied (omega (arith, e)))
+
+-- K = 0 changes nothing.
+pub none-purged : (b : List ℕ) → T (isImage b) → (a : Purged) → HostPurged b 0 a → a ≡ record { code = 0; image = b }
+none-purged b i a c = host-purged-as b 0 a c ∙ purge-of-none b i
 
 -- ---- COMPOSE, as the host sees it: `bivamolune_compose` answered 0. Number, dependencies, group, block, and what was handed over; length and rest; delivery. Floors, purged group and
 -- purged block count too; they are none and 0 before any purge.

@@ -134,11 +134,6 @@ module _ (S : State) (right : RightSet S) (K : ℕ) where
       not-T (purged (purgeFirst K S) (sequenceOf m)) (λ t. ⊎-elim (T-not (purged S (sequenceOf m)) (right .above m (r .0))) (r .1)
       (purged-after (sequenceOf m) (own-numbered m (right .pass m (r .0))) .0 t))
 
-  -- and each that is gone is
-  pub gone-purged : (m : Message) → m ∈ take K (logOf S) → T (purged (purgeFirst K S) (sequenceOf m))
-  unfolding purgeFirst originPast
-  gone-purged m k = raised-cover gone (S .origin .floors) (sequenceOf m) .1 (inr (sequenceOf m, Memᴰ·map sequenceOf k, below-self (sequenceOf m)))
-
   -- what was at or below a floor is it still
   pub purged-stays : (s : ℕ) → T (purged S s) → T (purged (purgeFirst K S) s)
   unfolding purgeFirst originPast

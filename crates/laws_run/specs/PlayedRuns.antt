@@ -12,7 +12,7 @@ use Rattle.model.specs.Message.{Message, sequenceOf}
 use Rattle.model.specs.Order.{State, sequencesOf, logOf}
 use Rattle.model.specs.Image.{imageOf}
 use Rattle.model.specs.Steps.{Step, undo, execute, common, stepsOf, readSteps, Plays}
-use Rattle.model_runs.specs.Run.{Given, Call, delivery, purging, Event, Run, stateAfter, logAfter, playedFrom, oldLog, purgedBy, purgedAfter, PlayedOn, Played, History, Begins, Answers}
+use Rattle.model_runs.specs.Run.{Given, Call, delivery, purging, Event, Run, stateAfter, logAfter, playedFrom, oldLog, goneBy, purgedAfter, PlayedOn, Played, History, Begins, Answers}
 use Rattle.laws_order.specs.ListLaws.{drop-map}
 use Rattle.laws_order.specs.StepLaws.{steps-play, plays-unique}
 use Rattle.laws_run.specs.CallRuns.{CallFacts, steps-read}
@@ -37,7 +37,7 @@ played-names (purging K) code l = go (eqb code 0)
     go false = refl
 
 -- what a call takes off the log stood before what its steps find
-purged-parts : (c : Call) (code : ℕ) (l : List Message) → sequencesOf l ≡ purgedBy c code (sequencesOf l) ++ sequencesOf (playedFrom c code l)
+purged-parts : (c : Call) (code : ℕ) (l : List Message) → sequencesOf l ≡ goneBy c code (sequencesOf l) ++ sequencesOf (playedFrom c code l)
 purged-parts (delivery m steps) code l = refl
 purged-parts (purging K) code l = go (eqb code 0)
   where
@@ -108,4 +108,4 @@ module _ (given : Given) (b : List ℕ) (begun : Begins given b) where
   plays-history = played-on (λ c code log. log) (purgedAfter given) refl (λ e earlier.
       let old = logOf (stateAfter given earlier) in
       ap (λ (l : List ℕ). purgedAfter given earlier ++ l) (purged-parts (e .call) (e .answer .code) old)
-      ∙ sym (append-assoc (purgedAfter given earlier) (purgedBy (e .call) (e .answer .code) (sequencesOf old)) (sequencesOf (oldLog (stateAfter given earlier) (e .call) (e .answer .code)))))
+      ∙ sym (append-assoc (purgedAfter given earlier) (goneBy (e .call) (e .answer .code) (sequencesOf old)) (sequencesOf (oldLog (stateAfter given earlier) (e .call) (e .answer .code)))))

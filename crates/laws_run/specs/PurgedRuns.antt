@@ -11,7 +11,7 @@ use Rattle.model.specs.Message.{sequenceOf, numbered}
 use Rattle.model.specs.Order.{Origin, State, holding, purged, sequencesOf, logOf}
 use Rattle.model.specs.Image.{imageOf, Valid}
 use Rattle.model.specs.Calls.{Delivered}
-use Rattle.model_runs.specs.Run.{Given, Call, delivery, purging, Event, Run, stateNext, stateAfter, logAfter, purgedBy, purgedAfter, CallAgrees, Begins, Answers}
+use Rattle.model_runs.specs.Run.{Given, Call, delivery, purging, Event, Run, stateNext, stateAfter, logAfter, goneBy, purgedAfter, CallAgrees, Begins, Answers}
 use Rattle.laws_order.specs.TestLaws.{and-l, and-r, and-i}
 use Rattle.laws_order.specs.ListLaws.{take-map, ∈-take}
 use Rattle.laws_state.specs.LogLaws.{log-received}
@@ -26,11 +26,11 @@ abbrev takenBy : State → Call → List ℕ
 takenBy S (delivery m steps) = []
 takenBy S (purging K) = sequencesOf (take K (logOf S))
 
-by-accepted : (S : State) (c : Call) (code : ℕ) → eqb code 0 ≡ true → purgedBy c code (sequencesOf (logOf S)) ≡ takenBy S c
+by-accepted : (S : State) (c : Call) (code : ℕ) → eqb code 0 ≡ true → goneBy c code (sequencesOf (logOf S)) ≡ takenBy S c
 by-accepted S (delivery m steps) code e = refl
 by-accepted S (purging K) code e = ap (λ (t : Bool). cond t (take K (sequencesOf (logOf S))) []) e ∙ take-map K sequenceOf (logOf S)
 
-by-refused : (c : Call) (code : ℕ) (log : List ℕ) → eqb code 0 ≡ false → purgedBy c code log ≡ []
+by-refused : (c : Call) (code : ℕ) (log : List ℕ) → eqb code 0 ≡ false → goneBy c code log ≡ []
 by-refused (delivery m steps) code log e = refl
 by-refused (purging K) code log e = ap (λ (t : Bool). cond t (take K log) []) e
 
@@ -57,7 +57,7 @@ made-takes S valid (purging K) = record {
   purges = purged-after S valid K;
 }
 
-call-takes : (S : State) → Valid S → (next : State) (b : List ℕ) (c : Call) (a : Delivered) → CallAgrees S next b c a → Takes S (stateNext S c) (purgedBy c (a .code) (sequencesOf (logOf S)))
+call-takes : (S : State) → Valid S → (next : State) (b : List ℕ) (c : Call) (a : Delivered) → CallAgrees S next b c a → Takes S (stateNext S c) (goneBy c (a .code) (sequencesOf (logOf S)))
 call-takes S valid next b c a agrees =
     ⊎-elim (λ r. subst (Takes S (stateNext S c)) (sym (by-accepted S c (a .code) (r .0))) (subst (λ (R : State). Takes S R (takenBy S c)) (sym (next-made S c (r .1))) (made-takes S valid c)))
     (λ r. subst (Takes S (stateNext S c)) (sym (by-refused c (a .code) (sequencesOf (logOf S)) (r .0))) (takes-none S (stateNext S c) (ap (λ (R : State). R .origin) (r .1))))
@@ -87,7 +87,7 @@ purged-list given b begun (e ∷ earlier) run s = go (purged-list given b begun 
     past = purgedAfter given earlier
 
     now : List ℕ
-    now = purgedBy (e .call) (e .answer .code) (logAfter given earlier)
+    now = goneBy (e .call) (e .answer .code) (logAfter given earlier)
 
     takes : Takes S next now
     takes = call-takes S (state-valid given earlier) next (imageOf S) (e .call) (e .answer) (event-facts given b begun e earlier run .agrees)

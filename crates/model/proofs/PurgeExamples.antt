@@ -80,6 +80,8 @@ purges =
     ((two, 0), left [] (pos 0) 0 0 (A 1 ∷ B 1 ∷ []) (C 2 ∷ []) (pos 1480))
     ∷ ((two, 1), left (A 1 ∷ []) (pos 1500) 0 1 (B 1 ∷ []) (C 2 ∷ []) (pos 1480))
     ∷ ((two, 2), left (A 1 ∷ B 1 ∷ []) (pos 1480) 0 1 [] (C 2 ∷ []) (pos 1480))
+    -- of the log, and not by sequence: B1 of group 1 stands before A1 of group 2
+    ∷ ((holding (a1-group-2 ∷ b1 ∷ []), 1), left (B 1 ∷ []) (negsuc 19) 0 1 (A 1 ∷ []) [] (pos 1500))
     -- "greatest purged group", though the last one's is lower
     ∷ ((grouped, 2), left (A 1 ∷ B 1 ∷ []) (pos 5) 0 2 [] [] (pos 5))
     -- "greatest purged effective block"

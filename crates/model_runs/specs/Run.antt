@@ -1,9 +1,9 @@
 -- Demand 3 over a whole run, and what Papers 1 and 4 of document 02 add to it, as one record, `Agreement`: `CallAgrees` of each call,
--- `ListAgrees` after each list, equal images of two lists, and what was purged ahead of the rest. It says what has to hold of empty,
--- deliver and purge calls that are known by what they promise: `begins given b`, that empty was given this, answered 0 and wrote b, and
--- `answers b c a`, that the call c on the image b answered a. `Begins` and `Answers` are those of the definitions; of the code they are the postconditions of its functions.
--- A list of calls is a list of events, the latest first. `RunExamples`, in this crate's proofs, works one through, call by call;
--- `NearMisses` has lists that no station in agreement can have.
+-- `ListAgrees` after each list, and equal images of two lists. It says what has to hold of empty, deliver and purge calls that are known by
+-- what they promise: `begins given b`, that empty was given this, answered 0 and wrote b, and `answers b c a`, that the call c on the image b
+-- answered a. `Begins` and `Answers` are those of the definitions; of the code they are the postconditions of its functions.
+-- A list of calls is a list of events, the latest first. `RunExamples` and `PurgeRunExamples`, in this crate's proofs, work one through each,
+-- call by call; `NearMisses` and `PurgeNearMisses` have lists that no station in agreement can have.
 use mathlib.Core.Path.{_≡_}
 use mathlib.Core.Logic.{_↔_}
 use mathlib.Core.Bool.{Bool, true, false, cond, not, _&&_}
@@ -113,13 +113,13 @@ pub record SameStation (given : Given) (events : List Event) (other : Given) (ot
   pub remaining : (m : Message) → m ∈ remainingIn given events ↔ m ∈ remainingIn other others
 
 -- ---- what was purged: the sequences that a call took off the front of the log, and those that all calls took, in their order
-abbrev pub purgedBy : Call → ℕ → List ℕ → List ℕ
-purgedBy (delivery m steps) code log = []
-purgedBy (purging K) code log = cond (eqb code 0) (take K log) []
+abbrev pub goneBy : Call → ℕ → List ℕ → List ℕ
+goneBy (delivery m steps) code log = []
+goneBy (purging K) code log = cond (eqb code 0) (take K log) []
 
 abbrev pub purgedAfter : Given → List Event → List ℕ
 purgedAfter given [] = []
-purgedAfter given (e ∷ earlier) = purgedAfter given earlier ++ purgedBy (e .call) (e .answer .code) (logAfter given earlier)
+purgedAfter given (e ∷ earlier) = purgedAfter given earlier ++ goneBy (e .call) (e .answer .code) (logAfter given earlier)
 
 -- ---- "The steps of a call are the records at the front of its step buffer: as many undos as its answer counts,
 -- then as many executions as its answer counts; a refused call has none" (its counts are 0)

@@ -1,4 +1,4 @@
--- The answer of purge as the definitions have it: document 02's number for each case, beside the image afterwards.
+-- The answer of purge as the definitions have it: the papers' number for each case, beside the image afterwards.
 use mathlib.Core.List.{List}
 use Prim.Native.Nat.{ℕ}
 use Rattle.model.specs.Calls.{Purged}

@@ -22,7 +22,7 @@ ghost use Rattle.model.specs.Image.{valuesBytes, imageOf, stateIn};
 ghost use Rattle.image_header.specs.Pieces.{pasted, Copied};
 ghost use Rattle.purge_writing.specs.Writing.{Writable};
 
-// Copies the bytes of the pool from one place to another, to `at` on. Returns the place behind them.
+// Copies the pool's bytes from `from` up to `to` into the image, from `at` on. Returns the place behind them.
 fn move_part(image: &mut [u8], pool: &[u8], from: usize, to: usize, at: usize) -> usize
     requires { ⌜ (from ≤ to) × (to ≤ length (now pool)) × (at + (to - from) ≤ length (now image)) ⌝ }
     ensures { λ r. ⌜ Copied (now (image .entry)) at (take (to - from) (drop from (now (pool .entry)))) (now (image .exit)) r ⌝ }
@@ -41,8 +41,8 @@ fn put_start(image: &mut [u8], base: [i32; TAG_COUNT], tops: &[u8], floors: usiz
     copy_at(image, FLOORS_START, tops, SEQUENCE_SIZE * floors);
 }
 
-// Writes the image of what is left when the first k log deltas of an image are purged, which the pool is a copy of. The messages that stay
-// move up as one piece, and the setpoints stay as they are.
+// Writes the image of what is left when the first k log deltas of an image are purged. The pool is a copy of the image before. The messages
+// that stay move up as one piece, and the setpoints stay as they are.
 pub fn write_purged(image: &mut [u8], pool: &[u8], tops: &[u8], floors: usize, k: usize, rest: Rest)
     requires { ⌜ Writable (now image) (now pool) (now tops) floors k rest ⌝ }
     ensures { λ _. ⌜ now (image .exit) ≡ imageOf (purgeFirst k (stateIn (now (image .entry)))) ⌝ }
