@@ -1,5 +1,6 @@
 pub mod ListLaws
 pub mod TestLaws
+pub mod KeepLaws
 pub mod MaxLaws
 pub mod ScanLaws
 pub mod KeyOrder
@@ -8,6 +9,7 @@ pub mod CommonLaws
 pub mod ListingLaws
 pub mod Greedy
 pub mod Behind
+pub mod Restriction
 pub mod Ascent
 pub mod Extension
 pub mod ListingPlaces
