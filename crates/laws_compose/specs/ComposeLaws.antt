@@ -36,7 +36,8 @@ use Rattle.laws_wire.specs.BytesLaws.{number-range}
 use Rattle.laws_state.specs.ImageLaws.{log-passes, image-own, own-valid}
 use Rattle.laws_state.specs.CodeLaws.{compose-code}
 use Rattle.laws_state.specs.DeliverLaws.{code-zero, receive-accepted, take-in-above}
-use Rattle.laws_run.specs.CallRuns.{steps-read, call-facts}
+use Rattle.laws_run.specs.LateCalls.{steps-between}
+use Rattle.laws_run.specs.CallRuns.{call-facts}
 use Rattle.laws_codes.specs.Ladder.{all-free, not-not}
 use Rattle.laws_compose.specs.ComposedMessage.{HasParts, Parts, made-parts, made-passes}
 use Rattle.laws_compose.specs.ComposeFacts.{own-numbered, own-new, own-above, predecessor-logged, dependency-logged, dependencies-ascend, dependencies-numbered, dependencies-other, dependencies-not-predecessor, unneeded-named}
@@ -59,7 +60,7 @@ module _ (S : State) (ascends : Ascending (S .deltas)) (m : Message) (fresh : (a
       extends sequenceOf (needs S) less less-total (keyOf S) (keyOf (add m S)) (S .deltas) (insert m (S .deltas)) m (ascending-names (S .deltas) ascends) (keys-differ S ascends)
       (keys-differ (add m S) (insert-ascending m (S .deltas) ascends))
       (insert-has m (S .deltas) (λ x k e. absurd (fresh x k e))) (λ a k. insert-keeps m (S .deltas) a k) (λ a k. insert-from m (S .deltas) a k)
-      (keys-agree S ascends m fresh) (λ s k. let r = needed s k in subst (λ (t : ℕ). t ∈ placedBy (logOf S)) (r .2) (after-has sequenceOf (logOf S) [] (r .1)))
+      (keys-agree S (add m S) refl ascends (insert-ascending m (S .deltas) ascends) (insert-keeps m (S .deltas))) (λ s k. let r = needed s k in subst (λ (t : ℕ). t ∈ placedBy (logOf S)) (r .2) (after-has sequenceOf (logOf S) [] (r .1)))
       (λ a k e. fresh a (log-received S ascends a k) (sym e)) (covers all)
 
 -- ---- what code 0 says of compose's arguments
@@ -261,7 +262,7 @@ granted-promise b line commands flag priority room g = record {
   accepted = λ h steps r. facts steps .accepted .1 (takes h steps r);
   no-undo = λ h steps r. facts steps .undos ∙ ap (λ (R : State). undosOf (sequencesOf (logOf S′)) (sequencesOf (logOf R))) (added h steps r) ∙ composed-undos b line commands flag priority room g;
   first-step = λ h steps r. let w = composed-steps b line commands flag priority room g in
-      (w .0, steps-read S′ (receive S′ m (length steps)) (imageOf S′) (delivery m steps) (deliver b m steps) (facts steps) ∙ ap some (ap (λ (R : State). stepsOf (sequencesOf (logOf S′)) (sequencesOf (logOf R))) (added h steps r) ∙ w .1));
+      (w .0, steps-between S′ (receive S′ m (length steps)) (delivery m steps) (deliver b m steps) (facts steps .records) ∙ ap some (ap (λ (R : State). stepsOf (sequencesOf (logOf S′)) (sequencesOf (logOf R))) (added h steps r) ∙ w .1));
 }
   where
     S′ : State

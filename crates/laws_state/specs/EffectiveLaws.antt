@@ -1,6 +1,6 @@
--- The effective block: that the computed one is the paper's and no other is, and that a new delta leaves those of
--- logged deltas and their keys.
-use mathlib.Core.Path.{_≡_, refl, sym, _∙_, ap, subst}
+-- The effective block: that the computed one is the paper's and no other is, and that what is received besides leaves those of logged deltas
+-- and their keys.
+use mathlib.Core.Path.{_≡_, refl, sym, _∙_, ap, ap₂, subst}
 use mathlib.Core.Logic.{_⊎_, inl, inr, ⊎-elim}
 use mathlib.Core.List.{List, [], _∷_, _++_, List·Memᴰ·head, List·Memᴰ·tail, List·Memᴰ·not-nil, List·Memᴰ·cases-cons, Memᴰ·append-left}
 use Prim.Native.Nat.{ℕ, zero, suc, _+_, _≤_, max}
@@ -12,10 +12,10 @@ use Rattle.model.specs.Lists.{_∈_, greatest}
 use Rattle.model.specs.Layout.{capacity}
 use Rattle.model.specs.Message.{Message, sequenceOf}
 use Rattle.model.specs.Listing as L
-use Rattle.model.specs.Order.{State, Ascending, add, find, needs, placedBy, ready, Listing, Executable, ownBlock, blockAlong, effectiveBlock, statedPriority, keyWith, keyOf, logOf}
+use Rattle.model.specs.Order.{Origin, State, holding, Ascending, find, needs, placedBy, ready, Listing, Executable, ownBlock, blockAlong, effectiveBlock, statedPriority, keyWith, keyOf, logOf}
 use Rattle.laws_order.specs.TestLaws.{hasAll→∈, greatest-cong}
 use Rattle.laws_order.specs.ListingLaws.{ready-needs, after-from, listing-length, listing-last}
-use Rattle.laws_state.specs.SetLaws.{find-here, find-insert}
+use Rattle.laws_state.specs.SetLaws.{find-here}
 use Rattle.laws_state.specs.LogLaws.{Logged, log-complete, log-executable, log-received, log-closed}
 
 -- along ways of n needs or more the block is the same
@@ -108,23 +108,32 @@ module _ (S : State) (ascends : Ascending (S .deltas)) (small : length (S .delta
   effective-only m k e =
       agrees (logOf S) [] (λ s j. absurd (List·Memᴰ·not-nil j)) (log-complete S ascends .listing) (λ b j. log-complete S ascends .sound b j) m (log-executable S ascends m k .1 e)
 
--- ---- a delta of a new sequence changes neither block nor key of a logged one
-module _ (S : State) (ascends : Ascending (S .deltas)) (m : Message) (fresh : (a : Message) → a ∈ S .deltas → sequenceOf m ≡ sequenceOf a → ⊥) where
-  block-agrees : (n s : ℕ) → Logged S s → blockAlong (add m S) n s ≡ blockAlong S n s
+-- ---- what is received besides changes neither block nor key of a logged delta: its needs are all logged, and none is new
+module _ (S R : State) (origin : S .origin ≡ R .origin) (ascends : Ascending (S .deltas)) (ascends′ : Ascending (R .deltas))
+    (more : (x : Message) → x ∈ S .deltas → x ∈ R .deltas) where
+  found : (k : Message) → k ∈ logOf S → (find (S .deltas) (sequenceOf k) ≡ k) × (find (R .deltas) (sequenceOf k) ≡ k)
+  found k j =
+      let here : k ∈ S .deltas = log-received S ascends k j in
+      (find-here (S .deltas) ascends k here, find-here (R .deltas) ascends′ k (more k here))
+
+  block-agrees : (n s : ℕ) → Logged S s → blockAlong R n s ≡ blockAlong S n s
   unfolding needs
   block-agrees zero s k = refl
   block-agrees (suc n) s k =
-      ap (λ (x : Message). max (ownBlock S x) (greatest (blockAlong (add m S) n) (needs S x))) (find-insert m (S .deltas) s other)
-      ∙ ap (max (ownBlock S (find (S .deltas) s))) (greatest-cong (blockAlong (add m S) n) (blockAlong S n) (needs S (find (S .deltas) s)) (λ t j. block-agrees n t (within t j)))
+      ap₂ (λ (O : Origin) (x : Message). max (ownBlock (holding O []) x) (greatest (blockAlong R n) (needs (holding O []) x))) (sym origin) same
+      ∙ ap (max (ownBlock S (find (S .deltas) s))) (greatest-cong (blockAlong R n) (blockAlong S n) (needs S (find (S .deltas) s)) (λ t j. block-agrees n t (within t j)))
     where
       it : find (S .deltas) s ≡ k .0
-      it = subst (λ (t : ℕ). find (S .deltas) t ≡ k .0) (k .2) (find-here (S .deltas) ascends (k .0) (log-received S ascends (k .0) (k .1)))
+      it = subst (λ (t : ℕ). find (S .deltas) t ≡ k .0) (k .2) (found (k .0) (k .1) .0)
 
-      other : sequenceOf m ≡ s → ⊥
-      other e = fresh (k .0) (log-received S ascends (k .0) (k .1)) (e ∙ sym (k .2))
+      same : find (R .deltas) s ≡ find (S .deltas) s
+      same = subst (λ (t : ℕ). find (R .deltas) t ≡ k .0) (k .2) (found (k .0) (k .1) .1) ∙ sym it
 
       within : (t : ℕ) → t ∈ needs S (find (S .deltas) s) → Logged S t
       within t j = log-closed S ascends (k .0) (k .1) t (subst (λ (y : Message). t ∈ needs S y) it j)
 
-  pub keys-agree : (a : Message) → a ∈ logOf S → keyOf (add m S) a ≡ keyOf S a
-  keys-agree a k = ap (λ (e : ℕ). keyWith e (statedPriority a) a) (block-agrees capacity (sequenceOf a) (a, k, refl))
+  pub blocks-agree : (a : Message) → a ∈ logOf S → effectiveBlock R a ≡ effectiveBlock S a
+  blocks-agree a k = block-agrees capacity (sequenceOf a) (a, k, refl)
+
+  pub keys-agree : (a : Message) → a ∈ logOf S → keyOf R a ≡ keyOf S a
+  keys-agree a k = ap (λ (e : ℕ). keyWith e (statedPriority a) a) (blocks-agree a k)

@@ -2,6 +2,7 @@ pub mod NumberLaws
 pub mod SetLaws
 pub mod LogLaws
 pub mod EffectiveLaws
+pub mod LateLaws
 pub mod AscentLaws
 pub mod FloorLaws
 pub mod ValueLaws

@@ -71,23 +71,6 @@ ascending-names (x ∷ S) h a b p q e = go (ascending-names S (h .1) a b) (List�
     go ih (inr u) (inl v) = absurd (lt-irrefl (sequenceOf a) (omega (arith, h .0 a u, ap sequenceOf v)))
     go ih (inr u) (inr v) = ih u v e
 
-pub find-skip : (m : Message) (l : List Message) (s : ℕ) → (sequenceOf m ≡ s → ⊥) → find (m ∷ l) s ≡ find l s
-find-skip m l s n = go (eqb (sequenceOf m) s) (eqb→eq (sequenceOf m) s)
-  where
-    go : (c : Bool) → (T c → sequenceOf m ≡ s) → cond c m (find l s) ≡ find l s
-    go true f = absurd (n (f tt))
-    go false f = refl
-
--- a message that joins the set leaves what is found of other sequences
-pub find-insert : (m : Message) (l : List Message) (s : ℕ) → (sequenceOf m ≡ s → ⊥) → find (insert m l) s ≡ find l s
-find-insert m [] s n = find-skip m [] s n
-find-insert m (x ∷ l) s n = go (ltb (sequenceOf m) (sequenceOf x)) (eqb (sequenceOf m) (sequenceOf x)) (find-insert m l s n)
-  where
-    go : (b c : Bool) → find (insert m l) s ≡ find l s → find (cond b (m ∷ x ∷ l) (cond c (x ∷ l) (x ∷ insert m l))) s ≡ find (x ∷ l) s
-    go true c ih = find-skip m (x ∷ l) s n
-    go false true ih = refl
-    go false false ih = ap (cond (eqb (sequenceOf x) s) x) ih
-
 pub find-here : (S : List Message) → Ascending S → (m : Message) → m ∈ S → find S (sequenceOf m) ≡ m
 find-here [] h m k = absurd (List·Memᴰ·not-nil k)
 find-here (x ∷ S) h m k = go (eqb (sequenceOf x) (sequenceOf m)) (eqb→eq (sequenceOf x) (sequenceOf m)) (not-eqb (sequenceOf x) (sequenceOf m)) (List·Memᴰ·cases-cons k) (find-here S (h .1) m)
