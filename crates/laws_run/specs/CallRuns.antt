@@ -3,8 +3,8 @@
 use mathlib.Core.Path.{_≡_, refl, sym, _∙_, ap, subst}
 use mathlib.Core.Logic.{_⊎_, inl, inr, ⊎-elim, _↔_}
 use mathlib.Core.Bool.{Bool, true, false, cond}
-use mathlib.Core.List.{List, _++_}
-use Prim.Native.Nat.{ℕ, zero, suc, _+_, _≤_}
+use mathlib.Core.List.{List, [], _++_}
+use Prim.Native.Nat.{ℕ, zero, suc, _≤_}
 use native.Mathlib.Omega.{arith}
 use native.Mathlib.Nat.{suc-ne-zero}
 use mathlib.Core.Option.{some}
@@ -17,28 +17,57 @@ use Rattle.model.specs.Order.{State, takeIn, sequencesOf, logOf}
 use Rattle.model.specs.Setpoints.{startValues}
 use Rattle.model.specs.Purge.{purgeFirst}
 use Rattle.model.specs.Image.{imageOf, Valid}
-use Rattle.model.specs.Steps.{undosOf, executionsOf, stepsOf, StepRecord, recordsOf, recordsBetween, recordsBytes, readRecords, stepsIn, readSteps}
-use Rattle.model.specs.Calls.{Delivered, Purged, deliverAnswer, purgeAnswer}
+use Rattle.model.specs.Steps.{undosOf, executionsOf, StepRecord, recordsOf, recordsBetween, recordsBytes, readRecords}
+use Rattle.model.specs.Calls.{Delivered, deliverAnswer, purgeAnswer}
 use Rattle.model.specs.PlainStation.{receive, receivePurge}
-use Rattle.model_runs.specs.Run.{Call, delivery, purging, withoutSteps, accepts?, stateNext, oldLog, codeFor, CallAgrees, Answers}
+use Rattle.model_runs.specs.Run.{Call, delivery, purging, withoutSteps, accepts?, stateNext, oldLog, codeFor, recordsRead, CallAgrees, Answers}
 use Rattle.laws_order.specs.TestLaws.{false-of, decide}
 use Rattle.laws_order.specs.StepLaws.{steps-fewest, steps-counted, undos-self}
-use Rattle.laws_wire.specs.RecordLaws.{records-steps, records-counted, records-self}
+use Rattle.laws_wire.specs.RecordLaws.{records-counted, records-self}
 use Rattle.laws_origin.specs.OriginLaws.{start-same}
+use Rattle.laws_state.specs.LateLaws.{late-sequences}
 use Rattle.laws_state.specs.RecordRange.{records-back}
 use Rattle.laws_state.specs.DeliverLaws.{stateCode, deliver-code-is, deliver-is, code-zero, receive-refused, receive-accepted, take-in-origin, take-in-keeps, take-in-valid, receive-valid}
 use Rattle.laws_purge.specs.PurgeLaws.{purge-log}
 use Rattle.laws_purge.specs.PurgeCodes.{statePurgeCode, purge-code-is, purge-is, purge-code-zero, receive-purge-refused, receive-purge-accepted, receive-purge-valid}
+use Rattle.laws_run.specs.LateCalls.{LeftOut, order-back, again-back, none-left-out}
 
 -- after the call the plain station's state is `next`
 pub record CallFacts (S next : State) (c : Call) (a : Delivered) : Type 0 where
   pub agrees : CallAgrees S next (imageOf S) c a
   pub image : a .image ≡ imageOf next
 
--- the steps alone
-pub steps-read : (S next : State) (b : List ℕ) (c : Call) (a : Delivered) → CallAgrees S next b c a
-    → readSteps (a .undos + a .executions) (a .steps) ≡ some (stepsOf (sequencesOf (oldLog S c (a .code))) (sequencesOf (logOf next)))
-steps-read S next b c a agrees = ap stepsIn (agrees .records) ∙ ap some (records-steps (startValues next) (oldLog S c (a .code)) (logOf next))
+-- ---- no step, where the log that the steps are played from is the next one
+stepless : (S next : State) → Valid S → Valid next → (c : Call) (code : ℕ) (image steps : List ℕ) → ((code ≡ 0) ↔ T (accepts? S c)) → code ≡ codeFor (imageOf S) c
+    → oldLog S c code ≡ logOf next → image ≡ imageOf next → CallFacts S next c (record { code = code; undos = 0; executions = 0; image = image; steps = steps })
+stepless S next v w c code image steps accepted lowest same is = record {
+  agrees = record {
+    accepted = accepted;
+    code = lowest;
+    undos = none ∙ ap (λ (old : List Message). undosOf (sequencesOf old) new) (sym same);
+    executions = none ∙ ap (λ (old : List Message). executionsOf (sequencesOf old) new) (sym same);
+    fewest = λ rival plays. omega arith;
+    records = records;
+    order = order-back S next v w c answer is left;
+    again = again-back S next w c answer records left;
+  };
+  image = is;
+}
+  where
+    answer : Delivered
+    answer = record { code = code; undos = 0; executions = 0; image = image; steps = steps }
+
+    new : List ℕ
+    new = sequencesOf (logOf next)
+
+    none : 0 ≡ undosOf new new
+    none = sym (undos-self new)
+
+    records : recordsRead answer ≡ some (recordsOf (startValues next) (oldLog S c code) (logOf next))
+    records = ap some (sym (records-self (startValues next) (logOf next)) ∙ ap (λ (old : List Message). recordsOf (startValues next) old (logOf next)) (sym same))
+
+    left : LeftOut S next c code
+    left = none-left-out S next c code same
 
 -- ---- a delivery
 module _ (S : State) (valid : Valid S) (m : Message) (steps : List ℕ) where
@@ -55,31 +84,33 @@ module _ (S : State) (valid : Valid S) (m : Message) (steps : List ℕ) where
       fewest = λ rival plays.
           let old = sequencesOf (logOf S) in let new = sequencesOf (logOf (takeIn m S)) in
           subst (λ (n : ℕ). n ≤ length rival) (steps-counted old new) (steps-fewest old new rival plays);
-      records = subst (λ (n : ℕ). readRecords n (recordsBytes made ++ behind) ≡ some made) (records-counted (startValues S) (logOf S) (logOf (takeIn m S)))
-          (records-back S (takeIn m S) valid (take-in-valid S valid m (length steps) (code-zero S m (length steps) .0 e)) behind)
-          ∙ ap (λ (v : List ℤ). some (recordsOf v (logOf S) (logOf (takeIn m S)))) (start-same S (takeIn m S) (sym (take-in-origin m S)));
+      records = records;
+      order = order-back S (takeIn m S) valid next (delivery m steps) (deliverAnswer 0 S (imageOf S) m steps) refl late;
+      again = again-back S (takeIn m S) next (delivery m steps) (deliverAnswer 0 S (imageOf S) m steps) records late;
     };
     image = refl;
   }
     where
+      next : Valid (takeIn m S)
+      next = take-in-valid S valid m (length steps) (code-zero S m (length steps) .0 e)
+
+      late : LeftOut S (takeIn m S) (delivery m steps) 0
+      late = late-sequences S (takeIn m S) (sym (take-in-origin m S)) (valid .ascends) (next .ascends) (take-in-keeps m S)
+
       made : List StepRecord
       made = recordsBetween S (takeIn m S)
 
       behind : List ℕ
       behind = drop (length (recordsBytes made)) steps
 
+      records : recordsRead (deliverAnswer 0 S (imageOf S) m steps) ≡ some (recordsOf (startValues (takeIn m S)) (logOf S) (logOf (takeIn m S)))
+      records = subst (λ (n : ℕ). readRecords n (recordsBytes made ++ behind) ≡ some made) (records-counted (startValues S) (logOf S) (logOf (takeIn m S)))
+          (records-back S (takeIn m S) valid next behind)
+          ∙ ap (λ (v : List ℤ). some (recordsOf v (logOf S) (logOf (takeIn m S)))) (start-same S (takeIn m S) (sym (take-in-origin m S)))
+
   refused-facts : (n : ℕ) → stateCode S m (length steps) ≡ suc n → CallFacts S S (delivery m steps) (deliverAnswer (suc n) S (imageOf S) m steps)
-  refused-facts n e = record {
-    agrees = record {
-      accepted = (λ z. absurd (suc-ne-zero n z), λ t. absurd (suc-ne-zero n (sym e ∙ code-zero S m (length steps) .1 t)));
-      code = code-is (suc n) e;
-      undos = sym (undos-self (sequencesOf (logOf S)));
-      executions = sym (undos-self (sequencesOf (logOf S)));
-      fewest = λ rival plays. omega arith;
-      records = ap some (sym (records-self (startValues S) (logOf S)));
-    };
-    image = refl;
-  }
+  refused-facts n e = stepless S S valid valid (delivery m steps) (suc n) (imageOf S) steps
+      (λ z. absurd (suc-ne-zero n z), λ t. absurd (suc-ne-zero n (sym e ∙ code-zero S m (length steps) .1 t))) (code-is (suc n) e) refl refl
 
   answer-facts : (n : ℕ) → stateCode S m (length steps) ≡ n
       → CallFacts S (receive S m (length steps)) (delivery m steps) (deliverAnswer n S (imageOf S) m steps)
@@ -93,37 +124,18 @@ module _ (S : State) (valid : Valid S) (m : Message) (steps : List ℕ) where
 not-zero : (n : ℕ) → ¬ (n ≡ 0) → eqb n 0 ≡ false
 not-zero n h = false-of (eqb n 0) (λ t. h (eqb→eq n 0 t))
 
--- no step, where the log that the steps are played from is the next one
-stepless : (S next : State) (b : List ℕ) (c : Call) (a : Purged) → ((a .code ≡ 0) ↔ T (accepts? S c)) → a .code ≡ codeFor b c → oldLog S c (a .code) ≡ logOf next
-    → CallAgrees S next b c (withoutSteps a)
-stepless S next b c a accepted code same = record {
-  accepted = accepted;
-  code = code;
-  undos = none ∙ ap (λ (old : List Message). undosOf (sequencesOf old) new) (sym same);
-  executions = none ∙ ap (λ (old : List Message). executionsOf (sequencesOf old) new) (sym same);
-  fewest = λ rival plays. omega arith;
-  records = ap some (sym (records-self (startValues next) (logOf next)) ∙ ap (λ (old : List Message). recordsOf (startValues next) old (logOf next)) (sym same));
-}
-  where
-    new : List ℕ
-    new = sequencesOf (logOf next)
-
-    none : 0 ≡ undosOf new new
-    none = sym (undos-self new)
-
 module _ (S : State) (valid : Valid S) (K : ℕ) where
   purge-facts : (n : ℕ) → statePurgeCode S K ≡ n → CallFacts S (receivePurge S K) (purging K) (withoutSteps (purgeAnswer n S (imageOf S) K))
-  purge-facts zero e = subst (λ (R : State). CallFacts S R (purging K) (withoutSteps (purgeAnswer 0 S (imageOf S) K))) (sym (receive-purge-accepted S K e)) (record {
-    agrees = stepless S (purgeFirst K S) (imageOf S) (purging K) (purgeAnswer 0 S (imageOf S) K)
-        (λ z. purge-code-zero S K .0 e, λ t. refl) (sym e ∙ sym (purge-code-is S valid K)) (sym (purge-log S valid K));
-    image = refl;
-  })
-  purge-facts (suc n) e = subst (λ (R : State). CallFacts S R (purging K) (withoutSteps (purgeAnswer (suc n) S (imageOf S) K)))
-      (sym (receive-purge-refused S K (λ z. suc-ne-zero n (sym e ∙ z)))) (record {
-        agrees = stepless S S (imageOf S) (purging K) (purgeAnswer (suc n) S (imageOf S) K)
-            (λ z. absurd (suc-ne-zero n z), λ t. absurd (suc-ne-zero n (sym e ∙ purge-code-zero S K .1 t))) (sym e ∙ sym (purge-code-is S valid K)) (ap (λ (t : Bool). cond t (drop K (logOf S)) (logOf S)) (not-zero (suc n) (suc-ne-zero n)));
-        image = refl;
-      })
+  purge-facts zero e =
+      let next = receive-purge-accepted S K e in
+      subst (λ (R : State). CallFacts S R (purging K) (withoutSteps (purgeAnswer 0 S (imageOf S) K))) (sym next)
+      (stepless S (purgeFirst K S) valid (subst Valid next (receive-purge-valid S valid K)) (purging K) 0 (imageOf (purgeFirst K S)) []
+      (λ z. purge-code-zero S K .0 e, λ t. refl) (sym e ∙ sym (purge-code-is S valid K)) (sym (purge-log S valid K)) refl)
+  purge-facts (suc n) e =
+      subst (λ (R : State). CallFacts S R (purging K) (withoutSteps (purgeAnswer (suc n) S (imageOf S) K))) (sym (receive-purge-refused S K (λ z. suc-ne-zero n (sym e ∙ z))))
+      (stepless S S valid valid (purging K) (suc n) (imageOf S) []
+      (λ z. absurd (suc-ne-zero n z), λ t. absurd (suc-ne-zero n (sym e ∙ purge-code-zero S K .1 t))) (sym e ∙ sym (purge-code-is S valid K))
+      (ap (λ (t : Bool). cond t (drop K (logOf S)) (logOf S)) (not-zero (suc n) (suc-ne-zero n))) refl)
 
 -- ---- any call
 pub call-facts : (S : State) → Valid S → (c : Call) (a : Delivered) → Answers (imageOf S) c a → CallFacts S (stateNext S c) c a

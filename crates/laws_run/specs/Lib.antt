@@ -1,3 +1,5 @@
+pub mod SameOrderLaws
+pub mod LateCalls
 pub mod CallRuns
 pub mod StateRuns
 pub mod PlayedRuns
@@ -5,6 +7,7 @@ pub mod PurgedRuns
 pub mod RemainingRuns
 pub mod PairRuns
 pub mod RunLaws
+pub mod LateRuns
 pub mod OrderRuns
 pub mod AcceptedRuns
 pub mod CalledRuns

@@ -10,12 +10,12 @@ use lib.ListN.{length-reverse, length-drop, take, drop, take-append-drop}
 use lib.Dec.{eqb}
 use Rattle.model.specs.Message.{Message, sequenceOf}
 use Rattle.model.specs.Order.{State, sequencesOf, logOf}
-use Rattle.model.specs.Image.{imageOf}
 use Rattle.model.specs.Steps.{Step, undo, execute, common, stepsOf, readSteps, Plays}
 use Rattle.model_runs.specs.Run.{Given, Call, delivery, purging, Event, Run, stateAfter, logAfter, playedFrom, oldLog, goneBy, purgedAfter, PlayedOn, Played, History, Begins, Answers}
 use Rattle.laws_order.specs.ListLaws.{drop-map}
 use Rattle.laws_order.specs.StepLaws.{steps-play, plays-unique}
-use Rattle.laws_run.specs.CallRuns.{CallFacts, steps-read}
+use Rattle.laws_run.specs.LateCalls.{steps-between}
+use Rattle.laws_run.specs.CallRuns.{CallFacts}
 use Rattle.laws_run.specs.StateRuns.{event-facts}
 
 -- ---- steps do not touch what stands ahead of a log
@@ -76,7 +76,7 @@ module _ (given : Given) (b : List ℕ) (begun : Begins given b) where
       facts = event-facts given b begun e earlier run
 
       read : readSteps (e .answer .undos + e .answer .executions) (e .answer .steps) ≡ some (stepsOf old new)
-      read = steps-read S (stateAfter given (e ∷ earlier)) (imageOf S) (e .call) (e .answer) (facts .agrees)
+      read = steps-between S (stateAfter given (e ∷ earlier)) (e .call) (e .answer) (facts .agrees .records)
 
       plays : Plays (past ++ old) (stepsOf old new) (past ++ new)
       plays = plays-behind past old (stepsOf old new) new (steps-play old new)

@@ -4,6 +4,7 @@ pub mod GroundExamples
 pub mod ListingExamples
 pub mod RingExamples
 pub mod StationExamples
+pub mod ArrivalExamples
 pub mod SetpointExamples
 pub mod ImageExamples
 pub mod OffsetExamples

@@ -2,6 +2,7 @@ pub mod ExampleEvents
 pub mod TakenExamples
 pub mod RunExamples
 pub mod PurgeRunExamples
+pub mod SameOrderExamples
 pub mod AcceptedExamples
 pub mod NearMisses
 pub mod AgreementExamples

@@ -1,2 +1,3 @@
+pub mod SameOrder
 pub mod Run
 pub mod RunOrder

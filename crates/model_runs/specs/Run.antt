@@ -1,4 +1,4 @@
--- Demand 3 over a whole run, and what Papers 1 and 4 of document 02 add to it, as one record, `Agreement`: `CallAgrees` of each call,
+-- Demand 3 over a whole run, and what Papers 1, 4 and 5 of document 02 add to it, as one record, `Agreement`: `CallAgrees` of each call,
 -- `ListAgrees` after each list, and equal images of two lists. It says what has to hold of empty, deliver and purge calls that are known by
 -- what they promise: `begins given b`, that empty was given this, answered 0 and wrote b, and `answers b c a`, that the call c on the image b
 -- answered a. `Begins` and `Answers` are those of the definitions; of the code they are the postconditions of its functions.
@@ -8,12 +8,12 @@ use mathlib.Core.Path.{_≡_}
 use mathlib.Core.Logic.{_↔_}
 use mathlib.Core.Bool.{Bool, true, false, cond, not, _&&_}
 use mathlib.Core.Option.{Option, some}
-use mathlib.Core.List.{List, [], _∷_, _++_, map}
+use mathlib.Core.List.{List, [], _∷_, _++_, map, reverse}
 use Prim.Native.Nat.{ℕ, _+_, _-_, _≤_}
 use lib.ListN.{length, take, drop}
 use lib.Dec.{T, eqb}
 use lib.IntN.{ℤ}
-use Rattle.model.specs.Lists.{_∈_, every, keep}
+use Rattle.model.specs.Lists.{_∈_, has, every, keep}
 use Rattle.model.specs.Message.{Message, sequenceOf, numbered}
 use Rattle.model.specs.Order.{State, purged as purgedAt, sequencesOf, logOf}
 use Rattle.model.specs.Setpoints.{startValues}
@@ -21,6 +21,7 @@ use Rattle.model.specs.Image.{imageOf, valuesIn, logIn}
 use Rattle.model.specs.Steps.{Step, undo, execute, undosOf, executionsOf, StepRecord, recordsOf, readRecords, readSteps, Plays, Standing, PlaysPairs}
 use Rattle.model.specs.Calls.{Delivered, Purged, emptyState, empty, deliverCode, deliver, purgeCode, purge}
 use Rattle.model.specs.PlainStation.{accepts, receive, acceptsPurge, receivePurge}
+use Rattle.model_runs.specs.SameOrder.{SameOrder}
 
 -- What empty was given: the buffer as lent.
 pub record Given : Type 0 where
@@ -159,6 +160,17 @@ PairsPlayed begun (e ∷ earlier) standing values =
     (before : List Standing) × (old : List ℤ) × (records : List StepRecord) × PairsPlayed begun earlier before old
     × (recordsRead (e .answer) ≡ some records) × PlaysPairs (standingFrom (e .call) (e .answer .code) before) old records standing values
 
+-- ---- "after any accepted delivery, two deltas that were both in the log before still stand in the same order to each other" (document 02,
+-- Paper 5): of the logs in the image b that the call c got and in the one that it left. It is asked of refused calls too, and of a purge, where
+-- the log before is taken without what the purge drops.
+abbrev pub KeepsOrder : List ℕ → Call → Delivered → Type 0
+KeepsOrder b c a = SameOrder (sequencesOf (playedFrom c (a .code) (logIn b))) (sequencesOf (logIn (a .image)))
+
+-- And of a call's steps alone, a promise of ours: what it undoes it executes again, in the order of the log, which is the reverse of the
+-- order of its undos. (That its steps can be read is said by `CallAgrees .records`.)
+abbrev pub ExecutesAgain : Event → Type 0
+ExecutesAgain e = (undone executed : List ℕ) → StepsTaken e undone executed → keep (λ s. has s undone) executed ≡ reverse undone
+
 -- ---- the demand
 -- What it says of a call c on the image b that answered a: S is the plain station's state before it, `next` the one after it (in
 -- `Agreement` it is `stateNext S c`).
@@ -177,6 +189,9 @@ pub record CallAgrees (S next : State) (b : List ℕ) (c : Call) (a : Delivered)
   -- of a call are those between its old log and its new one, both run from the start values after it, which a delivery leaves as they
   -- were. (Of a purge there are none.)
   pub records : recordsRead a ≡ some (recordsOf (startValues next) (oldLog S c (a .code)) (logOf next))
+  -- "A late arrival only squeezes in": in the images, and by the steps.
+  pub order : KeepsOrder b c a
+  pub again : ExecutesAgain (record { call = c; answer = a })
 
 -- What it says after a list of calls.
 pub record ListAgrees (given : Given) (b : List ℕ) (events : List Event) : Type 0 where
