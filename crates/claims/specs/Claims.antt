@@ -5,13 +5,13 @@ use mathlib.Core.Path.{_≡_, sym, _∙_, ap, subst}
 use mathlib.Core.Logic.{_↔_, _⊎_, inr}
 use mathlib.Core.Bool.{Bool, true, not, _&&_}
 use mathlib.Core.Option.{some}
-use mathlib.Core.List.{List, [], _∷_, _++_}
+use mathlib.Core.List.{List, [], _∷_, _++_, reverse}
 use Prim.Native.Nat.{ℕ, suc, _+_, _-_, _≤_, _<_, min, max}
 use native.Mathlib.Omega.{arith}
 use lib.ListN.{length, take, drop, getD, replicate}
 use lib.Dec.{T}
 use lib.IntN.{ℤ, pos}
-use Rattle.model.specs.Lists.{_∈_, greatest, sum, ascending}
+use Rattle.model.specs.Lists.{_∈_, has, keep, greatest, sum, ascending}
 use Rattle.model.specs.Bytes.{number, field}
 use Rattle.model.specs.Layout.{capacity, stepRoom, priorityFlagAt, sequencesRoom, textRoom}
 use Rattle.model.specs.Message.{Message, dependencyCount, commandsStart, sequenceOf, groupOf, blockOf, priorityOf, dependenciesOf, needsOf, lineOf, numberOf, predecessorOf, numbered, passes}
@@ -22,15 +22,18 @@ use Rattle.model.specs.Steps.{Step, undosOf, executionsOf, recordsOf, Plays, St
 use Rattle.model.specs.Compose.{numberOn, lastSequence, newNumber, newBlock, newGroup}
 use Rattle.model.specs.Codes.{Conditions, lowestCode, emptyConditions, deliverConditions, purgeConditions, composeConditions, readConditions, logMessageConditions, setpointConditions, readSequencesConditions, writeSequencesConditions}
 use Rattle.model.specs.Calls.{Emptied, empty, Delivered, deliver, Purged, purge, Composed, compose, logMessageCode, logMessage, Setpoint, setpoint, start, Converted, convertedAnswer, front, readSequences, writeSequences}
-use Rattle.model_runs.specs.Run.{Given, Event, imageAfter, Run, stateAfter, logAfter, oldLog, accepts?, codeFor, acceptedIn, remainingIn, deliveries, purgedAfter, Played, History, recordsRead, PairsPlayed}
+use Rattle.model_runs.specs.SameOrder.{Before}
+use Rattle.model_runs.specs.Run.{Given, Event, imageAfter, Run, stateAfter, logAfter, playedFrom, oldLog, accepts?, codeFor, acceptedIn, remainingIn, deliveries, purgedAfter, StepsTaken, Played, History, recordsRead, PairsPlayed}
 use Rattle.model_runs.specs.RunOrder.{receivedIn}
 use Rattle.laws_run.specs.CalledRuns.{Began, Answered}
-use Rattle.laws_run.specs.StateRuns.{state-valid}
+use Rattle.laws_run.specs.StateRuns.{state-valid, run-before}
+use Rattle.laws_run.specs.LateRuns.{later-images}
 use Rattle.laws_compose.specs.ComposeLaws.{messageBy}
 use Rattle.laws_compose.specs.ComposedFields.{NeededByNone}
 use Rattle.laws_order.specs.TestLaws.{and-r}
 use Rattle.laws_state.specs.ImageLaws.{image-own, own-valid}
 use Rattle.laws_purge.specs.PurgedFloors.{own-numbered}
+use Rattle.theorems.specs.LateTheorems.{LogKept, deliver-late}
 use Rattle.theorems.specs.PurgeTheorems.{purge-dropped, purge-of-none}
 use Rattle.theorems.specs.Theorems.{CodeLaw, floor-law, purged-law, image-law, image-order, image-of-one-origin, offset-law}
 use Rattle.theorems_refusals.specs.Refusals.{empty-codes, deliver-codes, purge-codes, compose-codes, log-message-codes, setpoint-codes, read-sequences-codes, write-sequences-codes}
@@ -96,6 +99,15 @@ module _ (given : Given) (b : List ℕ) (begun : Began HostEmptied given b) wher
         recordsRead (call .answer) ≡ some (recordsOf (startValues next) (oldLog (stateAfter given earlier) (call .call) (call .answer .code)) (logOf next))
     records = host-agreement .call given b begun call earlier run .records
 
+    -- "A late arrival only squeezes in": "two deltas that were both in the log before still stand in the same order to each other". (Of refused calls too; of a purge, of two that it leaves.)
+    pub same-order : let old = sequencesOf (playedFrom (call .call) (call .answer .code) (logIn (imageAfter b earlier))) in let new = sequencesOf (logIn (imageAfter b (call ∷ earlier))) in
+        (s t : ℕ) → s ∈ old → t ∈ old → Before s t new ↔ Before s t old
+    same-order = host-agreement .call given b begun call earlier run .order
+
+    -- And of its steps alone: what it undoes it executes again, in the order of the log, which is the reverse of the order of its undos.
+    pub undone-again : (undone executed : List ℕ) → StepsTaken call undone executed → keep (λ s. has s undone) executed ≡ reverse undone
+    undone-again = host-agreement .call given b begun call earlier run .again
+
   module _ (calls : List Event) (run : Run (Answered HostDelivered HostPurged) b calls) where
     -- "Its log and image are those of the set"; "the played log, the image's log and the plain station's log are the same ..", and the pairs lead to "the image's values".
     pub played : (imageAfter b calls ≡ imageOf (stateAfter given calls))
@@ -128,6 +140,18 @@ module _ (given : Given) (b : List ℕ) (begun : Began HostEmptied given b) wher
     pub held : ((m : Message) → (m ∈ heldIn (imageAfter b calls)) ↔ ((m ∈ receivedIn given calls) × ¬ Executable (stateAfter given calls) m)) × Ascending (heldIn (imageAfter b calls))
     held = let o = host-order-kept .in-order given b begun calls run in (o .held, o .held-ascend)
 
+  -- After whatever later calls, purges among them: the log before them, without what is purged then, is the log after them with what was not in it before left out; what stands in both has the same
+  -- effective block and key.
+  pub log-kept : (later calls : List Event) → Run (Answered HostDelivered HostPurged) b (later ++ calls) → let before = imageAfter b calls in let after = imageAfter b (later ++ calls) in
+      (keep (λ m. has (sequenceOf m) (sequencesOf (logIn before))) (logIn after) ≡ keep (λ m. not (purged (stateIn after) (sequenceOf m))) (logIn before))
+      × ((m : Message) → m ∈ logIn before → T (not (purged (stateIn after) (sequenceOf m)))
+      → (effectiveBlock (stateIn after) m ≡ effectiveBlock (stateIn before) m) × (keyOf (stateIn after) m ≡ keyOf (stateIn before) m))
+  log-kept later calls run =
+      let o = host-agreement .list given b begun calls (run-before (Answered HostDelivered HostPurged) b later calls run) in
+      let n = host-agreement .list given b begun (later ++ calls) run in
+      let l = later-images given later calls (imageAfter b calls) (imageAfter b (later ++ calls)) (o .image) (n .image) in
+      (l .log, l .keys)
+
   -- "a ring of deltas is held for good"
   pub ring-held : (later calls : List Event) → Run (Answered HostDelivered HostPurged) b (later ++ calls) → (m : Message) → m ∈ receivedIn given calls → MeetsRing (stateAfter given calls) m → m ∈ heldIn (imageAfter b (later ++ calls))
   ring-held = host-order-kept .ring-held given b begun
@@ -144,6 +168,12 @@ pub equal-accepted : (given other : Given) (b c : List ℕ) → Began HostEmptie
     → Run (Answered HostDelivered HostPurged) b calls → Run (Answered HostDelivered HostPurged) c others → ((m : Message) → (m ∈ acceptedIn calls) ↔ (m ∈ acceptedIn others)) → imageAfter b calls ≡ imageAfter c others
 equal-accepted given other b c p q calls others alone alone′ run run′ same = host-equal-accepted given other b c p q calls others alone alone′ run run′ (record { accepted = same })
 
+-- ---- LATE ARRIVALS, on any image, as the host sees them: "after any accepted delivery, two deltas that were both in the log before still stand in the same order to each other"; and the log before is the
+-- one after, less what was not in it before. (A refused delivery leaves the image as it was.)
+pub late-delivery : (b : List ℕ) → T (isImage b) → (m : Message) (steps : List ℕ) (a : Delivered) → HostDelivered b m steps a → let old = logIn b in let new = logIn (a .image) in
+    ((s t : ℕ) → s ∈ sequencesOf old → t ∈ sequencesOf old → Before s t (sequencesOf new) ↔ Before s t (sequencesOf old)) × (keep (λ x. has (sequenceOf x) (sequencesOf old)) new ≡ old)
+late-delivery b i m steps a c = subst (λ (x : Delivered). LogKept (logIn b) (logIn (x .image))) (sym (host-delivered-as b m steps a c)) (deliver-late b i m steps)
+
 -- ---- FLOORS, as the host sees them: "A delivery at or below a floor answers 0 with no step, and its message joins no set; 7 and 8 are not looked for there." Every byte stays.
 pub floor-delivered : (b : List ℕ) → T (isImage b) → (m : Message) (steps : List ℕ) → stepRoom ≤ length steps → T (passes m) → T (purged (stateIn b) (sequenceOf m))
     → (a : Delivered) → HostDelivered b m steps a → a ≡ record { code = 0; undos = 0; executions = 0; image = b; steps = steps }
@@ -152,7 +182,7 @@ floor-delivered b i m steps room pass low a h =
     host-delivered-as b m steps a h ∙ ap (λ (x : List ℕ). deliver x m steps) (image-own b i)
     ∙ purged-law (stateIn b) (own-valid b i) m steps room pass low .answer ∙ ap answer (sym (image-own b i))
 
--- The same of any two images, whoever wrote them.
+-- Equal images once more, of any two, whoever wrote them.
 pub equal-stations : (b c : List ℕ) → T (isImage b) → T (isImage c) → originIn b ≡ originIn c → ((m : Message) → (m ∈ messagesIn b) ↔ (m ∈ messagesIn c)) → b ≡ c
 equal-stations = image-of-one-origin
 
