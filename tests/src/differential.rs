@@ -1,10 +1,12 @@
 //! The same list of calls to two implementations, compared byte for byte, and the
-//! shortest list that still shows a difference.
+//! shortest list that still shows a difference. What the second one delivers must keep the order
+//! of the log too, by its steps alone; a break of it is shown as a difference is.
 
 use std::fmt::Write;
 
 use crate::boundary::{code, executions, length, offset, undos, value, Calls};
 use crate::call::{hex, Action, Call, Outcome, View, World};
+use crate::order_kept::by_steps;
 use crate::view::u16_at;
 
 /// Where two implementations part, and in what.
@@ -30,12 +32,21 @@ fn compare_from(
     for (place, call) in calls.iter().enumerate() {
         let first = world.perform(one, call);
         let second = world.perform(two, call);
-        if let Some(what) = difference(&first, &second) {
+        if let Some(what) = found(call, &first, &second) {
             return Some(Difference { place, what });
         }
         world.follow(call, &first);
     }
     None
+}
+
+/// What differs; or where nothing does, how a delivery by the second breaks the order of the log.
+fn found(call: &Call, one: &Outcome, two: &Outcome) -> Option<String> {
+    difference(one, two).or_else(|| {
+        let checked = call.action.delivers();
+        let kept = checked.then(|| by_steps(two.answer, &two.buffer));
+        kept?.err().map(|broken| broken.to_string())
+    })
 }
 
 /// What differs, in words: the answers, or the first byte of a buffer, also of one that
@@ -220,7 +231,7 @@ pub fn trace(one: &dyn Calls, two: &dyn Calls, calls: &[Call]) -> String {
         let second = world.perform(two, call);
         let _ = writeln!(text, "{place}: {}", describe(call));
         let _ = writeln!(text, "    one: {}", answer(call, first.answer));
-        if let Some(what) = difference(&first, &second) {
+        if let Some(what) = found(call, &first, &second) {
             let _ = writeln!(text, "    two: {}", answer(call, second.answer));
             let _ = writeln!(text, "    difference: {what}");
             break;

@@ -14,6 +14,7 @@ pub mod faulty;
 pub mod generate;
 pub mod input;
 pub mod mutations;
+pub mod order_kept;
 pub mod picture;
 pub mod plant;
 pub mod random;

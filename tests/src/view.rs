@@ -146,3 +146,15 @@ pub fn steps(buffer: &[u8], undos: usize, executions: usize) -> Option<Vec<Step>
         .all(|(place, step)| step.kind == kind(place));
     (right && steps.len() == undos + executions).then_some(steps)
 }
+
+/// Plays steps on a log: an undo must name its last delta and takes it off, an execution adds the
+/// named one at its end. Whether every undo named the last.
+pub fn play(log: &mut Vec<Sequence>, steps: &[Step]) -> bool {
+    steps.iter().all(|step| match step.kind {
+        Kind::Undo => log.pop() == Some(step.sequence),
+        Kind::Execute => {
+            log.push(step.sequence);
+            true
+        }
+    })
+}

@@ -7,11 +7,12 @@ mod common;
 
 use std::process::{Command, Output};
 
-use bivamolune_tests::boundary::{length, offset, value, Reference};
+use bivamolune_tests::boundary::{code, length, offset, value, Reference};
 use bivamolune_tests::call::{Action, Call, Composing, Outcome, View, World};
 use bivamolune_tests::differential::{compare, difference, report, report_of, shrink};
 use bivamolune_tests::faulty::{Fault, Faulty, FAULTS};
 use bivamolune_tests::generate::{case, is_with_floors, is_with_purges};
+use bivamolune_tests::view::log;
 use common::SUBJECT;
 
 #[test]
@@ -123,8 +124,10 @@ fn texts_are_in_their_outcome(perform: &mut dyn FnMut(Action) -> (Vec<u8>, Outco
 const FLOORS: usize = 40;
 /// Where the faults of texts begin.
 const TEXTS: usize = 66;
-/// Where the faults of the purge begin, up to the end.
+/// Where the faults of the purge begin.
 const PURGES: usize = 88;
+/// Where the faults of late arrivals begin, up to the end.
+const LATE: usize = 120;
 
 /// The most calls that the shortest list for a fault has.
 fn bound(fault: Fault) -> usize {
@@ -146,6 +149,8 @@ fn bound(fault: Fault) -> usize {
         | Fault::PurgeRefusalWrites => 40,
         // Empty, the nine that one delta needs, that one, and one beside it.
         Fault::EightHidePredecessor => 12,
+        // Empty, and eleven deltas that the last one frees.
+        Fault::PriorityHandedDown => 12,
         // A call on texts stands alone.
         fault if FAULTS[TEXTS..PURGES].contains(&fault) => 1,
         _ => 10,
@@ -156,7 +161,7 @@ fn bound(fault: Fault) -> usize {
 /// there are some, and one of the purge where there is one.
 fn find(fault: Fault) -> (u64, Vec<Call>) {
     let of_floors = FAULTS[FLOORS..TEXTS].contains(&fault);
-    let of_purges = FAULTS[PURGES..].contains(&fault);
+    let of_purges = FAULTS[PURGES..LATE].contains(&fault);
     let differs = |calls: &[Call]| compare(&Reference, &Faulty(fault), calls).is_some();
     let fits =
         |seed: &u64| (!of_floors || is_with_floors(*seed)) && (!of_purges || is_with_purges(*seed));
@@ -197,6 +202,26 @@ fn no_call_of_a_short_list_can_be_dropped() {
     }
 }
 
+/// Steps that do not keep the order are found though the other side has the same ones, and shown
+/// shortly.
+#[test]
+fn an_order_that_neither_keeps_is_found() {
+    for fault in &FAULTS[LATE + 1..] {
+        let wrong = Faulty(*fault);
+        let breaks = |seed: &u64| compare(&wrong, &wrong, &case(*seed)).is_some();
+        let seed = (0..100).find(breaks).expect("a seed that shows it");
+        let shown = report(&wrong, &wrong, seed, &case(seed));
+        assert!(shown.contains(&format!("seed {seed} differs; ")), "{shown}");
+        assert!(
+            shown.contains("    difference: order not kept: "),
+            "{shown}"
+        );
+        assert!(shown.lines().count() <= 30, "{shown}");
+    }
+    let arrival = Faulty(Fault::TiesByArrival);
+    assert!((0..100).all(|seed| compare(&arrival, &arrival, &case(seed)).is_none()));
+}
+
 /// Runs the program with these words. Without the library it asks for `--self`.
 fn long_run(words: &[&str]) -> Output {
     let itself = !cfg!(feature = "link");
@@ -205,6 +230,21 @@ fn long_run(words: &[&str]) -> Output {
         .args(words)
         .output()
         .expect("the program runs")
+}
+
+/// How many deliveries of a seed undo something, by where the logs before and after part.
+fn undoing(seed: u64) -> usize {
+    let mut world = World::default();
+    let mut count = 0;
+    for call in case(seed) {
+        let outcome = world.perform(&Reference, &call);
+        if call.action.delivers() && code(outcome.answer) == 0 {
+            let old = log(&world.view(&call.view));
+            count += usize::from(!log(&outcome.image).starts_with(&old));
+        }
+        world.follow(&call, &outcome);
+    }
+    count
 }
 
 #[test]
@@ -224,6 +264,10 @@ fn the_program_counts_what_it_ran() {
         .unwrap_or(0);
     let deliveries: usize = words[at - 1].parse().expect("a number");
     assert!(deliveries >= 500);
+    let cases: u64 = words[2].parse().expect("a number");
+    let undoing: usize = (9..9 + cases).map(undoing).sum();
+    let undoing = format!(" deliveries, {undoing} of them with undos and the order kept, ");
+    assert!(printed.contains(&undoing), "{printed}");
     for what in [" texts read, ", " texts written, "] {
         let (before, _) = printed.split_once(what).expect("texts are counted");
         let count = before.rsplit(' ').next().and_then(|word| word.parse().ok());

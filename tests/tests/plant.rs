@@ -18,7 +18,7 @@ use bivamolune_tests::faulty::{Fault, Faulty};
 use bivamolune_tests::plant::{run, Duty, Hazard, Left, Run, Station, What, HAZARDS};
 use bivamolune_tests::view::{messages, sequence_of, u16_at};
 use bivamolune_tests::wire::{set, Sequence};
-use common::{A, B, C, SUBJECT};
+use common::{delta, A, B, C, SUBJECT};
 use passing::{ForgetsHeld, HeldAsTheyCame};
 use stations::{deliver, station};
 
@@ -317,6 +317,17 @@ fn hardware_is_fed_by_the_pairs_alone() {
     let error = b.deliver(&wrong, &message).expect_err("wrong pairs");
     assert_eq!(error, "the hardware's setpoints are not the image's");
     assert_eq!((b.hardware.setpoints[0], b.memory.image[35]), (0, 7));
+}
+
+/// A station's host hears by the steps of an order that is not kept.
+#[test]
+fn a_host_sees_what_is_turned_round() {
+    let wrong = Faulty(Fault::TiesByCount);
+    let mut station = Station::new(&wrong, Vec::new()).expect("an empty station");
+    let mut deliver = |letter| station.deliver(&wrong, &delta(letter, 1).bytes());
+    assert!(deliver(A).is_ok() && deliver(B).is_ok());
+    let error = deliver(C).expect_err("B1 stands before A1");
+    assert!(error.starts_with("order not kept: "), "{error}");
 }
 
 /// Begun again from a saved image, a station has its hardware at the values of that image, and

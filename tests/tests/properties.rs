@@ -11,25 +11,17 @@ use bivamolune_tests::call::{Action, Composing, View, World};
 use bivamolune_tests::generate::{
     case, conflicting, damaged_message, drafts, edit, is_with_floors,
 };
+use bivamolune_tests::order_kept::{by_logs, by_steps};
 use bivamolune_tests::random::Random;
 use bivamolune_tests::reference::plain::PlainStation;
 use bivamolune_tests::reference::purged::Purged;
 use bivamolune_tests::reference::reader::Reader;
-use bivamolune_tests::view::{all_messages, base_values, floors};
+use bivamolune_tests::view::{all_messages, base_values, floors, log, play, sequence_of, steps};
 use bivamolune_tests::wire::{Draft, Sequence};
 use common::{
     log_message, log_message_code, messages, setpoint, u16_at, u32_at, Station, PATTERN, STEP,
     STEPS, SUBJECT,
 };
-
-/// The sequences of an image's log.
-fn log(image: &[u8]) -> Vec<Vec<u8>> {
-    let messages = messages(image, 0, u16_at(image, 0));
-    messages
-        .iter()
-        .map(|message| message[12..24].to_vec())
-        .collect()
-}
 
 /// A set of 1 to 64 deltas, small ones more often.
 fn set(random: &mut Random) -> Vec<Draft> {
@@ -84,11 +76,11 @@ struct Delivery<'a> {
 /// Demand 3: each list of deliveries, against the plain station.
 #[test]
 fn whole_runs_agree_with_the_plain_station() {
-    let (mut deliveries, mut refused) = (0, 0);
+    let (mut deliveries, mut refused, mut undoing) = (0, 0, 0);
     for seed in 0..2_500 {
         let mut image = Station::new().image;
         let mut plain = PlainStation::default();
-        let mut played: Vec<Vec<u8>> = Vec::new();
+        let mut played: Vec<Sequence> = Vec::new();
         for call in case(seed) {
             let (message, steps) = match &call.action {
                 Action::Deliver { message, steps } => (message, *steps),
@@ -101,18 +93,18 @@ fn whole_runs_agree_with_the_plain_station() {
             assert_eq!(code(delivery.answer), number, "seed {seed}");
             check_buffers(&delivery);
             check_counts(&delivery);
-            play(&mut played, &delivery);
+            check_order(&mut played, &delivery);
             assert!(image == plain.image(), "seed {seed}");
             assert_eq!(played, log(&image), "seed {seed}");
-            let plain_log: Vec<Vec<u8>> = plain.log().iter().map(|s| s.to_vec()).collect();
-            assert_eq!(played, plain_log, "seed {seed}");
+            assert_eq!(played, plain.log(), "seed {seed}");
             deliveries += 1;
             refused += usize::from(number != 0);
+            undoing += usize::from(undos(delivery.answer) > 0);
         }
     }
     assert!(
-        deliveries > 30_000 && refused > 3_000,
-        "{deliveries} {refused}"
+        deliveries > 30_000 && refused > 3_000 && undoing > 3_000,
+        "{deliveries} {refused} {undoing}"
     );
 }
 
@@ -159,7 +151,7 @@ fn whole_runs_from_images_with_floors() {
             assert_eq!(code(delivery.answer), number, "seed {seed}");
             check_buffers(&delivery);
             check_counts(&delivery);
-            play(&mut played, &delivery);
+            check_order(&mut played, &delivery);
             assert!(image == plain.image(), "seed {seed}");
             assert_eq!(played, log(&image), "seed {seed}");
             let below = number == 0 && is_purged(&image, message);
@@ -207,7 +199,7 @@ fn check_buffers(delivery: &Delivery) {
     }
 }
 
-/// The counts by the longest common start; what was in the log keeps its order.
+/// The counts by the longest common start.
 fn check_counts(delivery: &Delivery) {
     let (old, new) = (log(&delivery.old), log(&delivery.new));
     let mut common = 0;
@@ -216,30 +208,22 @@ fn check_counts(delivery: &Delivery) {
     }
     assert_eq!(undos(delivery.answer), old.len() - common);
     assert_eq!(executions(delivery.answer), new.len() - common);
-    let mut kept = new.clone();
-    kept.retain(|sequence| old.contains(sequence));
-    assert_eq!(kept, old);
     if code(delivery.answer) == 0 && !is_purged(&delivery.old, delivery.message) {
-        let own = delivery.message[12..24].to_vec();
+        let own = sequence_of(delivery.message);
         let held = messages(&delivery.new, new.len(), u16_at(&delivery.new, 2));
         assert!(new.contains(&own) || held.contains(&delivery.message.to_vec()));
     }
 }
 
-/// Plays the records: undos name the last delta, executions add one.
-fn play(played: &mut Vec<Vec<u8>>, delivery: &Delivery) {
-    let undone = undos(delivery.answer);
-    let count = undone + executions(delivery.answer);
-    for (place, record) in delivery.steps.chunks(STEP).take(count).enumerate() {
-        let sequence = &record[4..16];
-        if place < undone {
-            assert_eq!(record[0], 1);
-            assert_eq!(played.pop().as_deref(), Some(sequence));
-        } else {
-            assert_eq!(record[0], 2);
-            played.push(sequence.to_vec());
-        }
-    }
+/// Plays the records: undos name the last delta, executions add one. What was in the log keeps its
+/// order, by the records alone and by the played logs.
+fn check_order(played: &mut Vec<Sequence>, delivery: &Delivery) {
+    let (undone, executed) = (undos(delivery.answer), executions(delivery.answer));
+    let old = played.clone();
+    let steps = steps(&delivery.steps, undone, executed).expect("undos, then executions");
+    assert!(play(played, &steps), "an undo of another than the last");
+    assert_eq!(by_steps(delivery.answer, &delivery.steps), Ok(()));
+    assert_eq!(by_logs(&old, played), Ok(()));
 }
 
 #[test]

@@ -10,13 +10,14 @@ use std::collections::BTreeMap;
 use bivamolune_tests::boundary::{code, executions, undos};
 use bivamolune_tests::call::{Action, Call, Outcome, View, World};
 use bivamolune_tests::generate::{case, is_with_purges};
+use bivamolune_tests::order_kept::{by_logs, by_steps};
 use bivamolune_tests::random::Random;
 use bivamolune_tests::reference::compose::Request;
 use bivamolune_tests::reference::plain::PlainStation;
 use bivamolune_tests::reference::purged::Purged;
 use bivamolune_tests::view::{
-    all_messages, base_values, floor_count, floors, log, messages, steps, u16_at, u32_at, values,
-    Kind,
+    all_messages, base_values, floor_count, floors, log, messages, play, steps, u16_at, u32_at,
+    values,
 };
 use bivamolune_tests::wire::{add, line, raise, set, Sequence};
 use common::{name, Station, A, B, C, D, STEPS, SUBJECT};
@@ -70,16 +71,17 @@ impl Run {
         number
     }
 
-    /// Undos name the last delta, executions add one.
+    /// Undos name the last delta, executions add one, and what was in the log keeps its order.
     fn play(&mut self, outcome: &Outcome) {
         let (undone, executed) = (undos(outcome.answer), executions(outcome.answer));
+        let old = self.played.clone();
         let steps = steps(&outcome.buffer, undone, executed).expect("undos, then executions");
-        for step in steps {
-            match step.kind {
-                Kind::Undo => assert_eq!(self.played.pop(), Some(step.sequence)),
-                Kind::Execute => self.played.push(step.sequence),
-            }
-        }
+        assert!(
+            play(&mut self.played, &steps),
+            "an undo of another than the last"
+        );
+        assert_eq!(by_steps(outcome.answer, &outcome.buffer), Ok(()));
+        assert_eq!(by_logs(&old, &self.played), Ok(()));
     }
 }
 

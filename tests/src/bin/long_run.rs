@@ -1,5 +1,6 @@
 //! Compares the library with the second implementation over seeds, for a number of
-//! deliveries or of minutes.
+//! deliveries or of minutes. Each delivery of the library must also keep the order of the log, by
+//! its own steps alone.
 //!
 //! `long_run --deliveries N` or `--minutes N`, with `--start SEED`, and with `--every N`
 //! only each Nth seed from there on (`--start 204 --every 8`: those that begin from an
@@ -16,7 +17,7 @@ use std::env;
 use std::process::ExitCode;
 use std::time::{Duration, Instant};
 
-use bivamolune_tests::boundary::{Calls, Reference, COMPARED, SUBJECT};
+use bivamolune_tests::boundary::{undos, Calls, Reference, COMPARED, SUBJECT};
 use bivamolune_tests::differential::{compare, report, trace};
 use bivamolune_tests::faulty::{Faulty, FAULTS};
 use bivamolune_tests::generate::case;
@@ -142,11 +143,13 @@ fn many_seeds(other: &Counted, options: &Options, what: &str) -> bool {
         all_calls += calls.len() as u64;
     }
     println!(
-        "no difference: {cases} cases from seed {} in steps of {every}, {all_calls} calls, {} deliveries, {} empties, \
+        "no difference: {cases} cases from seed {} in steps of {every}, {all_calls} calls, {} deliveries, \
+         {} of them with undos and the order kept, {} empties, \
          {} composes, {} purges, {} setpoints, {} log messages, {} texts read, {} texts written, {} s; \
          compared: {what}",
         options.start,
         other.deliver.get(),
+        other.undoing.get(),
         other.empty.get(),
         other.compose.get(),
         other.purge.get(),
@@ -159,11 +162,13 @@ fn many_seeds(other: &Counted, options: &Options, what: &str) -> bool {
     true
 }
 
-/// An implementation, and how often each of its calls was made.
+/// An implementation, and how often each of its calls was made. The comparison asks of every
+/// delivery whether it kept the order, which only one with undos can break.
 struct Counted<'a> {
     calls: &'a dyn Calls,
     empty: Cell<u64>,
     deliver: Cell<u64>,
+    undoing: Cell<u64>,
     compose: Cell<u64>,
     purge: Cell<u64>,
     setpoint: Cell<u64>,
@@ -178,6 +183,7 @@ impl Counted<'_> {
             calls,
             empty: Cell::new(0),
             deliver: Cell::new(0),
+            undoing: Cell::new(0),
             compose: Cell::new(0),
             purge: Cell::new(0),
             setpoint: Cell::new(0),
@@ -196,7 +202,10 @@ impl Calls for Counted<'_> {
 
     fn deliver(&self, image: &mut [u8], message: &[u8], steps: &mut [u8]) -> u32 {
         self.deliver.set(self.deliver.get() + 1);
-        self.calls.deliver(image, message, steps)
+        let answer = self.calls.deliver(image, message, steps);
+        let undoes = u64::from(undos(answer) > 0);
+        self.undoing.set(self.undoing.get() + undoes);
+        answer
     }
 
     fn compose(&self, image: &[u8], request: &Request, message: &mut [u8]) -> u32 {

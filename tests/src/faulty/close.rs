@@ -3,7 +3,7 @@
 
 use std::collections::BTreeSet;
 
-use super::{narrow, write_setpoints, Fault};
+use super::{late, narrow, write_setpoints, Fault};
 use crate::reference::bytes::{i32_at, u8_at};
 use crate::reference::code::Code;
 use crate::reference::image::{self, listed, read_sized, SIZE};
@@ -24,7 +24,7 @@ pub fn has_own_rule(fault: Fault) -> bool {
         Fault::Subtracts,
         Fault::PurgedJoins,
     ];
-    own.contains(&fault) || narrow::orders(fault)
+    own.contains(&fault) || narrow::orders(fault) || late::orders(fault)
 }
 
 /// A delivery by the fault's rule.
@@ -89,6 +89,7 @@ fn arranged<'a>(fault: Fault, set: &Set<'a>, purged: &Purged, before: &[Sequence
         }
         Fault::WaitsBehindHeld => waiting(set, right, before),
         fault if narrow::orders(fault) => narrow::arrange(fault, set, purged),
+        fault if late::orders(fault) => late::arrange(fault, right, before),
         _ => right,
     }
 }

@@ -243,10 +243,24 @@ pub enum Fault {
     PurgesLast,
     /// Drops those of the lowest sequences.
     PurgesBySequence,
+    /// Deltas of equal block, priority and group stand as they came: as in the log before, and what
+    /// joins it behind.
+    TiesByArrival,
+    /// The same the other way round: what joins the log goes first, and the log before is read from
+    /// its end.
+    TiesLatestFirst,
+    /// The same by sequence, the higher first where the number of deltas is odd.
+    TiesByCount,
+    /// The priority in the key is the greatest of those that need the delta too, in its effective block.
+    PriorityHandedDown,
+    /// The effective block is the greatest of those that need the delta too.
+    BlockHandedDown,
+    /// The effective block counts the blocks of held deltas that need the delta.
+    BlockOfHeld,
 }
 
 /// Every fault. Those that the paper names as programs that come close are among them.
-pub const FAULTS: [Fault; 120] = [
+pub const FAULTS: [Fault; 126] = [
     Fault::FullAt63,
     Fault::KeyAlone,
     Fault::TailNotCleared,
@@ -367,4 +381,10 @@ pub const FAULTS: [Fault; 120] = [
     Fault::HeldPurgedToo,
     Fault::PurgesLast,
     Fault::PurgesBySequence,
+    Fault::TiesByArrival,
+    Fault::TiesLatestFirst,
+    Fault::TiesByCount,
+    Fault::PriorityHandedDown,
+    Fault::BlockHandedDown,
+    Fault::BlockOfHeld,
 ];

@@ -4,6 +4,7 @@
 mod close;
 mod fault;
 mod floors;
+mod late;
 mod narrow;
 mod pairs;
 mod printing;

@@ -4,7 +4,7 @@
 pub mod trial;
 
 /// The tests that are run on each change first: those of few inputs.
-pub const QUICK: [&str; 21] = [
+pub const QUICK: [&str; 22] = [
     "examples",
     "codes",
     "edges_message",
@@ -21,6 +21,7 @@ pub const QUICK: [&str; 21] = [
     "published",
     "plant_fault",
     "story",
+    "late_picture",
     "format",
     "listing",
     "sequences",
@@ -31,7 +32,7 @@ pub const QUICK: [&str; 21] = [
 /// The tests that are run after those: of many inputs. The tests of the differential runner
 /// are not among them, as they would compare the second implementation with itself. The
 /// last one sees nearly every change by digests, which name no rule.
-pub const SLOW: [&str; 15] = [
+pub const SLOW: [&str; 16] = [
     "accepted",
     "generator",
     "limits",
@@ -43,6 +44,7 @@ pub const SLOW: [&str; 15] = [
     "hostile",
     "round_trips",
     "properties",
+    "late_arrivals",
     "hardware",
     "plant",
     "hazards",

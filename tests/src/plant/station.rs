@@ -5,6 +5,7 @@ use std::collections::BTreeSet;
 
 use crate::boundary::{code, executions, length, undos, Calls};
 use crate::call::{hex, Composing};
+use crate::order_kept::by_steps;
 use crate::view::{floors, log, messages, sequence_of, steps, values, Kind, Pair, Step, STEP};
 use crate::wire::{Line, Sequence};
 
@@ -216,14 +217,15 @@ impl Station {
         Ok(station)
     }
 
-    /// Delivers and lets the host play the steps. Whatever the answer, the host's log is
-    /// the image's, and so are the setpoints of the hardware; a refusal writes nothing, nor
-    /// does anything past the steps, nor a delta that was purged.
+    /// Delivers and lets the host play the steps, which keep the order of its log. Whatever the
+    /// answer, the host's log is the image's, and so are the setpoints of the hardware; a refusal
+    /// writes nothing, nor does anything past the steps, nor a delta that was purged.
     pub fn deliver(&mut self, calls: &dyn Calls, message: &[u8]) -> Result<Delivery, String> {
         let before = self.memory.image.clone();
         let mut buffer = vec![PATTERN; STEPS];
         let answer = calls.deliver(&mut self.memory.image, message, &mut buffer);
         let steps = self.play(&buffer, undos(answer), executions(answer))?;
+        by_steps(answer, &buffer).map_err(|broken| broken.to_string())?;
         let still = self.memory.image == before && steps.is_empty();
         let code = code(answer);
         if code != 0 && !still {
