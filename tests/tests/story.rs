@@ -1,18 +1,22 @@
-//! The plant's fault as a story with composed deltas: what each station does, the picture of
-//! it in docs, and the sample made of it.
+//! The plant's fault as a story with composed deltas: what each station does, and the sample made
+//! of it. The pictures in docs, and the programs that write all this.
 
 #![deny(warnings)]
 
 mod common;
+#[path = "common/drawing.rs"]
+mod drawing;
 
-use std::fs;
+use std::fs::{self, OpenOptions};
 use std::path::Path;
 use std::process::{Command, Output};
 
+use bivamolune_tests::boundary::{Calls, Reference};
 use bivamolune_tests::picture::story::{plant_fault, Story, BURNER, FURNACE};
-use bivamolune_tests::picture::{fault, seed};
+use bivamolune_tests::picture::{fault, late, late_seed, seed};
 use bivamolune_tests::plant::What;
 use common::{name, setpoint, u32_at, SUBJECT};
+use drawing::{attribute, number, text};
 
 fn story() -> Story {
     plant_fault(&SUBJECT).expect("the story can be played")
@@ -97,16 +101,23 @@ fn the_picture_in_docs_is_that_of_the_run() {
     assert!(drawn.contains("end with the log A1 B1 B2 C1 A2 and equal images"));
 }
 
+/// By the second implementation too, where the library is tested.
+#[test]
+fn the_late_picture_in_docs_is_that_of_the_run() {
+    let shipped = fs::read_to_string(root().join("docs/late-arrival.svg")).expect("it is there");
+    for calls in [&SUBJECT as &dyn Calls, &Reference] {
+        let drawn = late(calls).expect("it can be drawn");
+        assert!(drawn == shipped, "draw docs/late-arrival.svg again");
+    }
+    assert!(shipped.contains(">A late change squeezes in: what you have read keeps its order<"));
+    assert!(shipped.contains("B3 needs B2, and was held until then"));
+    assert!(shipped.contains("B2 goes to its place between B1 and C1."));
+}
+
 #[test]
 fn the_sample_is_that_of_the_run() {
     let shipped = fs::read(root().join("samples/plant-fault.deltas")).expect("it is there");
     assert!(shipped == story().deltas(), "write the sample again");
-}
-
-/// The value of an attribute in a line of a picture.
-fn attribute<'a>(line: &'a str, name: &str) -> &'a str {
-    let (_, rest) = line.split_once(&format!(" {name}=\"")).unwrap_or(("", ""));
-    rest.split('"').next().unwrap_or("")
 }
 
 /// The boxes of all words: left, right and base line, with six pixels for a character, eight
@@ -114,29 +125,33 @@ fn attribute<'a>(line: &'a str, name: &str) -> &'a str {
 fn words(picture: &str) -> Vec<(usize, usize, usize)> {
     let texts = picture.lines().filter(|line| line.starts_with("<text"));
     let placed = texts.map(|line| {
-        let number = |name| attribute(line, name).parse().unwrap_or(0_usize);
-        let (class, x) = (attribute(line, "class"), number("x"));
-        let (_, text) = line.split_once('>').unwrap_or(("", ""));
-        let count = text.trim_end_matches("</text>").chars().count();
-        let width = count * if class == "title" { 8 } else { 6 };
+        let (class, x) = (attribute(line, "class"), number(line, "x"));
+        let width = text(line).chars().count() * if class == "title" { 8 } else { 6 };
         let left = if class.contains("mid") {
             x - width / 2
         } else {
             x
         };
-        (left, left + width, number("y"))
+        (left, left + width, number(line, "y"))
     });
     placed.collect()
 }
 
 #[test]
 fn no_words_lie_on_others_or_outside() {
-    for picture in [fault(&SUBJECT), seed(&SUBJECT, 17), seed(&SUBJECT, 3)] {
+    let large = [
+        fault(&SUBJECT),
+        seed(&SUBJECT, 17),
+        seed(&SUBJECT, 3),
+        late(&SUBJECT),
+    ];
+    let seeds = (0..30).map(|seed| (20, late_seed(&SUBJECT, seed)));
+    let pictures = large.into_iter().map(|picture| (60, picture));
+    for (least, picture) in pictures.chain(seeds) {
         let picture = picture.expect("it can be drawn");
-        let number = |name| attribute(&picture, name).parse().unwrap_or(0_usize);
-        let (width, height) = (number("width"), number("height"));
+        let (width, height) = (number(&picture, "width"), number(&picture, "height"));
         let mut words = words(&picture);
-        assert!(words.len() > 60);
+        assert!(words.len() > least);
         words.sort_unstable();
         for (place, (left, right, base)) in words.iter().enumerate() {
             assert!(*right < width && *base < height);
@@ -158,6 +173,7 @@ fn the_programs_write_what_is_shipped() {
     let (picture, sample) = (env!("CARGO_BIN_EXE_picture"), env!("CARGO_BIN_EXE_sample"));
     for (program, words, file) in [
         (picture, "fault", "docs/plant-fault.svg"),
+        (picture, "late", "docs/late-arrival.svg"),
         (sample, "deltas", "samples/plant-fault.deltas"),
         (sample, "listing", "samples/plant-fault.txt"),
     ] {
@@ -165,13 +181,31 @@ fn the_programs_write_what_is_shipped() {
         assert_eq!(output.status.code(), Some(0));
         assert!(output.stdout == fs::read(root().join(file)).expect("it is there"));
     }
-    let drawn = run(picture, &["seed", "17"]).stdout;
-    assert_eq!(
-        drawn,
-        seed(&SUBJECT, 17).expect("it can be drawn").into_bytes()
-    );
-    for words in [&[][..], &["seed"], &["seed", "x"], &["fault", "1"]] {
-        assert_eq!(run(picture, words).status.code(), Some(2));
+    for (words, drawn) in [
+        (["seed", "17"], seed(&SUBJECT, 17)),
+        (["late", "17"], late_seed(&SUBJECT, 17)),
+    ] {
+        let drawn = drawn.expect("it can be drawn");
+        assert!(run(picture, &words).stdout == drawn.into_bytes());
+    }
+    let mut wrong = vec![&[][..], &["seed"], &["seed", "x"], &["fault", "1"]];
+    wrong.extend([&["late", "x"][..], &["late", "-1"], &["late", "1", "2"]]);
+    for words in wrong {
+        let output = run(picture, words);
+        assert_eq!((output.status.code(), output.stdout), (Some(2), vec![]));
+        assert_eq!(output.stderr, b"usage: picture fault | late [N] | seed N\n");
     }
     assert_eq!(run(sample, &[]).status.code(), Some(2));
+}
+
+#[test]
+fn a_picture_that_cannot_be_written_is_an_error() {
+    for words in [&["fault"][..], &["late"], &["late", "17"]] {
+        let full = OpenOptions::new().write(true).open("/dev/full");
+        let mut picture = Command::new(env!("CARGO_BIN_EXE_picture"));
+        let picture = picture.args(words).stdout(full.expect("a full device"));
+        let output = picture.output().expect("the program runs");
+        assert_eq!(output.status.code(), Some(1));
+        assert!(!output.stderr.is_empty());
+    }
 }

@@ -1,5 +1,6 @@
 //! The scene put on the layout.
 
+use super::frame;
 use super::layout::{mark_width, width_of, Layout, LEFT};
 use super::scene::{Bar, Flight, Kind, Mark, Scene};
 use super::svg::Svg;
@@ -37,15 +38,10 @@ pub fn draw(scene: &Scene) -> String {
 
 /// Title, what it is about, and the times.
 fn heading(svg: &mut Svg, scene: &Scene, layout: &Layout) {
-    svg.text("title", (16, 26), &scene.title);
-    let mut y = 46;
-    for words in &scene.about {
-        svg.text("", (16, y), words);
-        y += 18;
-    }
-    svg.text("small", (16, y + 2), "time");
+    let y = frame::heading(svg, &scene.title, &scene.about) + 2;
+    svg.text("small", (16, y), "time");
     for (time, x) in &layout.columns {
-        svg.text("small", (*x, y + 2), &time.to_string());
+        svg.text("small", (*x, y), &time.to_string());
     }
 }
 
@@ -151,18 +147,13 @@ fn legend(svg: &mut Svg, scene: &Scene, top: usize, width: usize) -> usize {
         (Mark::Restarted, "restarted from the saved image"),
         (Mark::Refused("A1: 7".to_string()), "refused, with its code"),
     ];
-    let (mut x, mut y) = (16, top);
-    let mut lines = 1;
-    for (mark, words) in all.iter().filter(|(mark, _)| used(scene, mark)) {
-        let wide = mark_width(mark) + width_of(words) + 28;
-        if x + wide > width {
-            (x, y) = (16, y + 24);
-            lines += 1;
-        }
-        put(svg, mark, (x, y));
-        svg.text("", (x + mark_width(mark) + 6, y + 4), words);
-        x += wide;
-    }
+    let used = all.iter().filter(|(mark, _)| used(scene, mark));
+    let (marks, words): (Vec<&Mark>, Vec<(usize, &str)>) = used
+        .map(|(mark, words)| (mark, (mark_width(mark), *words)))
+        .unzip();
+    let lines = frame::legend(svg, &words, (top, width), |svg, place, at| {
+        put(svg, marks[place], at);
+    });
     lines + 1
 }
 

@@ -1,12 +1,19 @@
-//! Pictures of what stations do: the plant's fault beside the old single queue, and any seed
-//! of the plant in motion. One file a part: the story, the old queue, what is drawn, where it
-//! is, and the shapes.
+//! Pictures of what stations do: the plant's fault beside the old single queue, any seed of the
+//! plant in motion, and a log before and after a late arrival. One file a part: the stories, the
+//! old queue, what is drawn, where it is, and the shapes.
 
+mod arrival;
+mod bands;
 mod draw;
+mod entry;
 mod fault;
+mod frame;
+mod late;
 mod layout;
 mod queue;
+mod rows;
 mod scene;
+mod stage;
 pub mod story;
 mod svg;
 mod teller;
@@ -19,6 +26,16 @@ use teller::tell;
 /// The plant's fault, run on an implementation of the calls.
 pub fn fault(calls: &dyn Calls) -> Result<String, String> {
     Ok(draw::draw(&fault::scene(calls)?))
+}
+
+/// A log before and after a late change, run on an implementation of the calls.
+pub fn late(calls: &dyn Calls) -> Result<String, String> {
+    Ok(bands::draw(&late::story(calls)?))
+}
+
+/// The same of a seed of the generator.
+pub fn late_seed(calls: &dyn Calls, seed: u64) -> Result<String, String> {
+    Ok(bands::draw(&late::seed(calls, seed)?))
 }
 
 /// The plant in motion of a seed.

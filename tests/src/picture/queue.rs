@@ -16,7 +16,7 @@ pub struct Queued {
 }
 
 /// What a message needs: the dependencies that it names, and its predecessor.
-fn needs(message: &[u8]) -> Vec<Sequence> {
+pub fn needs(message: &[u8]) -> Vec<Sequence> {
     let named = message[40..40 + 12 * usize::from(message[2])].chunks(12);
     let mut needs: Vec<Sequence> = named.filter_map(|part| part.try_into().ok()).collect();
     let own = sequence_of(message);

@@ -91,7 +91,7 @@ pub struct Scene {
 }
 
 /// Names of deltas: a letter for each line, in the order in which they are met, and the
-/// number.
+/// number. Lines past the 52nd have a letter twice.
 #[derive(Clone, Debug, Default, PartialEq, Eq)]
 pub struct Names(Vec<Line>);
 
@@ -104,9 +104,10 @@ impl Names {
             self.0.push(own);
             self.0.len() - 1
         });
-        let letter = ('A'..='Z').chain('a'..='z').nth(place).unwrap_or('?');
+        let letter = ('A'..='Z').chain('a'..='z').cycle().nth(place);
+        let letters: String = letter.into_iter().cycle().take(1 + place / 52).collect();
         let number = u16::from_be_bytes([sequence[10], sequence[11]]);
-        format!("{letter}{number}")
+        format!("{letters}{number}")
     }
 }
 

@@ -39,9 +39,17 @@ text{font-family:Helvetica,Arial,sans-serif;font-size:12px;fill:#1c2733}
 #[derive(Clone, Debug, Default)]
 pub struct Svg {
     body: String,
+    /// Classes beside those that all drawings have.
+    classes: &'static str,
 }
 
 impl Svg {
+    /// A drawing with classes of its own.
+    pub fn with(classes: &'static str) -> Svg {
+        let body = String::new();
+        Svg { body, classes }
+    }
+
     /// A rectangle with round corners.
     pub fn rect(&mut self, class: &str, at: (usize, usize), size: (usize, usize), round: usize) {
         let ((x, y), (width, height)) = (at, size);
@@ -95,9 +103,9 @@ impl Svg {
     pub fn finish(self, title: &str, (width, height): (usize, usize)) -> String {
         format!(
             "<svg xmlns=\"http://www.w3.org/2000/svg\" width=\"{width}\" height=\"{height}\" \
-             viewBox=\"0 0 {width} {height}\">\n<title>{title}</title>\n<style>{STYLE}</style>\n\
+             viewBox=\"0 0 {width} {height}\">\n<title>{title}</title>\n<style>{STYLE}{}</style>\n\
              <rect class=\"ground\" width=\"{width}\" height=\"{height}\"/>\n{}</svg>\n",
-            self.body
+            self.classes, self.body
         )
     }
 }
