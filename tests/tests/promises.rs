@@ -254,10 +254,11 @@ fn every_citation_of_promises_is_there() {
 }
 
 /// The laws of the crates on which nothing stands, or little, so that the proofs go on without them.
-const END_THEOREMS: [&str; 3] = [
+const END_THEOREMS: [&str; 4] = [
     "crates/claims/specs/Claims.antt",
     "crates/claims/specs/OwnCalls.antt",
     "crates/theorems/specs/Theorems.antt",
+    "crates/theorems/specs/LateTheorems.antt",
 ];
 
 #[test]
