@@ -113,13 +113,13 @@ keep_∈ {A} p (x ∷ l) {a} m = go (p x) (λ t. t) (λ k. keep_∈ p l k) m
         ⊎_elim (λ e. (Memᴰ.head e, subst (λ (y : A). T (p y)) (sym e) (f tt))) (λ k. (Memᴰ.tail (ih k).0, (ih k).1)) (Memᴰ.cases_cons m)
     go false f ih m = (Memᴰ.tail (ih m).0, (ih m).1)
 
-pub ∈_keep : {A : Type 0} (p : A → Bool) {l : List A} {a : A} → a ∈ l → T (p a) → a ∈ keep p l
-∈_keep {A} p {l} {a} (Memᴰ.head {x} {xs} e) t = go (p x) (subst (λ (y : A). T (p y)) e t)
+pub ∈_keep : {A : Type 0} (p : A → Bool) {a : A} {l : List A} → a ∈ l → T (p a) → a ∈ keep p l
+∈_keep {A} p {a} {l} (Memᴰ.head {x} {xs} e) t = go (p x) (subst (λ (y : A). T (p y)) e t)
   where
     go : (b : Bool) → T b → a ∈ cond b (x ∷ keep p xs) (keep p xs)
     go true t = Memᴰ.head e
     go false t = absurd t
-∈_keep p {l} {a} (Memᴰ.tail {x} {xs} m) t = go (p x) (∈_keep p m t)
+∈_keep p {a} {l} (Memᴰ.tail {x} {xs} m) t = go (p x) (∈_keep p m t)
   where
     go : (b : Bool) → a ∈ keep p xs → a ∈ cond b (x ∷ keep p xs) (keep p xs)
     go true k = Memᴰ.tail k

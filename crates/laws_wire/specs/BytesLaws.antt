@@ -255,7 +255,7 @@ word_of_z (negsuc n) = refl
 
 -- an integer of 32 bits is read back from its bits
 pub integer_word : (z : ℤ) → mag z < 2147483648 → (word z < 4294967296) × (integer (word z) ≡ z)
-integer_word z h = (range z h, integer_to_z (word z) (range z h) ∙ ap (to_z w32) (word_of_z z) ∙ to_z-of_z (record { sfits = h }))
+integer_word z h = (range z h, integer_to_z (word z) (range z h) ∙ ap (to_z w32) (word_of_z z) ∙ to_z-of_z {w = w32} (record { sfits = h }))
   where
     range : (z : ℤ) → mag z < 2147483648 → word z < 4294967296
     range (pos n) h = omega arith

@@ -29,10 +29,12 @@ once : (a b m : Message) → m ∈ a ∷ a ∷ b ∷ [] → m ∈ b ∷ a ∷ []
 once a b m (Memᴰ.head e) = Memᴰ.tail (Memᴰ.head e)
 once a b m (Memᴰ.tail (Memᴰ.head e)) = Memᴰ.tail (Memᴰ.head e)
 once a b m (Memᴰ.tail (Memᴰ.tail (Memᴰ.head e))) = Memᴰ.head e
+once a b m (Memᴰ.tail (Memᴰ.tail (Memᴰ.tail n))) = elim n [ ]
 
 twice : (a b m : Message) → m ∈ b ∷ a ∷ [] → m ∈ a ∷ a ∷ b ∷ []
 twice a b m (Memᴰ.head e) = Memᴰ.tail (Memᴰ.tail (Memᴰ.head e))
 twice a b m (Memᴰ.tail (Memᴰ.head e)) = Memᴰ.head e
+twice a b m (Memᴰ.tail (Memᴰ.tail n)) = elim n [ ]
 
 -- the same set, though neither the same list nor as many calls
 pub in_either : (m : Message) → m ∈ a1 ∷ a1 ∷ b1 ∷ [] ↔ m ∈ b1 ∷ a1 ∷ []
@@ -47,6 +49,7 @@ unfolding accepts receive take_in passes layout_right numbers_right dependencies
 same_station = record { floors = refl; base = refl; block = refl; group = refl; remaining = in_either }
 
 not_a1 : b1 ∈ a1 ∷ [] → ⊥
+not_a1 (Memᴰ.tail n) = elim n [ ]
 not_a1 (Memᴰ.head e) = let sequences : sequence_of b1 ≡ sequence_of a1 = ap sequence_of e in omega arith
 
 other_set : SameStation given a1_first given (first_a1 ∷ []) → ⊥
