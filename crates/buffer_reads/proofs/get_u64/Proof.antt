@@ -9,10 +9,10 @@ returns : tie.Need-returns
 returns c =
     let a = c.before.before.before.before.before.args in
     field_quarters a.s.now a.at (omega arith)
-    c.before.before.before.get-u16.ensures.0
-    c.before.before.get-u162.ensures.0
-    c.before.get-u163.ensures.0
-    c.get-u164.ensures.0
+    c.before.before.before.get_u16-a.ensures.0
+    c.before.before.get_u16-b.ensures.0
+    c.before.get_u16-c.ensures.0
+    c.get_u16-d.ensures.0
 
 pub get_u64_spec : {M : Type 1} → statement M
 get_u64_spec =

@@ -26,27 +26,27 @@ step : (ok : Bool) (a b : List ℕ) (i : ℕ) → i < length a → i < length b
 step true a b i h k = rw (add-one, drop-cons a i 0, drop-cons b i 0)
 step false a b i h k = refl
 
-abbrev invariant-loop : tie.invariant-loop
+abbrev invariant-loop : tie.invariant-loop-i
 invariant-loop a b ok₀ i₀ ok i = (i ≤ length a) × (same a b ≡ ok && same (drop i a) (drop i b))
 
-abbrev decreases-loop : tie.decreases-loop
+abbrev decreases-loop : tie.decreases-loop-i
 decreases-loop a b ok₀ i₀ ok i = length a - i
 
-returns : tie.Need-returns invariant-loop decreases-loop
-returns c = sym (unlike c.before.args.a.now c.before.args.b.now c.if1.true)
+returns : tie.Need-returns-then-a-b invariant-loop decreases-loop
+returns c = sym (unlike c.before.args.a.now c.before.args.b.now c.if-a-b.true)
 
-loop-holds : tie.Need-loop-init invariant-loop decreases-loop
+loop-holds : tie.Need-loop-i-init invariant-loop decreases-loop
 loop-holds c = (search rules, refl)
 
-loop-again : tie.Need-loop-preserved invariant-loop decreases-loop
+loop-again : tie.Need-loop-i-preserved invariant-loop decreases-loop
 loop-again c =
-    let l = c.before.before.before.loop in
+    let l = c.before.before.before.loop-i in
     let a = c.before.before.before.before.before.args in
     (omega arith, l.invariant.1 ∙ step l.ok a.a.now a.b.now l.i (omega arith) (omega arith))
 
-returns-2 : tie.Need-returns-2 invariant-loop decreases-loop
+returns-2 : tie.Need-returns invariant-loop decreases-loop
 returns-2 c =
-    let l = c.before.loop in
+    let l = c.before.loop-i in
     let a = c.before.before.before.args in
     let p : length a.a.now ≤ l.i = omega arith in
     let q : length a.b.now ≤ l.i = omega arith in
