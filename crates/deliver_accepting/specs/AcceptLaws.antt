@@ -15,7 +15,7 @@ use Rattle.set_table.specs.Table.{message_from, deltas_of, deltas_at, set_in}
 use Rattle.image_sections.specs.LogPlaces.{ImageInput}
 use Rattle.log_order.specs.declared.LogOrder.{LogOrder}
 use Rattle.log_order.specs.LogOrder.{old_of, places_of}
-use Rattle.log.specs.Ordered.{Ordered}
+use Rattle.log_listing.specs.Ordered.{Ordered}
 use Rattle.deliver_steps.specs.Room.{StepsFit}
 use Rattle.deliver_steps.specs.PlacedLogs.{IsLogOf, undos_are, executions_are}
 use Rattle.deliver_accepting.specs.Accepting.{accepted_by, IsWritten, Updatable, Updates}

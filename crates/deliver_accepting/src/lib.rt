@@ -8,7 +8,7 @@ ghost use Rattle.set_table.specs.Table.{set_in, Holds};
 ghost use Rattle.image_sections.specs.LogPlaces.{ImageInput};
 ghost use Rattle.deliver_steps.specs.Room.{StepsFit};
 ghost use Rattle.log_order.specs.LogOrder.{places_of, OrderRight};
-ghost use Rattle.log.specs.Ordered.{Ordered};
+ghost use Rattle.log_listing.specs.Ordered.{Ordered};
 ghost use Rattle.deliver_accepting.specs.Accepting.{accepted_by, IsWritten, Updatable, Updates, Acceptable};
 
 use buffer_writes::copy_at;
@@ -16,7 +16,7 @@ use deliver_steps::write_steps;
 use image::write_used;
 use image_listed::Station;
 use layout::{CAPACITY, IMAGE_SIZE};
-use log::listing::order;
+use log_listing::listing::order;
 use log_key::KEYS;
 use log_order::LogOrder;
 use log_prepared::prepare;

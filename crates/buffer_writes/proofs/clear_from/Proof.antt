@@ -13,10 +13,10 @@ use Rattle.buffer_writes.proofs.clear_from.Tie as tie
 zeros : List ℕ → ℕ → List ℕ
 zeros d at = replicate (length d - at) 0
 
-abbrev invariant-loop : tie.invariant-loop
+abbrev invariant-loop : tie.invariant-loop-i
 invariant-loop dst₀ at i₀ dst i = (at ≤ i) × ((i ≤ length dst₀) × ((dst ≡ paste dst₀ at (zeros dst₀ at) (i - at)) × (length dst ≡ length dst₀)))
 
-abbrev decreases-loop : tie.decreases-loop
+abbrev decreases-loop : tie.decreases-loop-i
 decreases-loop dst₀ at i₀ dst i = length dst - i
 
 -- one more zero
@@ -39,7 +39,7 @@ at_end d at i h e =
     ∙ append-nil (take at d ++ take (i - at) (zeros d at))
     ∙ ap (λ (l : List ℕ). take at d ++ l) (take_all (i - at) (zeros d at) (rw length-replicate (omega arith)))
 
-loop-holds : tie.Need-loop-init invariant-loop decreases-loop
+loop-holds : tie.Need-loop-i-init invariant-loop decreases-loop
 loop-holds c =
     let a = c.args in (
       search rules,
@@ -52,13 +52,13 @@ loop-holds c =
       ),
     )
 
-loop-less : tie.Need-loop-smaller invariant-loop decreases-loop
+loop-less : tie.Need-loop-i-smaller invariant-loop decreases-loop
 loop-less c = simp length-set (omega arith)
 
-loop-again : tie.Need-loop-preserved invariant-loop decreases-loop
+loop-again : tie.Need-loop-i-preserved invariant-loop decreases-loop
 loop-again c =
     let a = c.before.before.args in
-    let l = c.before.loop in (
+    let l = c.before.loop-i in (
       omega arith,
       (
         omega arith,
@@ -69,13 +69,13 @@ loop-again c =
       ),
     )
 
-same_length : tie.Need-same-length invariant-loop decreases-loop
-same_length c = c.before.loop.invariant.1.1.1
+same_length : tie.Need-shape_of-dst invariant-loop decreases-loop
+same_length c = c.before.loop-i.invariant.1.1.1
 
 returns : tie.Need-returns invariant-loop decreases-loop
 returns c =
     let a = c.before.before.args in
-    let l = c.before.loop in
+    let l = c.before.loop-i in
     l.invariant.1.1.0 ∙ at_end a.dst.now a.at l.i (omega arith) (omega arith)
 
 pub clear_from_spec : {M : Type 1} → statement M

@@ -9,7 +9,7 @@ use borrow.Author.Rules.{rules}
 use Rattle.buffer_writes.proofs.put_u16.Statement.{statement}
 use Rattle.buffer_writes.proofs.put_u16.Tie as tie
 
-slice-write-s-2 : tie.Need-slice-write-s-2
+slice-write-s-2 : tie.Need-bounds-s-at-2
 slice-write-s-2 c = simp length-set (omega arith)
 
 returns : tie.Need-returns

@@ -1,7 +1,7 @@
 // The delta that comes next: of the deltas by key the first that is ready.
 ghost use Rattle.std.specs.Prelude.{◌≡◌, length};
 ghost use Rattle.set_readiness.specs.Ready.{marks_size};
-ghost use Rattle.log.specs.Next.{Marked, Lookable, Skips, FirstReady};
+ghost use Rattle.log_listing.specs.Next.{Marked, Lookable, Skips, FirstReady};
 
 use set_readiness::ready;
 

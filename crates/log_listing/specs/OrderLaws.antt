@@ -17,10 +17,10 @@ use Rattle.set_readiness.specs.Ready.{marks_size, Placing}
 use Rattle.set_closure.specs.ClosingLaws.{placing_none, placing_more}
 use Rattle.log_order.specs.declared.LogOrder.{LogOrder}
 use Rattle.log_order.specs.LogOrder.{places_of, OrderRight, Placed}
-use Rattle.log.specs.declared.next.Next.{Next}
-use Rattle.log.specs.declared.next.Next.TheVariants.{At, Nothing}
-use Rattle.log.specs.Next.{delta_of, Picks, NextRight}
-use Rattle.log.specs.Ordered.{Ordered, Grows, Growing}
+use Rattle.log_listing.specs.declared.next.Next.{Next}
+use Rattle.log_listing.specs.declared.next.Next.TheVariants.{At, Nothing}
+use Rattle.log_listing.specs.Next.{delta_of, Picks, NextRight}
+use Rattle.log_listing.specs.Ordered.{Ordered, Grows, Growing}
 
 module _ (S : State) (right : RightSet S) where
   -- nothing is placed

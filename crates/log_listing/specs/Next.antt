@@ -7,8 +7,8 @@ use Rattle.model.specs.Listing as L
 use Rattle.model.specs.Order.{State, placed_by, ready, key_of, less}
 use Rattle.set_needs.specs.Rows.{RowFits}
 use Rattle.set_readiness.specs.Ready.{marks_size, is_placed, ready_in, Placing}
-use Rattle.log.specs.declared.next.Next.{Next}
-use Rattle.log.specs.declared.next.Next.TheVariants.{At, Nothing}
+use Rattle.log_listing.specs.declared.next.Next.{Next}
+use Rattle.log_listing.specs.declared.next.Next.TheVariants.{At, Nothing}
 
 -- Each is an index that has a mark, and a row.
 abbrev pub Marked : List ℕ → Type 0

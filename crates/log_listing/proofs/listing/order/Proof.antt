@@ -11,15 +11,15 @@ use Rattle.model.specs.Order.{State}
 use Rattle.set_table.specs.Table.{set_in}
 use Rattle.set_table.specs.TableLaws.{deltas_length}
 use Rattle.set_needs.specs.RowLaws.{rows_fit}
-use Rattle.log.specs.declared.next.Next.TheVariants.{At}
+use Rattle.log_listing.specs.declared.next.Next.TheVariants.{At}
 use Rattle.log_sorting.specs.Sorted.{Sorted}
 use Rattle.log_sorting.specs.SortedLaws.{sorted_take}
-use Rattle.log.specs.Next.{Lookable, Skips, NextRight}
-use Rattle.log.specs.NextLaws.{skips_on, skips_marked, next_right}
-use Rattle.log.specs.Ordered.{Growing}
-use Rattle.log.specs.OrderLaws.{growing_none, growing_more, next_inside, growing_stuck, growing_full}
-use Rattle.log.proofs.listing.order.Statement.{statement}
-use Rattle.log.proofs.listing.order.Tie as tie
+use Rattle.log_listing.specs.Next.{Lookable, Skips, NextRight}
+use Rattle.log_listing.specs.NextLaws.{skips_on, skips_marked, next_right}
+use Rattle.log_listing.specs.Ordered.{Growing}
+use Rattle.log_listing.specs.OrderLaws.{growing_none, growing_more, next_inside, growing_stuck, growing_full}
+use Rattle.log_listing.proofs.listing.order.Statement.{statement}
+use Rattle.log_listing.proofs.listing.order.Tie as tie
 
 abbrev invariant-loop : tie.invariant-loop
 invariant-loop pool starts rows counts keys used sorted placed₀ log₀ first₀ k₀ placed log first k = Growing (set_in pool starts) log₀ placed log k × Skips (take used sorted) placed 0 first

@@ -5,9 +5,9 @@ use mathlib.Core.Bool.{false}
 use lib.ListN.{length, get_or}
 use native.Mathlib.Omega.{arith}
 use Rattle.set_readiness.specs.Ready.{ready_in}
-use Rattle.log.specs.NextLaws.{one_more}
-use Rattle.log.proofs.next.first_ready.Statement.{statement}
-use Rattle.log.proofs.next.first_ready.Tie as tie
+use Rattle.log_listing.specs.NextLaws.{one_more}
+use Rattle.log_listing.proofs.next.first_ready.Statement.{statement}
+use Rattle.log_listing.proofs.next.first_ready.Tie as tie
 
 abbrev invariant-loop : tie.invariant-loop
 invariant-loop rows counts sorted placed from k₀ k = (from ≤ k) × ((a : ℕ) → from ≤ a → a < k → ready_in rows counts placed (get_or sorted a 0) ≡ false)

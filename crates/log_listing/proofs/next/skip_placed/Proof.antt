@@ -6,9 +6,9 @@ use lib.ListN.{length, get_or}
 use native.Mathlib.Omega.{arith}
 use borrow.Author.Tests.{ne_eqb}
 use Rattle.set_readiness.specs.Ready.{is_placed}
-use Rattle.log.specs.NextLaws.{one_more}
-use Rattle.log.proofs.next.skip_placed.Statement.{statement}
-use Rattle.log.proofs.next.skip_placed.Tie as tie
+use Rattle.log_listing.specs.NextLaws.{one_more}
+use Rattle.log_listing.proofs.next.skip_placed.Statement.{statement}
+use Rattle.log_listing.proofs.next.skip_placed.Tie as tie
 
 abbrev invariant-loop : tie.invariant-loop
 invariant-loop sorted placed from k₀ k = (from ≤ k) × ((a : ℕ) → from ≤ a → a < k → is_placed placed (get_or sorted a 0) ≡ true)

@@ -16,10 +16,10 @@ use Rattle.set_needs.specs.Rows.{RowsRight}
 use Rattle.set_readiness.specs.Ready.{is_placed, ready_in, Placing}
 use Rattle.set_readiness.specs.ReadyLaws.{ready_is, ready_marked}
 use Rattle.log_prepared.specs.Keys.{KeysRight}
-use Rattle.log.specs.declared.next.Next.{Next}
-use Rattle.log.specs.declared.next.Next.TheVariants.{At, Nothing}
+use Rattle.log_listing.specs.declared.next.Next.{Next}
+use Rattle.log_listing.specs.declared.next.Next.TheVariants.{At, Nothing}
 use Rattle.log_sorting.specs.Sorted.{Sorted}
-use Rattle.log.specs.Next.{Skips, FirstReady, Picks, NextRight}
+use Rattle.log_listing.specs.Next.{Skips, FirstReady, Picks, NextRight}
 
 -- what holds of all from a place on below k, and of k, holds below k + 1
 pub one_more : (P : ℕ → Type 0) (from k : ℕ) → ((a : ℕ) → from ≤ a → a < k → P a) → P k → (a : ℕ) → from ≤ a → a < k + 1 → P a

@@ -3,7 +3,7 @@ ghost use Rattle.std.specs.Prelude.{◌≡◌, []};
 ghost use Rattle.set_table.specs.Table.{set_in, Holds};
 ghost use Rattle.log_order.specs.LogOrder.{places_of, OrderRight};
 ghost use Rattle.log_prepared.specs.Keys.{PreparedRight};
-ghost use Rattle.log.specs.Ordered.{Ordered};
+ghost use Rattle.log_listing.specs.Ordered.{Ordered};
 
 use crate::next::{Next, first_ready, skip_placed};
 use log_order::LogOrder;
