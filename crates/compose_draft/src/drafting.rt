@@ -14,14 +14,14 @@ use message_header::header::Priority;
 use message_sequence::Sequence;
 
 // What a new delta has from the log, and its priority.
-#[derive(Drop)]
+#[derive(Clone, Copy)]
 pub struct Draft {
     pub sequence: Sequence,
     pub group: u32,
     pub priority: Priority,
 }
 
-#[derive(Drop)]
+#[derive(Clone, Copy)]
 pub enum Drafting {
     Fits(Draft),
     PastLimit,

@@ -1,7 +1,7 @@
 // What compose answers.
 
 // The message's length, or why it refused.
-#[derive(Drop)]
+#[derive(Clone, Copy)]
 pub enum Composition {
     Written(usize),
     WrongSize,

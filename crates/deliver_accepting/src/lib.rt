@@ -24,7 +24,7 @@ use set_needs::rows::ROWS;
 use set_table::shifting::shift_places;
 
 // How many deltas of the old log are undone, and how many of the new one executed.
-#[derive(Drop)]
+#[derive(Clone, Copy)]
 pub struct Counts {
     pub undos: usize,
     pub executions: usize,

@@ -1,5 +1,5 @@
 // What deliver answers: the counts of its steps, or why it refused.
-#[derive(Drop)]
+#[derive(Clone, Copy)]
 pub enum Delivery {
     Accepted { undos: usize, executions: usize },
     WrongSize,

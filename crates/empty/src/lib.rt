@@ -8,7 +8,7 @@ use image::put_empty;
 use message_header::checks::Check;
 
 // What empty answers.
-#[derive(Drop)]
+#[derive(Clone, Copy)]
 pub enum Emptying {
     Done,
     WrongSize,

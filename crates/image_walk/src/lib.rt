@@ -23,7 +23,7 @@ pub struct Walk {
 }
 
 // Where a message ends, or that there is none: nothing at its offset passes 3 to 6.
-#[derive(Drop)]
+#[derive(Clone, Copy)]
 enum End {
     At(usize),
     Refused,

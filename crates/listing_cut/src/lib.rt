@@ -8,7 +8,7 @@ use buffer_reads::get_u16;
 use layout::LENGTH_AT;
 
 // The size of the next message, or that the cut is wrong.
-#[derive(Drop)]
+#[derive(Clone, Copy)]
 pub enum Cut {
     Message(usize),
     Wrong,

@@ -9,7 +9,7 @@ use layout::STEP_ROOM;
 use listing_lines::printing::put_line;
 
 // The numbers of a message's line.
-#[derive(Drop)]
+#[derive(Clone, Copy)]
 pub struct Outcome {
     pub code: usize,
     pub undos: usize,

@@ -6,7 +6,7 @@ ghost use Rattle.log_listing.specs.Next.{Marked, Lookable, Skips, FirstReady};
 use set_readiness::ready;
 
 // The index of the delta that comes next.
-#[derive(Drop)]
+#[derive(Clone, Copy)]
 pub enum Next {
     At(usize),
     Nothing,

@@ -12,7 +12,7 @@ use layout::{
 };
 
 // What a check answers.
-#[derive(Drop)]
+#[derive(Clone, Copy)]
 pub enum Check {
     Right,
     Wrong,

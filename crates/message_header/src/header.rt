@@ -11,14 +11,14 @@ use layout::{
 use message_sequence::{Sequence, read_sequence};
 
 // No priority, or a block with a priority.
-#[derive(Drop)]
+#[derive(Clone, Copy)]
 pub enum Priority {
     Absent,
     Given { block: u32, priority: u32 },
 }
 
 // A message's header: what stands in its first 40 bytes and is not settled by the layout.
-#[derive(Drop)]
+#[derive(Clone, Copy)]
 pub struct Header {
     pub sequence: Sequence,
     pub group: u32,

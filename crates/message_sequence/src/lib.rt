@@ -11,14 +11,14 @@ use buffer_writes::{put_u32, put_u64};
 use layout::NUMBERS_OF_LINE;
 
 // The twelve bytes of a sequence: the first eight, and the last four.
-#[derive(Drop)]
+#[derive(Clone, Copy)]
 pub struct Sequence {
     pub high: u64,
     pub low: u32,
 }
 
 // A sequence's predecessor, where it has one.
-#[derive(Drop)]
+#[derive(Clone, Copy)]
 pub enum Predecessor {
     Of(Sequence),
     Absent,

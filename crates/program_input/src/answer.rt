@@ -6,14 +6,14 @@ ghost use Rattle.program_input.specs.Reading.{reading_after, goes_on};
 use libc::EINTR;
 
 // What all reads brought: how many bytes, and whether they are all that was to be read, or a read behind them failed.
-#[derive(Drop)]
+#[derive(Clone, Copy)]
 pub enum Input {
     Bytes(usize),
     Failed(usize),
 }
 
 // What is known behind a read: so many bytes are there and more may come, or reading is over.
-#[derive(Drop)]
+#[derive(Clone, Copy)]
 pub enum Reading {
     Going(usize),
     Over(Input),

@@ -1,5 +1,5 @@
 // What purge answers.
-#[derive(Drop)]
+#[derive(Clone, Copy)]
 pub enum Purging {
     Accepted,
     WrongSize,

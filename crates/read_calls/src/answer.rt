@@ -1,7 +1,7 @@
 // What the reading calls answer.
 
 // Where the log's message at a place lies in the image, or why there is none.
-#[derive(Drop)]
+#[derive(Clone, Copy)]
 pub enum Located {
     At { offset: usize, size: usize },
     WrongSize,
@@ -10,7 +10,7 @@ pub enum Located {
 }
 
 // What the second call of log message answers: whether the first one gives a message, or why not.
-#[derive(Drop)]
+#[derive(Clone, Copy)]
 pub enum Lookup {
     Found,
     WrongSize,
@@ -19,7 +19,7 @@ pub enum Lookup {
 }
 
 // A tag's value, or why there is none.
-#[derive(Drop)]
+#[derive(Clone, Copy)]
 pub enum Reading {
     Value(i32),
     WrongSize,

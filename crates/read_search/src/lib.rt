@@ -5,7 +5,7 @@ use buffer_reads::get_u16;
 use layout::LENGTH_AT;
 
 // What starts at an offset: a message of the log, of some size, or none.
-#[derive(Drop)]
+#[derive(Clone, Copy)]
 pub enum Found {
     Message(usize),
     Nothing,

@@ -7,7 +7,7 @@ use crate::entry::sequence_at;
 use message_sequence::{Sequence, equal, less};
 
 // The place of a sequence's message, or the place between lower and higher ones where it would stand.
-#[derive(Drop)]
+#[derive(Clone, Copy)]
 pub enum Place {
     Present(usize),
     Absent(usize),

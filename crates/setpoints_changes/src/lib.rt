@@ -11,7 +11,7 @@ use setpoints_arithmetic::integers::of_word;
 use setpoints_arithmetic::operations::operate;
 
 // A command's tag, and the tag's value before and after it.
-#[derive(Drop)]
+#[derive(Clone, Copy)]
 pub struct Change {
     pub tag: u8,
     pub before: i32,

@@ -2,7 +2,7 @@
 ghost use Rattle.std.specs.Prelude.{◌≡◌, ◌<◌};
 ghost use Rattle.step_pairs.specs.Kinds.{place_by, value_by};
 
-#[derive(Drop)]
+#[derive(Clone, Copy)]
 pub enum Kind {
     Undo,
     Execute,

@@ -1,7 +1,7 @@
 // What the reader and the writer of sequences answer.
 
 // How many bytes were written, or why nothing was.
-#[derive(Drop)]
+#[derive(Clone, Copy)]
 pub enum Conversion {
     Written(usize),
     WrongSize,

@@ -4,14 +4,14 @@ use borrow.Author.Tests.{le-leb, lt-leb, eq-eqb, ne_eqb}
 use Rattle.buffer_sizes.proofs.check_pieces.Statement.{statement}
 use Rattle.buffer_sizes.proofs.check_pieces.Tie as tie
 
-returns-2 : tie.Need-returns-2
-returns-2 c = simp (le-leb _ _ c.before.if1.false, lt-leb _ _ c.if2.true)
+returns-2 : tie.Need-returns-then-most-size
+returns-2 c = simp (le-leb _ _ c.if-size-piece.false, lt-leb _ _ c.if-most-size.true)
 
-returns-3 : tie.Need-returns-3
-returns-3 c = simp (le-leb _ _ c.before.before.if1.false, le-leb _ _ c.before.if2.false, ne_eqb _ _ c.if3.true)
+returns-3 : tie.Need-returns-then-size-piece-ne0
+returns-3 c = simp (le-leb _ _ c.if-size-piece.false, le-leb _ _ c.if-most-size.false, ne_eqb _ _ c.if-size-piece-ne0.true)
 
-returns-4 : tie.Need-returns-4
-returns-4 c = simp (le-leb _ _ c.before.before.if1.false, le-leb _ _ c.before.if2.false, eq-eqb _ _ c.if3.false)
+returns-4 : tie.Need-returns
+returns-4 c = simp (le-leb _ _ c.if-size-piece.false, le-leb _ _ c.if-most-size.false, eq-eqb _ _ c.if-size-piece-ne0.false)
 
 pub check_pieces_spec : {M : Type 1} → statement M
 check_pieces_spec = tie.close (tie.spec (λ c. simp (lt-leb _ _ c.if1.true)) returns-2 (λ c. search rules) returns-3 returns-4)

@@ -16,7 +16,7 @@ returns c =
     let a = b.before.before.before.before.before.before.before.args in
     let first = b.before.before.before.before.put_u16.ensures in
     b.put_u16-2.ensures ∙ ap (λ (l : List ℕ). paste l (a.at + 2) (bytes 2 a.v) 2) first
-    ∙ paste_halves a.s-1.now a.at 2 2 a.v (omega arith)
+    ∙ paste_halves a.s.now a.at 2 2 a.v (omega arith)
 
 pub put_u32_spec : {M : Type 1} → statement M
 put_u32_spec =

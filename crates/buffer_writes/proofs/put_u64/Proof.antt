@@ -17,8 +17,8 @@ returns c =
     let a = b.before.before.before.before.before.before.before.args in
     let first = b.before.before.before.before.put_u32.ensures in
     b.put_u32-2.ensures ∙ ap (λ (l : List ℕ). paste l (a.at + 4) (bytes 4 (a.v % 4294967296)) 4) first
-    ∙ ap (λ (l : List ℕ). paste (paste a.s-1.now a.at (bytes 4 (a.v / 4294967296)) 4) (a.at + 4) l 4) (bytes_low 4 0 a.v)
-    ∙ paste_halves a.s-1.now a.at 4 4 a.v (omega arith)
+    ∙ ap (λ (l : List ℕ). paste (paste a.s.now a.at (bytes 4 (a.v / 4294967296)) 4) (a.at + 4) l 4) (bytes_low 4 0 a.v)
+    ∙ paste_halves a.s.now a.at 4 4 a.v (omega arith)
 
 pub put_u64_spec : {M : Type 1} → statement M
 put_u64_spec =

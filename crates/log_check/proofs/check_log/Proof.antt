@@ -73,7 +73,7 @@ returns c =
     let l = (turn a).before in
     let s = entry l in
     not_ready (set_in s.args.pool.now s.args.starts.now) s.pre.0 s.args.places.now s.pre.2 s.args.rows.now s.args.counts.now s.pre.1.needs s.args.keys.now s.pre.1.keyed
-    l.loop.placed l.loop.ends l.loop.froms l.loop.k l.loop.inv (omega arith) (sym a.ready.ensures ∙ not-true a.ready.result c.if1.true)
+    l.loop.placed l.loop.ends l.loop.froms l.loop.k l.loop.inv (omega arith) (sym a.ready.ensures ∙ c.if1.true)
 
 slice-aggregate-ready-from : tie.Need-slice-aggregate-ready-from invariant-loop decreases-loop
 slice-aggregate-ready-from c = omega (arith, (turn (looked c)).before.loop.inv.ends_size)
@@ -90,7 +90,7 @@ slice-aggregate-above c = omega (arith, (turn (looked (begun c))).before.loop.in
 -- the delta is ready, and was so from a place on that is not behind its own
 yes : (c : tie.After-ends invariant-loop decreases-loop) → let l = (turn (looked c)).before in let s = entry l in
     ready_in s.args.rows.now s.args.counts.now l.loop.placed (get_or s.args.places.now l.loop.k 0) ≡ true
-yes c = let a = looked c in sym a.ready.ensures ∙ not-false a.ready.result c.before.if1.false
+yes c = let a = looked c in sym a.ready.ensures ∙ c.before.if1.false
 
 early : (c : tie.After-ready-from invariant-loop decreases-loop) → c.ready-from.result ≤ (turn (looked c.before)).before.loop.k
 early c =
@@ -130,7 +130,7 @@ returns-2 c =
     let l = (turn (looked e)).before in
     let s = entry l in
     not_above (set_in s.args.pool.now s.args.starts.now) s.pre.0 s.args.places.now s.pre.2 s.args.rows.now s.args.counts.now s.pre.1.needs s.args.keys.now s.pre.1.keyed
-    l.loop.placed l.loop.ends l.loop.froms l.loop.k l.loop.inv (room (turn (looked e))) (yes e) (compared a false (not-true a.above.result c.if2.true))
+    l.loop.placed l.loop.ends l.loop.froms l.loop.k l.loop.inv (room (turn (looked e))) (yes e) (compared a false (c.if2.true))
 
 -- where a turn ends: its beginning
 abbrev ends-turn : tie.Else2 invariant-loop decreases-loop → tie.At-loop invariant-loop decreases-loop
@@ -166,7 +166,7 @@ loop-again c =
     let i : ℕ = get_or s.args.places.now l.loop.k 0 in
     subst (λ (x : ℕ). Checking (set_in s.args.pool.now s.args.starts.now) s.args.keys.now s.args.places.now (set l.loop.placed i 1) (set l.loop.ends i (l.loop.k + 1)) (set l.loop.froms l.loop.k x) (l.loop.k + 1)) (sym (known a.before).ready-from.ensures)
     (checking_more (set_in s.args.pool.now s.args.starts.now) s.pre.0 s.args.places.now s.pre.2 s.args.rows.now s.args.counts.now s.pre.1.needs s.args.keys.now s.pre.1.keyed
-    l.loop.placed l.loop.ends l.loop.froms l.loop.k l.loop.inv (room (turn (looked e))) (yes e) (compared a true (not-false a.above.result c.if2.false)))
+    l.loop.placed l.loop.ends l.loop.froms l.loop.k l.loop.inv (room (turn (looked e))) (yes e) (compared a true (c.if2.false)))
 
 -- where all places were looked at
 abbrev done : tie.After-placed2 invariant-loop decreases-loop → tie.After-loop invariant-loop decreases-loop

@@ -44,10 +44,10 @@ loop-holds : tie.Need-loop-init invariant-loop decreases-loop
 loop-holds c = (search rules, refl)
 
 returns : tie.Need-returns invariant-loop decreases-loop
-returns c = let compared = c.before in sym (turn compared (not-true compared.less.result c.if1.true))
+returns c = let compared = c.before in sym (turn compared (c.if1.true))
 
 loop-again : tie.Need-loop-preserved invariant-loop decreases-loop
-loop-again c = (omega arith, turn c.before (not-false c.before.less.result c.if1.false))
+loop-again c = (omega arith, turn c.before (c.if1.false))
 
 returns-2 : tie.Need-returns-2 invariant-loop decreases-loop
 returns-2 c =

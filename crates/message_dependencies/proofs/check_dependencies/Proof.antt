@@ -40,7 +40,7 @@ by_own : (c : tie.After-depends-on) {t : Bool} {p : List ℕ} → c.depends-on.r
     → dependencies_right (bytes (ordered c)) ≡ not t && every (λ q. not (has q (dependencies_of (bytes (ordered c))))) p
 by_own c e before =
     let apart = c.before.before in
-    let ascends = sym apart.before.ascends.ensures ∙ not-false apart.before.ascends.result apart.if1.false in
+    let ascends = sym apart.before.ascends.ensures ∙ apart.if1.false in
     by_tests (bytes (ordered c)) ascends (own_is c e) before
 
 -- and it is not named: the predecessor decides
@@ -63,7 +63,7 @@ by_named c e = by_predecessor (asked c) (told c).before2.given.1 ∙ ap (λ (t :
 returns : tie.Need-returns
 returns c =
     let a = c.before in
-    sym (by_tests (bytes a) (sym a.ascends.ensures ∙ not-true a.ascends.result c.if1.true) refl refl)
+    sym (by_tests (bytes a) (sym a.ascends.ensures ∙ c.if1.true) refl refl)
 
 returns-2 : tie.Need-returns-2
 returns-2 c = sym (by_own c.before c.if2.true refl)

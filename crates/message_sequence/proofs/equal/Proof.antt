@@ -7,15 +7,15 @@ use Rattle.message_sequence.specs.Sequence.{sequence_number}
 use Rattle.message_sequence.proofs.equal.Statement.{statement}
 use Rattle.message_sequence.proofs.equal.Tie as tie
 
-abbrev start : tie.After-struct-known2 → tie.Start
+abbrev start : tie.After-struct_known-2-1 → tie.Start
 start c = c.before.before
 
-returns : tie.Need-returns
+returns : tie.Need-returns-then-a-b
 returns c =
     let a = (start c.before).args in
     sym (ne_eqb (sequence_number a.a) (sequence_number a.b) (λ e. omega arith))
 
-returns-2 : tie.Need-returns-2
+returns-2 : tie.Need-returns
 returns-2 c =
     let a = (start c.before.before.before).args in
     same_eqb a.a.low a.b.low (sequence_number a.a) (sequence_number a.b) (λ h. omega arith) (λ h. omega arith)

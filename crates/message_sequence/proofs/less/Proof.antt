@@ -8,21 +8,21 @@ use Rattle.message_sequence.proofs.less.Statement.{statement}
 use Rattle.message_sequence.proofs.less.Tie as tie
 
 -- the call, from the first test and from the second
-abbrev start : tie.After-struct-known2 → tie.Start
+abbrev start : tie.After-struct_known-2-1 → tie.Start
 start c = c.before.before
 
-abbrev start-of-second : tie.After-struct-known4 → tie.Start
+abbrev start-of-second : tie.After-struct_known-4-1 → tie.Start
 start-of-second c = start c.before.before.before
 
-returns : tie.Need-returns
+returns : tie.Need-returns-then-a-b
 returns c = let a = (start c.before).args in sym (lt-ltb (sequence_number a.a) (sequence_number a.b) (omega arith))
 
-returns-2 : tie.Need-returns-2
+returns-2 : tie.Need-returns-then-b-a
 returns-2 c =
     let a = (start-of-second c.before).args in
     sym (le-ltb (sequence_number a.a) (sequence_number a.b) (omega arith))
 
-returns-3 : tie.Need-returns-3
+returns-3 : tie.Need-returns
 returns-3 c =
     let level = c.before.before in
     let a = (start-of-second level.before).args in

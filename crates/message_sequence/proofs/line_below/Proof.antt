@@ -20,18 +20,18 @@ two_lines x y e =
     let other : line_of x ≡ line_of y → ⊥ = eqb-false (line_of x) (line_of y) e in
     same_ltb (line_of x) (line_of y) x y (λ h. omega arith) (λ h. omega arith)
 
-returns : tie.Need-returns
+returns : tie.Need-returns-then-not-same_line
 returns c =
     let other = c.before in
     let same = other.before in
     let a = same.before.args in
-    c.less.ensures ∙ sym (two_lines (sequence_number a.a) (sequence_number a.b) (sym same.same_line.ensures ∙ not-true same.same_line.result other.if1.true))
+    c.less.ensures ∙ sym (two_lines (sequence_number a.a) (sequence_number a.b) (sym same.same_line.ensures ∙ other.if-not-same_line.true))
 
-returns-2 : tie.Need-returns-2
+returns-2 : tie.Need-returns
 returns-2 c =
     let same = c.before in
     let a = same.before.args in
-    sym (one_line (sequence_number a.a) (sequence_number a.b) (sym same.same_line.ensures ∙ not-false same.same_line.result c.if1.false))
+    sym (one_line (sequence_number a.a) (sequence_number a.b) (sym same.same_line.ensures ∙ c.if-not-same_line.false))
 
 pub line_below_spec : {M : Type 1} → statement M
 line_below_spec = tie.close (tie.spec (λ c κs. search rules) (λ c κs. search rules) returns returns-2)

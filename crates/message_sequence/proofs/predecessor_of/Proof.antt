@@ -11,15 +11,15 @@ use borrow.Author.Rules.{rules}
 use Rattle.message_sequence.proofs.predecessor_of.Statement.{statement}
 use Rattle.message_sequence.proofs.predecessor_of.Tie as tie
 
-abbrev start : tie.After-number-of → tie.Start
+abbrev start : tie.After-number_of → tie.Start
 start c = c.before
 
-returns : tie.Need-returns
+returns : tie.Need-returns-then-number_of-le1
 returns c =
     let s = sequence_number (start c.before).args.s in
     sym (ap (λ (t : Bool). cond t ((s - 1) ∷ []) []) (le-ltb 1 (number_of s) (omega arith)))
 
-returns-2 : tie.Need-returns-2
+returns-2 : tie.Need-returns
 returns-2 c =
     let a = (start c.before.before).args in
     let s = sequence_number a.s in

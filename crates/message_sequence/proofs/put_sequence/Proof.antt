@@ -16,8 +16,8 @@ returns c =
     let high = low.before.before.before.before in
     let start = high.before.before.before in
     let a = start.args in
-    low.put-u32.ensures ∙ ap (λ (b : List ℕ). paste b (a.at + 8) (bytes 4 a.s.low) 4) high.put-u64.ensures
-    ∙ sequence_written a.b.now a.at a.s start.requires (omega (arith, start.well-formed))
+    low.put_u32.ensures ∙ ap (λ (b : List ℕ). paste b (a.at + 8) (bytes 4 a.s.low) 4) high.put_u64.ensures
+    ∙ sequence_written a.b.now a.at a.s start.requires (omega (arith, start.well_formed))
 
 pub put_sequence_spec : {M : Type 1} → statement M
 put_sequence_spec = tie.close (tie.spec (λ c κs. search rules) (λ c. search rules) (λ c κs. search rules) (λ c. search rules) returns)

@@ -44,7 +44,7 @@ returns c =
     let y = line_of (sequence_number a.s) in
     record {
       passes = (turn c.before).loop.inv;
-      here = λ h. omega (arith, ap line_of (top_read c.before), ltb-false x y (sym c.before.line-below.ensures ∙ not-true c.before.line-below.result c.if1.true));
+      here = λ h. omega (arith, ap line_of (top_read c.before), ltb-false x y (sym c.before.line-below.ensures ∙ c.if1.true));
     }
 
 loop-again : tie.Need-loop-preserved invariant-loop decreases-loop
@@ -55,7 +55,7 @@ loop-again c =
     let y = line_of (sequence_number a.s) in
     passes_more (sequence_number a.s) (tops_in a.tops.now a.count) t.loop.p t.loop.inv
     (omega (arith, tops_length a.tops.now a.count))
-    (omega (arith, ap line_of (top_read c.before), ltb-true x y (sym c.before.line-below.ensures ∙ not-false c.before.line-below.result c.if1.false)))
+    (omega (arith, ap line_of (top_read c.before), ltb-true x y (sym c.before.line-below.ensures ∙ c.if1.false)))
 
 returns-2 : tie.Need-returns-2 invariant-loop decreases-loop
 returns-2 c =

@@ -30,7 +30,7 @@ by_answers : (c : tie.After-are-digits) {a b : Bool} → c.are-digits.result ≡
 by_answers c e f = part_is (text c) (began c).args.at (omega arith) ∙ ap₂ ◌&&◌ (sym c.are-digits.ensures ∙ e) f
 
 digits_right : (c : tie.Else1) → c.before.are-digits.result ≡ true
-digits_right c = not-false c.before.are-digits.result c.if1.false
+digits_right c = c.if1.false
 
 -- where more of the text stands behind the characters
 abbrev digits : tie.Else2 → tie.After-are-digits
@@ -42,7 +42,7 @@ behind_is c =
     comma_there (text d) (began d).args.at (omega arith) (omega (arith, c.if2.false))
 
 returns : tie.Need-returns
-returns c = sym (by_answers c.before {b = eqb (behind c.before) comma} (not-true c.before.are-digits.result c.if1.true) refl)
+returns c = sym (by_answers c.before {b = eqb (behind c.before) comma} (c.if1.true) refl)
 
 returns-2 : tie.Need-returns-2
 returns-2 c =

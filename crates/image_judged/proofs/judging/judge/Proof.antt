@@ -122,7 +122,7 @@ returns-2 : tie.Need-returns-2
 returns-2 c =
     let a = c.before in
     let l = listed (known (written a)) in
-    refused (start l).args.b.now _ l.list.result l.list.ensures.unjudged (compared a _ (not-true a.equals-copy.result c.if1.true))
+    refused (start l).args.b.now _ l.list.result l.list.ensures.unjudged (compared a _ (c.if1.true))
 
 same-length-2 : tie.Need-same-length-2
 same-length-2 c = (written c.before.before).rewrite.auto.0
@@ -134,7 +134,7 @@ returns-3 c =
     let e = known w in
     let l = listed e in
     let b = (start l).args.b.now in
-    let equal = not-false a.equals-copy.result c.before.if1.false in (
+    let equal = c.before.if1.false in (
       record {
         image = subst T (sym (compared a _ equal)) tt;
         table = (start l).pre.2;

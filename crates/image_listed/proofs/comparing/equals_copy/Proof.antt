@@ -62,7 +62,7 @@ whole c t e =
     parted a.used a.copy.now a.b.now ∙ ap (λ (x : Bool). x && same (drop a.used a.copy.now) (drop a.used a.b.now)) (sym c.same.ensures ∙ e)
 
 returns : tie.Need-returns invariant-loop decreases-loop
-returns c = sym (whole c.before false (not-true c.before.same.result c.if1.true))
+returns c = sym (whole c.before false (c.if1.true))
 
 loop-holds : tie.Need-loop-init invariant-loop decreases-loop
 loop-holds c =
@@ -82,7 +82,7 @@ returns-2 c =
     let a = (start compared).args in
     let past : length a.b.now ≤ l.i = omega arith in
     let none_left : length a.b.now - l.i ≡ 0 = omega arith in
-    sym (whole compared true (not-false compared.same.result c.before.before.if1.false) ∙ rw (none_left, drop_of_length-le a.b.now past, and-true l.zero) at l.invariant.1)
+    sym (whole compared true (c.before.before.if1.false) ∙ rw (none_left, drop_of_length-le a.b.now past, and-true l.zero) at l.invariant.1)
 
 pub equals_copy_spec : {M : Type 1} → statement M
 equals_copy_spec =

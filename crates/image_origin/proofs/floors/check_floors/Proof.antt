@@ -25,18 +25,18 @@ both_are : (n : tie.After-all-numbered) {t : Bool} → n.all-numbered.result ≡
     → (let b = (start (ascends n).before).args.b.now in ascending (map line_of (floors_in b)) && every numbered (floors_in b)) ≡ t
 both_are n e =
     let l = (ascends n).before in
-    ap₂ ◌&&◌ (lines_are l (not-false l.lines_ascend.result (ascends n).if1.false)) (sym n.all-numbered.ensures ∙ e)
+    ap₂ ◌&&◌ (lines_are l ((ascends n).if1.false)) (sym n.all-numbered.ensures ∙ e)
 
 returns : tie.Need-returns
 returns c =
     let l = c.before in
-    sym (ap (λ (t : Bool). t && every numbered (floors_in (start l).args.b.now)) (lines_are l (not-true l.lines_ascend.result c.if1.true)))
+    sym (ap (λ (t : Bool). t && every numbered (floors_in (start l).args.b.now)) (lines_are l (c.if1.true)))
 
 returns-2 : tie.Need-returns-2
-returns-2 c = sym (both_are c.before (not-true c.before.all-numbered.result c.if2.true))
+returns-2 c = sym (both_are c.before (c.if2.true))
 
 returns-3 : tie.Need-returns-3
-returns-3 c = sym (both_are c.before (not-false c.before.all-numbered.result c.if2.false))
+returns-3 c = sym (both_are c.before (c.if2.false))
 
 pub check_floors_spec : {M : Type 1} → statement M
 check_floors_spec = tie.close (tie.spec (λ c κs. search rules) returns (λ c κs. search rules) returns-2 returns-3)

@@ -72,10 +72,10 @@ floor-at-requires-2 : tie.Need-floor-at-requires-2 invariant-loop decreases-loop
 floor-at-requires-2 c κs = let s = start c.before.before in (counted_start s.pre, omega (arith, s.pre.is))
 
 returns : tie.Need-returns invariant-loop decreases-loop
-returns c = let compared = c.before in sym (turn compared (not-true compared.line-below.result c.if1.true))
+returns c = let compared = c.before in sym (turn compared (c.if1.true))
 
 loop-again : tie.Need-loop-preserved invariant-loop decreases-loop
-loop-again c = (omega arith, turn c.before (not-false c.before.line-below.result c.if1.false))
+loop-again c = (omega arith, turn c.before (c.if1.false))
 
 returns-2 : tie.Need-returns-2 invariant-loop decreases-loop
 returns-2 c =

@@ -65,10 +65,10 @@ get-u32-requires : tie.Need-get-u32-requires invariant-loop decreases-loop
 get-u32-requires c κs = let s = start c.before in omega (arith, start_least s.args.b.now, s.pre)
 
 returns : tie.Need-returns invariant-loop decreases-loop
-returns c = let d = c.before in sym (turn d (not-true d.in-range.result c.if1.true))
+returns c = let d = c.before in sym (turn d (c.if1.true))
 
 loop-again : tie.Need-loop-preserved invariant-loop decreases-loop
-loop-again c = (omega arith, turn c.before (not-false c.before.in-range.result c.if1.false))
+loop-again c = (omega arith, turn c.before (c.if1.false))
 
 returns-2 : tie.Need-returns-2 invariant-loop decreases-loop
 returns-2 c =

@@ -41,7 +41,7 @@ base_is_zero z e =
 block_is_zero : (k : tie.After-get-u32) {t : Bool} → eqb k.get-u32.result 0 ≡ t
     → (let b = bytes (based k) in every is_zero (base_in b) && eqb (field b purged_block_at 4) 0) ≡ t
 block_is_zero k e =
-    ap₂ ◌&&◌ (base_is_zero (based k) (not-false (based k).all-zero.result k.before.if1.false)) (ap (λ (n : ℕ). eqb n 0) (sym k.get-u32.ensures) ∙ e)
+    ap₂ ◌&&◌ (base_is_zero (based k) (k.before.if1.false)) (ap (λ (n : ℕ). eqb n 0) (sym k.get-u32.ensures) ∙ e)
 
 all_are_zero : (g : tie.After-get-u322) {t : Bool} → eqb g.get-u322.result 0 ≡ t → all_zero (origin_in (bytes (based (blocked g)))) ≡ t
 unfolding origin_in
@@ -54,7 +54,7 @@ unfolding origin_in
 returns c =
     let z = c.before in
     let b = bytes z in
-    sym (ap (λ (t : Bool). t && eqb (field b purged_block_at 4) 0 && eqb (field b purged_group_at 4) 0) (base_is_zero z (not-true z.all-zero.result c.if1.true)))
+    sym (ap (λ (t : Bool). t && eqb (field b purged_block_at 4) 0 && eqb (field b purged_group_at 4) 0) (base_is_zero z (c.if1.true)))
 
 get-u32-requires : tie.Need-get-u32-requires
 get-u32-requires c κs = let s = c.before.before.before.before in omega (arith, start_least s.args.b.now, s.requires)

@@ -46,7 +46,7 @@ loop-again c =
     let inv = l.loop.invariant in
     ⊎_elim
     (λ w.
-    let new = others_take i places (sym c.before.is_among.ensures ∙ not-true c.before.is_among.result w.0.taken) in (
+    let new = others_take i places (sym c.before.is_among.ensures ∙ w.0.taken) in (
       omega arith,
       (
         w.2 ∙ ap (λ (x : ℕ). x + 1) inv.1.0 ∙ sym (ap length new ∙ length-append (others_below i places) (i ∷ [])),
@@ -58,7 +58,7 @@ loop-again c =
       ),
     ))
     (λ w.
-    let old = others_skip i places (sym c.before.is_among.ensures ∙ not-false c.before.is_among.result w.0.left) in (
+    let old = others_skip i places (sym c.before.is_among.ensures ∙ w.0.left) in (
       omega arith,
       (
         w.2 ∙ inv.1.0 ∙ sym (ap length old),

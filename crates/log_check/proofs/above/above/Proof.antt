@@ -68,7 +68,7 @@ returns : tie.Need-returns invariant-loop decreases-loop
 returns c =
     let a = c.before in
     let l = turn a in
-    (l.loop.end - 1, omega arith, omega arith, subst (λ (t : _). T (not t)) (sym (not-true a.key-less.result c.if1.true) ∙ a.key-less.ensures) tt)
+    (l.loop.end - 1, omega arith, omega arith, subst (λ (t : _). T (not t)) (sym (c.if1.true) ∙ a.key-less.ensures) tt)
 
 shared-slice-read-end : tie.Need-shared-slice-read-end invariant-loop decreases-loop
 shared-slice-read-end c = let l = turn c.before.before in omega (arith, (entry l).pre.room)
@@ -97,7 +97,7 @@ loop-again c =
     let s = entry l in
     let q : ℕ = l.loop.end - 1 in
     let old : From s.args.keys.now s.args.places.now s.args.k (q + 1) = λ j u v. l.loop.inv.1 j (omega arith) v in
-    (omega (arith, s.pre.below q (omega arith)), more s.args.keys.now s.args.places.now s.args.froms.now s.args.k s.pre q (omega arith) old (subst T (sym (not-false a.key-less.result c.before.if1.false) ∙ a.key-less.ensures) tt))
+    (omega (arith, s.pre.below q (omega arith)), more s.args.keys.now s.args.places.now s.args.froms.now s.args.k s.pre q (omega arith) old (subst T (sym (c.before.if1.false) ∙ a.key-less.ensures) tt))
 
 returns-2 : tie.Need-returns-2 invariant-loop decreases-loop
 returns-2 c = λ q h r. c.before.loop.invariant.1 q (omega arith) r

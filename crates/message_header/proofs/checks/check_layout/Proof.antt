@@ -9,28 +9,28 @@ use borrow.Author.Rules.{rules}
 use Rattle.message_header.proofs.checks.check_layout.Statement.{statement}
 use Rattle.message_header.proofs.checks.check_layout.Tie as tie
 
-abbrev known : tie.After-check-counts → tie.After-shared-slice-known
+abbrev known : tie.After-check_counts-counts → tie.After-shared_slice_known-1
 known c = c.before.before
 
-abbrev bytes : tie.After-check-counts → Message
-bytes c = (known c).before.args.m.now
+abbrev bytes : tie.After-check_counts-counts → Message
+bytes c = (known c).args.m.now
 
 -- the whole test by what was answered of the counts
-by_counts : (c : tie.After-check-counts) {t : Bool} → right c.check-counts.result ≡ t → layout_right (bytes c) ≡ t && offsets_right (bytes c)
+by_counts : (c : tie.After-check_counts-counts) {t : Bool} → right c.check_counts-counts.result ≡ t → layout_right (bytes c) ≡ t && offsets_right (bytes c)
 by_counts c e =
-    layout_parts (bytes c) (all_bytes (bytes c) (λ i. ((known c).shared-slice-known.given i).fits))
-    ∙ ap (λ (t : Bool). t && offsets_right (bytes c)) (sym c.check-counts.ensures ∙ e)
+    layout_parts (bytes c) (all_bytes (bytes c) (λ i. ((known c).shared_slice_known-1.given i).fits))
+    ∙ ap (λ (t : Bool). t && offsets_right (bytes c)) (sym c.check_counts-counts.ensures ∙ e)
 
-returns : tie.Need-returns
-returns c = sym (short_wrong _ c.if1.true)
+returns : tie.Need-returns-then-m-lt-HEADER_SIZE
+returns c = sym (short_wrong _ c.if-m-lt-HEADER_SIZE.true)
 
-returns-2 : tie.Need-returns-2
-returns-2 c = sym (by_counts c.before.before (ap right c.enum-told2.given.1))
+returns-2 : tie.Need-returns-in_default
+returns-2 c = sym (by_counts c.before (ap right c.in_default.is))
 
-returns-3 : tie.Need-returns-3
+returns-3 : tie.Need-returns
 returns-3 c =
     let told = c.before in
-    c.check-offsets.ensures ∙ sym (by_counts told.before.before (ap right told.enum_told.given.1))
+    c.check_offsets.ensures ∙ sym (by_counts told.before (ap right told.in-Right.is))
 
 pub check_layout_spec : {M : Type 1} → statement M
 check_layout_spec =

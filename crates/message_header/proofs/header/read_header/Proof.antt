@@ -10,15 +10,15 @@ use Rattle.message_header.proofs.header.read_header.Statement.{statement}
 use Rattle.message_header.proofs.header.read_header.Tie as tie
 
 -- the sequence read is that of its number
-own_is : (c : tie.After-read-sequence) → c.read-sequence.result ≡ sequence_from (sequence_of c.before.before.before.args.m.now)
-own_is c = from_number c.read-sequence.result _ (omega arith) c.read-sequence.ensures
+own_is : (c : tie.After-read_sequence-sequence) → c.read_sequence-sequence.result ≡ sequence_from (sequence_of c.args.m.now)
+own_is c = from_number c.read_sequence-sequence.result _ (omega arith) c.read_sequence-sequence.ensures
 
 returns : tie.Need-returns
 returns c =
     let dependencies = c.before in
     let group = dependencies.before in
     let sequence = group.before in
-    header_is _ (own_is sequence) group.get-u32.ensures dependencies.byte.ensures.0 c.byte2.ensures.0 sequence.before.read-priority.ensures
+    header_is _ (own_is sequence) group.get_u32-group.ensures dependencies.byte-dependencies.ensures.0 c.byte-commands.ensures.0 sequence.read_priority-priority.ensures
 
 pub read_header_spec : {M : Type 1} → statement M
 read_header_spec =

@@ -13,21 +13,21 @@ use Rattle.message_header.proofs.header.read_priority.Statement.{statement}
 use Rattle.message_header.proofs.header.read_priority.Tie as tie
 
 abbrev bytes : tie.After-byte → Message
-bytes c = c.before.before.args.m.now
+bytes c = c.args.m.now
 
 by_flag : (m : Message) {t : Bool} → has_priority m ≡ t → priority_in m ≡ cond t (Given (block_of m) (priority_of m)) Absent
 by_flag m e = ap (λ (t : Bool). cond t (Given (block_of m) (priority_of m)) Absent) e
 
-returns : tie.Need-returns
+returns : tie.Need-returns-then-byte-ne1
 returns c =
     let m = bytes c.before in
     sym (by_flag m (ne_eqb (field m priority_flag_at 1) 1 (λ e. omega arith)))
 
-returns-2 : tie.Need-returns-2
+returns-2 : tie.Need-returns
 returns-2 c =
     let block = c.before in
     let m = bytes block.before.before in
-    ap₂ Given block.get-u32.ensures c.get-u322.ensures ∙ sym (by_flag m (eq-eqb (field m priority_flag_at 1) 1 (omega arith)))
+    ap₂ Given block.get_u32-block.ensures c.get_u32-priority.ensures ∙ sym (by_flag m (eq-eqb (field m priority_flag_at 1) 1 (omega arith)))
 
 pub read_priority_spec : {M : Type 1} → statement M
 read_priority_spec =

@@ -66,7 +66,7 @@ loop-less c =
     let a = passed c in
     let i = turn a.before in
     let s = entry i.before in
-    fewer (length s.args.starts.now) i.before.loop.count a.pass.result i.before.loop.settled (not-true i.before.loop.settled i.loop-test.taken) a.pass.ensures.grows
+    fewer (length s.args.starts.now) i.before.loop.count a.pass.result i.before.loop.settled (i.loop-test.taken) a.pass.ensures.grows
     (omega (arith, a.pass.ensures.closing.few, length-map s.args.starts.now (message_from s.args.pool.now)))
 
 loop-again : tie.Need-loop-preserved invariant-loop decreases-loop
@@ -79,7 +79,7 @@ same-length-2 : tie.Need-same-length-2 invariant-loop decreases-loop
 same-length-2 c = let l = c.before in omega (arith, l.loop.invariant.0.size, (entry l).requires.1)
 
 returns : tie.Need-returns invariant-loop decreases-loop
-returns c = let l = c.before in record { placed = l.loop.placed; closing = l.loop.invariant.0; idle = l.loop.invariant.1 (not-false l.loop.settled c.loop-test.false) }
+returns c = let l = c.before in record { placed = l.loop.placed; closing = l.loop.invariant.0; idle = l.loop.invariant.1 (c.loop-test.false) }
 
 pub close_spec : {M : Type 1} → statement M
 close_spec =

@@ -34,7 +34,7 @@ returns : tie.Need-returns
 returns c =
     let s = start c.before.before in
     tried_idle (set_in s.args.pool.now s.args.starts.now) s.pre.0 s.args.placed.now s.args.blocks.now s.args.order.now s.args.count s.pre.2 s.args.rows.now s.args.counts.now s.args.i
-    (sym c.before.ready.ensures ∙ not-true c.before.ready.result c.if1.true)
+    (sym c.before.ready.ensures ∙ c.if1.true)
 
 greatest-along-requires : tie.Need-greatest-along-requires
 greatest-along-requires c κs = let s = start c.before.before.before.before in (row s, s.pre.2.effective.size)
@@ -46,7 +46,7 @@ placed : (c : tie.After-greatest-along) → let s = start (looked c).before in
 placed c =
     let s = start (looked c).before in
     tried_more (set_in s.args.pool.now s.args.starts.now) s.pre.0 s.args.placed.now s.args.blocks.now s.args.order.now s.args.count s.pre.2 s.args.rows.now s.args.counts.now s.args.i
-    s.pre.1 (inside s) (sym (looked c).ready.ensures ∙ not-false (looked c).ready.result c.before.before.before.if1.false) c.greatest-along.result
+    s.pre.1 (inside s) (sym (looked c).ready.ensures ∙ c.before.before.before.if1.false) c.greatest-along.result
     (c.greatest-along.ensures ∙ ap (greatest_along s.args.rows.now s.args.counts.now s.args.blocks.now s.args.i) c.before.own_Block.ensures)
 
 slice-write-placed : tie.Need-slice-write-placed
