@@ -4,4 +4,4 @@ use Rattle.buffer_sizes.proofs.check_at_least.Statement.{statement}
 use Rattle.buffer_sizes.proofs.check_at_least.Tie as tie
 
 pub check_at_least_spec : {M : Type 1} → statement M
-check_at_least_spec = tie.close (tie.spec (λ c. simp (lt-ltb _ _ c.if1.true)) (λ c. simp (le-ltb _ _ c.if1.false)))
+check_at_least_spec = tie.close (tie.spec (λ c. simp (lt-ltb _ _ c.if-size-least.true)) (λ c. simp (le-ltb _ _ c.if-size-least.false)))

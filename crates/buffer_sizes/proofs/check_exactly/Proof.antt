@@ -4,4 +4,4 @@ use Rattle.buffer_sizes.proofs.check_exactly.Statement.{statement}
 use Rattle.buffer_sizes.proofs.check_exactly.Tie as tie
 
 pub check_exactly_spec : {M : Type 1} → statement M
-check_exactly_spec = tie.close (tie.spec (λ c. simp (ne_eqb _ _ c.if1.true)) (λ c. simp (eq-eqb _ _ c.if1.false)))
+check_exactly_spec = tie.close (tie.spec (λ c. simp (ne_eqb _ _ c.if-size-exact.true)) (λ c. simp (eq-eqb _ _ c.if-size-exact.false)))

@@ -14,4 +14,4 @@ returns-4 : tie.Need-returns
 returns-4 c = simp (le-leb _ _ c.if-size-piece.false, le-leb _ _ c.if-most-size.false, eq-eqb _ _ c.if-size-piece-ne0.false)
 
 pub check_pieces_spec : {M : Type 1} → statement M
-check_pieces_spec = tie.close (tie.spec (λ c. simp (lt-leb _ _ c.if1.true)) returns-2 (λ c. search rules) returns-3 returns-4)
+check_pieces_spec = tie.close (tie.spec (λ c. simp (lt-leb _ _ c.if-size-piece.true)) returns-2 (λ c. search rules) returns-3 returns-4)

@@ -26,43 +26,43 @@ one_more b k h =
     every_step command_right (commands b) k [] (omega (arith, length_parts (length b / command_size) command_size b))
     ∙ ap (λ (p : List ℕ). command_right p && every command_right (drop (k + 1) (commands b))) (parts_at (length b / command_size) command_size b k h)
 
-abbrev invariant-loop : tie.invariant-loop
+abbrev invariant-loop : tie.invariant-loop-k
 invariant-loop c count k₀ k = (k ≤ count) × (commands_right c ≡ every command_right (drop k (commands c)))
 
-abbrev decreases-loop : tie.decreases-loop
+abbrev decreases-loop : tie.decreases-loop-k
 decreases-loop c count k₀ k = count - k
 
 abbrev Loop : Type 0
-Loop = tie.At-loop invariant-loop decreases-loop
+Loop = tie.At-loop-k invariant-loop decreases-loop
 
 abbrev bytes : Loop → List ℕ
-bytes l = l.before.before.before.args.c.now
+bytes l = l.args.c.now
 
-abbrev loop : tie.After-check-command invariant-loop decreases-loop → Loop
+abbrev loop : tie.After-check_command-checked invariant-loop decreases-loop → Loop
 loop c = c.before.before
 
 -- one command, and those after it
-turn : (c : tie.After-check-command invariant-loop decreases-loop) {t : Bool} → right c.check-command.result ≡ t
-    → commands_right (bytes (loop c)) ≡ t && every command_right (drop ((loop c).loop.k + 1) (commands (bytes (loop c))))
+turn : (c : tie.After-check_command-checked invariant-loop decreases-loop) {t : Bool} → right c.check_command-checked.result ≡ t
+    → commands_right (bytes (loop c)) ≡ t && every command_right (drop ((loop c).loop-k.k + 1) (commands (bytes (loop c))))
 turn c e =
     let l = loop c in
-    l.loop.inv.1 ∙ one_more (bytes l) l.loop.k (omega arith)
-    ∙ ap (λ (t : Bool). t && every command_right (drop (l.loop.k + 1) (commands (bytes l)))) (sym c.check-command.ensures ∙ e)
+    l.loop-k.invariant.1 ∙ one_more (bytes l) l.loop-k.k (omega arith)
+    ∙ ap (λ (t : Bool). t && every command_right (drop (l.loop-k.k + 1) (commands (bytes l)))) (sym c.check_command-checked.ensures ∙ e)
 
-loop-holds : tie.Need-loop-init invariant-loop decreases-loop
+loop-holds : tie.Need-loop-k-init invariant-loop decreases-loop
 loop-holds c = (search rules, refl)
 
-returns : tie.Need-returns invariant-loop decreases-loop
-returns c = sym (turn c.before.before (ap right c.enum-told2.given.1))
+returns : tie.Need-returns-in_default invariant-loop decreases-loop
+returns c = sym (turn c.before (ap right c.in_default.is))
 
-loop-again : tie.Need-loop-preserved invariant-loop decreases-loop
-loop-again c = (omega arith, turn c.before.before (ap right c.enum_told.given.1))
+loop-again : tie.Need-loop-k-preserved invariant-loop decreases-loop
+loop-again c = (omega arith, turn c.before (ap right c.in-Right.is))
 
-returns-2 : tie.Need-returns-2 invariant-loop decreases-loop
+returns-2 : tie.Need-returns invariant-loop decreases-loop
 returns-2 c =
     let l = c.before in
     let b = bytes l in
-    sym (l.loop.invariant.1 ∙ every_end command_right (commands b) l.loop.k (omega (arith, length_parts (length b / command_size) command_size b)))
+    sym (l.loop-k.invariant.1 ∙ every_end command_right (commands b) l.loop-k.k (omega (arith, length_parts (length b / command_size) command_size b)))
 
 pub check_commands_spec : {M : Type 1} → statement M
 check_commands_spec =

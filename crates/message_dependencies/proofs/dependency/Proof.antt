@@ -7,7 +7,7 @@ use Rattle.message_dependencies.proofs.dependency.Statement.{statement}
 use Rattle.message_dependencies.proofs.dependency.Tie as tie
 
 returns : tie.Need-returns
-returns c = let a = c.before.before.args in c.read-sequence.ensures ∙ sym (dependency_at a.m.now a.k (omega arith))
+returns c = let a = c.args in c.read_sequence.ensures ∙ sym (dependency_at a.m.now a.k (omega arith))
 
 pub dependency_spec : {M : Type 1} → statement M
 dependency_spec =

@@ -14,14 +14,14 @@ use borrow.Author.Rules.{rules}
 use Rattle.message_dependencies.proofs.depends_on.Statement.{statement}
 use Rattle.message_dependencies.proofs.depends_on.Tie as tie
 
-abbrev invariant-loop : tie.invariant-loop
+abbrev invariant-loop : tie.invariant-loop-k
 invariant-loop m s count k₀ k = (k ≤ count) × (has (sequence_number s) (dependencies_of m) ≡ has (sequence_number s) (drop k (dependencies_of m)))
 
-abbrev decreases-loop : tie.decreases-loop
+abbrev decreases-loop : tie.decreases-loop-k
 decreases-loop m s count k₀ k = count - k
 
 abbrev Loop : Type 0
-Loop = tie.At-loop invariant-loop decreases-loop
+Loop = tie.At-loop-k invariant-loop decreases-loop
 
 abbrev start : Loop → tie.Start invariant-loop decreases-loop
 start l = l.before.before.before
@@ -37,27 +37,27 @@ loop c = c.before.before.before
 
 -- one dependency, and those after it
 turn : (c : tie.After-equal invariant-loop decreases-loop) {t : Bool} → c.equal.result ≡ t
-    → has (sought (loop c)) (dependencies_of (bytes (loop c))) ≡ t || has (sought (loop c)) (drop ((loop c).loop.k + 1) (dependencies_of (bytes (loop c))))
+    → has (sought (loop c)) (dependencies_of (bytes (loop c))) ≡ t || has (sought (loop c)) (drop ((loop c).loop-k.k + 1) (dependencies_of (bytes (loop c))))
 turn c e =
     let l = loop c in
-    let k = l.loop.k in
+    let k = l.loop-k.k in
     let named = dependencies_of (bytes l) in
-    l.loop.inv.1 ∙ has_step (sought l) named k (omega (arith, length_dependencies (bytes l)))
-    ∙ ap (λ (t : Bool). t || has (sought l) (drop (k + 1) named)) (ap (eqb (sought l)) (sym c.before.dependency.ensures) ∙ sym c.equal.ensures ∙ e)
+    l.loop-k.invariant.1 ∙ has_step (sought l) named k (omega (arith, length_dependencies (bytes l)))
+    ∙ ap (λ (t : Bool). t || has (sought l) (drop (k + 1) named)) (ap (eqb (sought l)) (sym c.dependency.ensures) ∙ sym c.equal.ensures ∙ e)
 
-loop-holds : tie.Need-loop-init invariant-loop decreases-loop
+loop-holds : tie.Need-loop-k-init invariant-loop decreases-loop
 loop-holds c = (search rules, refl)
 
-returns : tie.Need-returns invariant-loop decreases-loop
-returns c = sym (turn c.before c.if1.true)
+returns : tie.Need-returns-then-equal invariant-loop decreases-loop
+returns c = sym (turn c.before c.if-equal.true)
 
-loop-again : tie.Need-loop-preserved invariant-loop decreases-loop
-loop-again c = (omega arith, turn c.before c.if1.false)
+loop-again : tie.Need-loop-k-preserved invariant-loop decreases-loop
+loop-again c = (omega arith, turn c.before c.if-equal.false)
 
-returns-2 : tie.Need-returns-2 invariant-loop decreases-loop
+returns-2 : tie.Need-returns invariant-loop decreases-loop
 returns-2 c =
     let l = c.before in
-    sym (l.loop.invariant.1 ∙ has_end (sought l) (dependencies_of (bytes l)) l.loop.k (omega (arith, length_dependencies (bytes l))))
+    sym (l.loop-k.invariant.1 ∙ has_end (sought l) (dependencies_of (bytes l)) l.loop-k.k (omega (arith, length_dependencies (bytes l))))
 
 pub depends_on_spec : {M : Type 1} → statement M
 depends_on_spec =

@@ -14,40 +14,40 @@ use Rattle.set_floors.proofs.is_purged.Statement.{statement}
 use Rattle.set_floors.proofs.is_purged.Tie as tie
 
 -- the call as it began, from where the floor was found
-abbrev start : tie.After-first-floor → tie.Start
+abbrev start : tie.After-first_floor-p → tie.Start
 start c = c.before.before.before
 
-count-floors-requires : tie.Need-count-floors-requires
+count-floors-requires : tie.Need-count_floors-count-requires
 count-floors-requires c κs = let s = c.before in count_room s.args.pool.now s.requires
 
 -- the count is the floors', and the place is one of theirs where it is another number
-counted : (c : tie.After-first-floor) → c.before.count_floors.result ≡ length (floors_in (start c).args.pool.now)
-counted c = c.before.count_floors.ensures.0 ∙ sym (floors_length (start c).args.pool.now)
+counted : (c : tie.After-first_floor-p) → c.count_floors-count.result ≡ length (floors_in (start c).args.pool.now)
+counted c = c.count_floors-count.ensures.0 ∙ sym (floors_length (start c).args.pool.now)
 
-inside : (c : tie.Else1) → c.before.first-floor.result < length (floors_in (start c.before).args.pool.now)
-inside c = omega (arith, counted c.before, c.before.first-floor.ensures.inside, c.if1.false)
+inside : (c : tie.Else-p-count) → c.first_floor-p.result < length (floors_in (start c.before).args.pool.now)
+inside c = omega (arith, counted c.before, c.first_floor-p.ensures.inside, c.if-p-count.false)
 
-floor-at-requires : tie.Need-floor-at-requires
+floor-at-requires : tie.Need-floor_at-floor-requires
 floor-at-requires c κs =
     let s = start c.before in
-    (room_of s.args.pool.now s.pre, omega (arith, inside c, floors_length s.args.pool.now))
+    (room_of s.args.pool.now s.requires, omega (arith, inside c, floors_length s.args.pool.now))
 
-returns : tie.Need-returns
+returns : tie.Need-returns-then-p-count
 unfolding origin_in
 returns c =
     let f = c.before in
     let a = (start f).args in
-    sym (covered_by_none (floors_in a.pool.now) (floors_sorted a.pool.now (start f).requires) (sequence_number a.s) f.first-floor.result f.first-floor.ensures
-    (omega (arith, counted f, c.if1.true)))
+    sym (covered_by_none (floors_in a.pool.now) (floors_sorted a.pool.now (start f).requires) (sequence_number a.s) f.first_floor-p.result f.first_floor-p.ensures
+    (omega (arith, counted f, c.if-p-count.true)))
 
-returns-2 : tie.Need-returns-2
+returns-2 : tie.Need-returns
 unfolding origin_in
 returns-2 c =
     let e = c.before.before in
     let f = e.before in
     let a = (start f).args in
-    c.same_line.ensures ∙ ap (λ (x : ℕ). eqb (line_of x) (line_of (sequence_number a.s))) c.before.floor-at.ensures
-    ∙ sym (covered_by (floors_in a.pool.now) (floors_sorted a.pool.now (start f).requires) (sequence_number a.s) f.first-floor.result f.first-floor.ensures (inside e))
+    c.same_line.ensures ∙ ap (λ (x : ℕ). eqb (line_of x) (line_of (sequence_number a.s))) c.floor_at-floor.ensures
+    ∙ sym (covered_by (floors_in a.pool.now) (floors_sorted a.pool.now (start f).requires) (sequence_number a.s) f.first_floor-p.result f.first_floor-p.ensures (inside e))
 
 pub is_purged_spec : {M : Type 1} → statement M
 is_purged_spec =

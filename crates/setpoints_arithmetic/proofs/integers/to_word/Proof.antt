@@ -13,38 +13,38 @@ use Rattle.setpoints_arithmetic.proofs.integers.to_word.Statement.{statement}
 use Rattle.setpoints_arithmetic.proofs.integers.to_word.Tie as tie
 
 -- the test, of the integer itself
-negative : (c : tie.Then1) → lt_z c.before.args.v (pos 0) ≡ true
-negative c = rw (to_z-of_z c.before.ranges.v) at c.if1.true
+negative : (c : tie.Then-v-lt0) → lt_z c.args.v (pos 0) ≡ true
+negative c = rw (to_z-of_z c.ranges.v) at c.if-v-lt0.true
 
-natural : (c : tie.Else1) → c.before.args.v ≡ pos (mag c.before.args.v)
-natural c = not_negative c.before.args.v (rw (to_z-of_z c.before.ranges.v) at c.if1.false)
+natural : (c : tie.Else-v-lt0) → c.args.v ≡ pos (mag c.args.v)
+natural c = not_negative c.args.v (rw (to_z-of_z c.ranges.v) at c.if-v-lt0.false)
 
 -- what `below` is before its cast
-fits : (c : tie.Then1) → SFits w32 (pos (mag c.before.args.v))
-fits c = record { sfits = c.before.ranges.v.sfits }
+fits : (c : tie.Then-v-lt0) → SFits w32 (pos (mag c.args.v))
+fits c = record { sfits = c.ranges.v.sfits }
 
-flipped : (c : tie.Then1) → to_z w32 (of_z w32 (negsuc 0 -ℤ to_z w32 (of_z w32 c.before.args.v))) ≡ pos (mag c.before.args.v)
+flipped : (c : tie.Then-v-lt0) → to_z w32 (of_z w32 (negsuc 0 -ℤ to_z w32 (of_z w32 c.args.v))) ≡ pos (mag c.args.v)
 flipped c =
-    ap (λ (z : ℤ). to_z w32 (of_z w32 (negsuc 0 -ℤ z))) (to_z-of_z c.before.ranges.v)
-    ∙ ap (λ (z : ℤ). to_z w32 (of_z w32 z)) (flip_negative c.before.args.v (negative c)) ∙ to_z-of_z (fits c)
+    ap (λ (z : ℤ). to_z w32 (of_z w32 (negsuc 0 -ℤ z))) (to_z-of_z c.ranges.v)
+    ∙ ap (λ (z : ℤ). to_z w32 (of_z w32 z)) (flip_negative c.args.v (negative c)) ∙ to_z-of_z (fits c)
 
-sub-below : tie.Need-overflow-sub-below
-sub-below c = rw (to_z-of_z c.before.ranges.v, flip_negative c.before.args.v (negative c)) (fits c)
+sub-below : tie.Need-overflow_sub-below
+sub-below c = rw (to_z-of_z c.ranges.v, flip_negative c.args.v (negative c)) (fits c)
 
-cast-below : tie.Need-overflow-cast-below
-cast-below c = rw (flipped c) (tt, omega (arith, c.before.ranges.v.sfits))
+cast-below : tie.Need-overflow_cast-below
+cast-below c = rw (flipped c) (tt, omega (arith, c.ranges.v.sfits))
 
-sub-result : tie.Need-overflow-sub-result
-sub-result c = rw (flipped c) (omega (arith, c.before.ranges.v.sfits))
+sub-result : tie.Need-overflow_sub-result
+sub-result c = rw (flipped c) (omega (arith, c.ranges.v.sfits))
 
-returns : tie.Need-returns
-returns c = rw (flipped c) (word_negative c.before.args.v (negative c) c.before.ranges.v)
+returns : tie.Need-returns-then-v-lt0
+returns c = rw (flipped c) (word_negative c.args.v (negative c) c.ranges.v)
 
-cast-result : tie.Need-overflow-cast-result
-cast-result c = rw (to_z-of_z c.before.ranges.v, natural c) (tt, omega (arith, c.before.ranges.v.sfits))
+cast-result : tie.Need-overflow_cast-result
+cast-result c = rw (to_z-of_z c.ranges.v, natural c) (tt, omega (arith, c.ranges.v.sfits))
 
-returns-2 : tie.Need-returns-2
-returns-2 c = ap nat_abs (to_z-of_z c.before.ranges.v ∙ natural c) ∙ sym (ap word (natural c))
+returns-2 : tie.Need-returns
+returns-2 c = ap nat_abs (to_z-of_z c.ranges.v ∙ natural c) ∙ sym (ap word (natural c))
 
 pub to_word_spec : {M : Type 1} → statement M
 to_word_spec = tie.close (tie.spec sub-below cast-below sub-result returns cast-result returns-2)

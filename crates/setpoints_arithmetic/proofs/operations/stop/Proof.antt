@@ -10,42 +10,42 @@ use Rattle.setpoints_arithmetic.proofs.IntegerLaws.{wide, wide_back, between}
 use Rattle.setpoints_arithmetic.proofs.operations.stop.Statement.{statement}
 use Rattle.setpoints_arithmetic.proofs.operations.stop.Tie as tie
 
-abbrev start : tie.Else1 → tie.Start
+abbrev start : tie.Else-z-low → tie.Start
 start low = low.before
 
-is_low : (c : tie.Then1) → lt_z c.before.args.z c.before.args.low ≡ true
-is_low c = rw (to_z-of_z c.before.ranges.z, wide_back c.before.ranges.low) at c.if1.true
+is_low : (c : tie.Then-z-low) → lt_z c.args.z c.args.low ≡ true
+is_low c = rw (to_z-of_z c.ranges.z, wide_back c.ranges.low) at c.if-z-low.true
 
-not_low : (c : tie.Else1) → lt_z (start c).args.z (start c).args.low ≡ false
-not_low c = rw (to_z-of_z (start c).ranges.z, wide_back (start c).ranges.low) at c.if1.false
+not_low : (c : tie.Else-z-low) → lt_z (start c).args.z (start c).args.low ≡ false
+not_low c = rw (to_z-of_z (start c).ranges.z, wide_back (start c).ranges.low) at c.if-z-low.false
 
-is_high : (c : tie.Then2) → lt_z (start c.before).args.high (start c.before).args.z ≡ true
-is_high c = rw (to_z-of_z (start c.before).ranges.z, wide_back (start c.before).ranges.high) at c.if2.true
+is_high : (c : tie.Then-high-z) → lt_z (start c.before).args.high (start c.before).args.z ≡ true
+is_high c = rw (to_z-of_z (start c.before).ranges.z, wide_back (start c.before).ranges.high) at c.if-high-z.true
 
-not_high : (c : tie.Else2) → lt_z (start c.before).args.high (start c.before).args.z ≡ false
-not_high c = rw (to_z-of_z (start c.before).ranges.z, wide_back (start c.before).ranges.high) at c.if2.false
+not_high : (c : tie.Else-high-z) → lt_z (start c.before).args.high (start c.before).args.z ≡ false
+not_high c = rw (to_z-of_z (start c.before).ranges.z, wide_back (start c.before).ranges.high) at c.if-high-z.false
 
-fits : (c : tie.Else2) → SFits w32 (start c.before).args.z
+fits : (c : tie.Else-high-z) → SFits w32 (start c.before).args.z
 fits c = let s = start c.before in between s.args.low s.args.high s.args.z s.fits.low s.fits.high (not_low c.before) (not_high c)
 
-cast-if1 : tie.Need-overflow-cast-if1
+cast-if1 : tie.Need-overflow_cast-low
 cast-if1 c = rw (to_z-of_z c.ranges.low) (wide c.ranges.low)
 
-returns : tie.Need-returns
+returns : tie.Need-returns-then-z-low
 unfolding stop
-returns c = rw (is_low c, to_z-of_z c.before.ranges.low)
+returns c = rw (is_low c, to_z-of_z c.ranges.low)
 
-cast-if2 : tie.Need-overflow-cast-if2
+cast-if2 : tie.Need-overflow_cast-high
 cast-if2 c = rw (to_z-of_z (start c).ranges.high) (wide (start c).ranges.high)
 
-returns-2 : tie.Need-returns-2
+returns-2 : tie.Need-returns-then-high-z
 unfolding stop
 returns-2 c = rw (not_low c.before, is_high c, to_z-of_z (start c.before).ranges.high)
 
-cast-result : tie.Need-overflow-cast-result
+cast-result : tie.Need-overflow_cast-result
 cast-result c = rw (to_z-of_z (start c.before).ranges.z) (fits c)
 
-returns-3 : tie.Need-returns-3
+returns-3 : tie.Need-returns
 unfolding stop
 returns-3 c = rw (to_z-of_z (start c.before).ranges.z, to_z-of_z (fits c), not_low c.before, not_high c)
 
