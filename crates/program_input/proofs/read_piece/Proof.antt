@@ -40,7 +40,7 @@ start c = c.before.before.before
 answer_fits : (c : tie.After-read) → (start c).args.at + mag (to_z w64 (of_z w64 c.read.result)) ≤ length (start c).args.buf.now
 answer_fits c =
     let got = c.read.result in
-    rw (to_z-of_z {z = got} (record { sfits = c.read.type-inv })) (bounded (start c).args.at (start c).args.buf.now got (start c).requires c.read.ensures)
+    rw (to_z-of_z {w = w32} {z = got} (record { sfits = c.read.type-inv })) (bounded (start c).args.at (start c).args.buf.now got (start c).requires c.read.ensures)
 
 judge-answer-requires : tie.Need-judge-answer-requires
 judge-answer-requires c κs = omega (arith, answer_fits c.before.before.before)

@@ -12,40 +12,40 @@ use Rattle.setpoints.proofs.run_delta.Statement.{statement}
 use Rattle.setpoints.proofs.run_delta.Tie as tie
 
 -- the call as it began, from where the dependencies are counted; and its message's lengths
-abbrev start : tie.After-byte → tie.Start
+abbrev start : tie.After-byte-dependencies → tie.Start
 start c = c.before.before.before
 
 sized : (s : tie.Start) → Sized s.args.m.now
 sized s = passes_sized s.args.m.now s.requires.0
 
-inside : (c : tie.After-byte) → commands_start c.byte.result ≤ length (start c).args.m.now
-inside c = omega (arith, (sized (start c)).total, c.byte.ensures.0)
+inside : (c : tie.After-byte-dependencies) → commands_start c.byte-dependencies.result ≤ length (start c).args.m.now
+inside c = omega (arith, (sized (start c)).total, c.byte-dependencies.ensures.0)
 
 -- what is handed over
-part : (c : tie.After-byte) → let m = (start c).args.m.now in
-    take (length m - commands_start c.byte.result) (drop (commands_start c.byte.result) m) ≡ drop (commands_start (dependency_count m)) m
+part : (c : tie.After-byte-dependencies) → let m = (start c).args.m.now in
+    take (length m - commands_start c.byte-dependencies.result) (drop (commands_start c.byte-dependencies.result) m) ≡ drop (commands_start (dependency_count m)) m
 part c =
     let m : Message = (start c).args.m.now in
     let from : ℕ = commands_start (dependency_count m) in
-    ap (λ (n : ℕ). take (length m - commands_start n) (drop (commands_start n) m)) c.byte.ensures.0
+    ap (λ (n : ℕ). take (length m - commands_start n) (drop (commands_start n) m)) c.byte-dependencies.ensures.0
     ∙ take_all (length m - from) (drop from m) (omega (arith, length-drop from m))
 
-byte-requires : tie.Need-byte-requires
+byte-requires : tie.Need-byte-dependencies-requires
 byte-requires c κs = omega (arith, (sized c.before.before).total)
 
-sub-run-commands : tie.Need-overflow-sub-run-commands
+sub-run-commands : tie.Need-slice_bounds-run_commands-count
 sub-run-commands c = omega (arith, inside c)
 
-part-run-commands-start : tie.Need-slice-bounds-run-commands-start
+part-run-commands-start : tie.Need-slice_bounds-run_commands-start
 part-run-commands-start c = omega (arith, inside c)
 
-run-commands-requires : tie.Need-run-commands-requires
+run-commands-requires : tie.Need-run_commands-requires
 run-commands-requires c κs =
     let counted = c.before.before.before.before in
     let s = start counted in
-    let count = delta_count s.args.m.now s.pre.0 (part counted) in
+    let count = delta_count s.args.m.now s.requires.0 (part counted) in
     let most = (sized s).commands in
-    let room = s.pre.1 in
+    let room = s.requires.1 in
     record { in_tags = omega (arith, room.in_tags); in_before = omega (arith, room.in_before); in_after = omega (arith, room.in_after) }
 
 returns : tie.Need-returns
@@ -54,8 +54,8 @@ returns c =
     let counted = run.before.before.before.before.before in
     let s = start counted in
     let m = s.args.m.now in (
-      delta_run m s.pre.0 (part counted) s.args.values run.run-commands.ensures.0,
-      delta_changes m s.pre.0 (part counted) s.args.values _ run.run-commands.ensures.1,
+      delta_run m s.requires.0 (part counted) s.args.values run.run_commands.ensures.0,
+      delta_changes m s.requires.0 (part counted) s.args.values _ run.run_commands.ensures.1,
     )
 
 pub run_delta_spec : {M : Type 1} → statement M

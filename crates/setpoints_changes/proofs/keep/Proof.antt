@@ -1,4 +1,5 @@
 -- Each part of the change is put at the place.
+use mir.Syntax.{w32}
 use mathlib.Core.Path.{ap₂, ◌∙◌}
 use native.Mathlib.Omega.{arith}
 use lib.IntN.{ℤ}
@@ -12,9 +13,9 @@ use Rattle.setpoints_changes.proofs.keep.Tie as tie
 
 returns : tie.Need-returns
 returns c =
-    let a = c.before.before.args in
+    let a = c.args in
     ap₂ (λ (x z : ℤ). changes_in (set a.tags.now a.k a.change.tag) (set a.before.now a.k x) (set a.after.now a.k z))
-    (to_z-of_z (record { sfits = omega arith })) (to_z-of_z (record { sfits = omega arith }))
+    (to_z-of_z {w = w32} (record { sfits = omega arith })) (to_z-of_z {w = w32} (record { sfits = omega arith }))
     ∙ changes_set a.tags.now a.before.now a.after.now a.k (change_in a.change)
 
 pub keep_spec : {M : Type 1} → statement M

@@ -19,9 +19,9 @@ returns c =
     let tag = words.before.before.before.before in
     let start = tag.before.before.before in
     let a = start.args in
-    value.put-u322.ensures
+    value.put_u32-2.ensures
     ∙ ap₂ (λ (b : List ℕ) (n : ℕ). paste b (a.at + pair_tag_size) (bytes value_size n) value_size)
-    tag.put-u32.ensures
+    tag.put_u32.ensures
     (words.to_word.ensures ∙ ap word (to_z-of_z start.ranges.value))
     ∙ paste_paste a.steps.now a.at (bytes pair_tag_size a.tag) (bytes value_size (word a.value)) pair_tag_size value_size (omega arith) refl
 

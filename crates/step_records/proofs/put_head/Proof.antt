@@ -16,9 +16,9 @@ returns : tie.Need-returns
 returns c =
     let written = c.before.before in
     let first = written.before.before.before.before in
-    let a = first.before.before.before.args in
+    let a = first.args in
     let sequence = bytes sequence_size (sequence_number a.s) in
-    written.put-sequence.ensures ∙ ap (λ (b : List ℕ). paste b (a.at + step_sequence_at) sequence sequence_size) first.put-u32.ensures
+    written.put_sequence.ensures ∙ ap (λ (b : List ℕ). paste b (a.at + step_sequence_at) sequence sequence_size) first.put_u32.ensures
     ∙ paste_paste a.steps.now a.at (bytes step_sequence_at a.first) sequence step_sequence_at sequence_size (omega arith) refl
 
 pub put_head_spec : {M : Type 1} → statement M

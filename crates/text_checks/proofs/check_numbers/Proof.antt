@@ -26,52 +26,52 @@ one_more b k h =
     every_step has_number (sequence_parts b) k [] (omega (arith, length_parts (length b / sequence_size) sequence_size b))
     ∙ ap (λ (p : List ℕ). has_number p && every has_number (drop (k + 1) (sequence_parts b))) (parts_at (length b / sequence_size) sequence_size b k h)
 
-abbrev invariant-loop : tie.invariant-loop
+abbrev invariant-loop : tie.invariant-loop-k
 invariant-loop sequences count k₀ k = (k ≤ count) × (all_numbered sequences ≡ every has_number (drop k (sequence_parts sequences)))
 
-abbrev decreases-loop : tie.decreases-loop
+abbrev decreases-loop : tie.decreases-loop-k
 decreases-loop sequences count k₀ k = count - k
 
 abbrev Loop : Type 0
-Loop = tie.At-loop invariant-loop decreases-loop
+Loop = tie.At-loop-k invariant-loop decreases-loop
 
 abbrev bytes : Loop → List ℕ
-bytes l = l.before.before.before.args.sequences.now
+bytes l = l.args.sequences.now
 
-abbrev loop : tie.After-number-of invariant-loop decreases-loop → Loop
+abbrev loop : tie.After-number_of invariant-loop decreases-loop → Loop
 loop c = c.before.before.before
 
-abbrev sequenceHere : tie.After-number-of invariant-loop decreases-loop → ℕ
-sequenceHere c = field (bytes (loop c)) (sequence_size * (loop c).loop.k) sequence_size
+abbrev sequenceHere : tie.After-number_of invariant-loop decreases-loop → ℕ
+sequenceHere c = field (bytes (loop c)) (sequence_size * (loop c).loop-k.k) sequence_size
 
-number_here : (c : tie.After-number-of invariant-loop decreases-loop) → c.number_of_lem.result ≡ number_of (sequenceHere c)
-number_here c = c.number_of_lem.ensures ∙ ap number_of c.before.read-sequence.ensures
+number_here : (c : tie.After-number_of invariant-loop decreases-loop) → c.number_of.result ≡ number_of (sequenceHere c)
+number_here c = c.number_of.ensures ∙ ap number_of c.read_sequence.ensures
 
 -- one sequence, and those after it
-turn : (c : tie.After-number-of invariant-loop decreases-loop) {t : Bool} → numbered (sequenceHere c) ≡ t
-    → all_numbered (bytes (loop c)) ≡ t && every has_number (drop ((loop c).loop.k + 1) (sequence_parts (bytes (loop c))))
+turn : (c : tie.After-number_of invariant-loop decreases-loop) {t : Bool} → numbered (sequenceHere c) ≡ t
+    → all_numbered (bytes (loop c)) ≡ t && every has_number (drop ((loop c).loop-k.k + 1) (sequence_parts (bytes (loop c))))
 turn c e =
     let l = loop c in
-    l.loop.inv.1 ∙ one_more (bytes l) l.loop.k (omega arith)
-    ∙ ap (λ (t : Bool). t && every has_number (drop (l.loop.k + 1) (sequence_parts (bytes l)))) e
+    l.loop-k.invariant.1 ∙ one_more (bytes l) l.loop-k.k (omega arith)
+    ∙ ap (λ (t : Bool). t && every has_number (drop (l.loop-k.k + 1) (sequence_parts (bytes l)))) e
 
-loop-holds : tie.Need-loop-init invariant-loop decreases-loop
+loop-holds : tie.Need-loop-k-init invariant-loop decreases-loop
 unfolding all_numbered
 loop-holds c = (search rules, refl)
 
-returns : tie.Need-returns invariant-loop decreases-loop
-returns c = let n = c.before in sym (turn n (ap not (eq-eqb (number_of (sequenceHere n)) 0 (sym (number_here n) ∙ c.if1.true))))
+returns : tie.Need-returns-then-number_of-eq0 invariant-loop decreases-loop
+returns c = let n = c.before in sym (turn n (ap not (eq-eqb (number_of (sequenceHere n)) 0 (sym (number_here n) ∙ c.if-number_of-eq0.true))))
 
-loop-again : tie.Need-loop-preserved invariant-loop decreases-loop
+loop-again : tie.Need-loop-k-preserved invariant-loop decreases-loop
 loop-again c =
     let n = c.before in
-    (omega arith, turn n (ap not (ne_eqb (number_of (sequenceHere n)) 0 (λ z. c.if1.false (number_here n ∙ z)))))
+    (omega arith, turn n (ap not (ne_eqb (number_of (sequenceHere n)) 0 (λ z. c.if-number_of-eq0.false (number_here n ∙ z)))))
 
-returns-2 : tie.Need-returns-2 invariant-loop decreases-loop
+returns-2 : tie.Need-returns invariant-loop decreases-loop
 returns-2 c =
     let l = c.before in
     let b = bytes l in
-    sym (l.loop.invariant.1 ∙ every_end has_number (sequence_parts b) l.loop.k (omega (arith, length_parts (length b / sequence_size) sequence_size b)))
+    sym (l.loop-k.invariant.1 ∙ every_end has_number (sequence_parts b) l.loop-k.k (omega (arith, length_parts (length b / sequence_size) sequence_size b)))
 
 pub check_numbers_spec : {M : Type 1} → statement M
 check_numbers_spec =

@@ -30,20 +30,20 @@ step true t at i h k =
     ∙ ap (λ (x : ℕ). is_digit x && every is_digit (drop (i + 1) (characters t at))) (get_d_part t at characters_size i 0 k)
 step false t at i h k = refl
 
-abbrev invariant-loop : tie.invariant-loop
+abbrev invariant-loop : tie.invariant-loop-i
 invariant-loop table text at ok₀ i₀ ok i = (i ≤ characters_size) × (every is_digit (characters text at) ≡ ok && every is_digit (drop i (characters text at)))
 
-abbrev decreases-loop : tie.decreases-loop
+abbrev decreases-loop : tie.decreases-loop-i
 decreases-loop table text at ok₀ i₀ ok i = characters_size - i
 
-loop-holds : tie.Need-loop-init invariant-loop decreases-loop
+loop-holds : tie.Need-loop-i-init invariant-loop decreases-loop
 loop-holds c = (search rules, refl)
 
-loop-again : tie.Need-loop-preserved invariant-loop decreases-loop
+loop-again : tie.Need-loop-i-preserved invariant-loop decreases-loop
 loop-again c =
     let at-loop = c.before.before.before in
-    let l = at-loop.loop in
-    let a = at-loop.before.before.args in (
+    let l = at-loop.loop-i in
+    let a = at-loop.args in (
       omega arith,
       l.invariant.1 ∙ step l.ok a.text.now a.at l.i (omega arith) (omega arith)
           ∙ ap (λ (x : ℕ). (l.ok && not (eqb x no_digit)) && every is_digit (drop (l.i + 1) (characters a.text.now a.at))) (sym c.digit.ensures),
@@ -51,8 +51,8 @@ loop-again c =
 
 returns : tie.Need-returns invariant-loop decreases-loop
 returns c =
-    let l = c.before.loop in
-    let a = c.before.before.before.args in
+    let l = c.loop-i in
+    let a = c.args in
     sym (l.invariant.1 ∙ ap (λ (t : Bool). l.ok && t) (every_end is_digit (characters a.text.now a.at) l.i (omega (arith, sized a.text.now a.at (omega arith)))) ∙ and-true l.ok)
 
 pub are_digits_spec : {M : Type 1} → statement M

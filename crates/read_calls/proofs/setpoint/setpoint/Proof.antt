@@ -1,4 +1,5 @@
 -- The checks run in the order of their codes, and each tells what the definition's case asks for; what is left is the value's bytes.
+use mir.Syntax.{w32}
 use mathlib.Core.Path.{◌≡◌, sym, ◌∙◌, ap}
 use mathlib.Core.Bool.{true, not}
 use Prim.Native.Nat.{◌<◌}
@@ -83,7 +84,7 @@ returns-4 c =
     let n = g.before in
     let j = judged n.before.before in
     let a = (told n).args in
-    value_there a.image.now a.tag (sized j.before) (image n.before.before.before) (named n) _ (to_z-of_z {z = c.of_word.result} (record { sfits = c.of_word.type-inv }) ∙ c.of_word.ensures ∙ ap integer g.get-u32.ensures)
+    value_there a.image.now a.tag (sized j.before) (image n.before.before.before) (named n) _ (to_z-of_z {w = w32} {z = c.of_word.result} (record { sfits = c.of_word.type-inv }) ∙ c.of_word.ensures ∙ ap integer g.get-u32.ensures)
 
 pub setpoint_spec : {M : Type 1} → statement M
 setpoint_spec =

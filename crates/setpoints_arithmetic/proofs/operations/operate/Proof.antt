@@ -1,6 +1,6 @@
 -- Each operation's result is what the definition picks by the same tests.
 use mathlib.Core.Path.{◌∙◌}
-use mir.Syntax.{w64}
+use mir.Syntax.{w32, w64}
 use mir.Facts.{to_z-of_z}
 use borrow.Author.Rules.{rules}
 use borrow.Author.Tests.{eq-eqb, ne_eqb}
@@ -20,7 +20,7 @@ returns-2 c =
     let one = two.before in
     let total = rw (to_z-of_z one.ranges.x, to_z-of_z one.ranges.v) at added.sum.ensures in
     let stopped = rw (to_z-of_z {w = w64} {z = added.sum.result} (record { sfits = added.sum.type_inv }), total) at c.stop.ensures in
-    simp (ne_eqb _ _ one.if-operation-eq1.false, eq-eqb _ _ two.if-operation-eq2.true) (to_z-of_z {z = c.stop.result} (record { sfits = c.stop.type_inv }) ∙ stopped)
+    simp (ne_eqb _ _ one.if-operation-eq1.false, eq-eqb _ _ two.if-operation-eq2.true) (to_z-of_z {w = w32} {z = c.stop.result} (record { sfits = c.stop.type_inv }) ∙ stopped)
 
 returns-3 : tie.Need-returns
 unfolding operate
@@ -28,7 +28,7 @@ returns-3 c =
     let two = c.before in
     let one = two.before in
     let raised = simp (to_z-of_z one.ranges.x, to_z-of_z one.ranges.v) at c.raise_to.ensures in
-    simp (ne_eqb _ _ one.if-operation-eq1.false, ne_eqb _ _ two.if-operation-eq2.false) (to_z-of_z {z = c.raise_to.result} (record { sfits = c.raise_to.type_inv }) ∙ raised)
+    simp (ne_eqb _ _ one.if-operation-eq1.false, ne_eqb _ _ two.if-operation-eq2.false) (to_z-of_z {w = w32} {z = c.raise_to.result} (record { sfits = c.raise_to.type_inv }) ∙ raised)
 
 pub operate_spec : {M : Type 1} → statement M
 operate_spec = tie.close (tie.spec returns (λ c κs. search rules) (λ c κs. search rules) returns-2 (λ c κs. search rules) returns-3)

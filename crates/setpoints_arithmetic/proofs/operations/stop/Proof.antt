@@ -26,7 +26,7 @@ not_high : (c : tie.Else-high-z) → lt_z (start c.before).args.high (start c.be
 not_high c = rw (to_z-of_z (start c.before).ranges.z, wide_back (start c.before).ranges.high) at c.if-high-z.false
 
 fits : (c : tie.Else-high-z) → SFits w32 (start c.before).args.z
-fits c = let s = start c.before in between s.args.low s.args.high s.args.z s.fits.low s.fits.high (not_low c.before) (not_high c)
+fits c = let s = start c.before in between s.args.low s.args.high s.args.z s.ranges.low s.ranges.high (not_low c.before) (not_high c)
 
 cast-if1 : tie.Need-overflow_cast-low
 cast-if1 c = rw (to_z-of_z c.ranges.low) (wide c.ranges.low)

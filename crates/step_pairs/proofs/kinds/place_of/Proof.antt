@@ -6,8 +6,8 @@ use Rattle.step_pairs.specs.Kinds.{place_by}
 use Rattle.step_pairs.proofs.kinds.place_of.Statement.{statement}
 use Rattle.step_pairs.proofs.kinds.place_of.Tie as tie
 
-returns : tie.Need-returns
-returns c = let a = c.before.before.args in sym (ap (λ (x : Kind). place_by x a.count a.k) c.enum_told.given.1)
+returns : tie.Need-returns-in-Undo
+returns c = let a = c.args in sym (ap (λ (x : Kind). place_by x a.count a.k) c.in-Undo.is)
 
 pub place_of_spec : {M : Type 1} → statement M
 place_of_spec =

@@ -10,7 +10,7 @@ returns : tie.Need-returns
 unfolding sequences_right
 returns c =
     let k = c.before in
-    slice_pieces k.before.args.sequences.now (λ i. (k.shared-slice-known.given i).fits) sequence_size sequences_room c.check-pieces.ensures
+    slice_pieces k.args.sequences.now (λ i. (k.shared_slice_known-1.given i).fits) sequence_size sequences_room c.check_pieces.ensures
 
 pub check_sequences_spec : {M : Type 1} → statement M
 check_sequences_spec = tie.close (tie.spec (λ c κs. search rules) returns)

@@ -16,52 +16,52 @@ use Rattle.text_checks.specs.FormLaws.{text_wrong, text_sized, part_step}
 use Rattle.text_checks.proofs.forms.check_text.Statement.{statement}
 use Rattle.text_checks.proofs.forms.check_text.Tie as tie
 
-abbrev invariant-loop : tie.invariant-loop
+abbrev invariant-loop : tie.invariant-loop-k
 invariant-loop text count table k₀ k = (k ≤ count) × (text_right text ≡ every text_part_right (drop k (text_parts text)))
 
-abbrev decreases-loop : tie.decreases-loop
+abbrev decreases-loop : tie.decreases-loop-k
 decreases-loop text count table k₀ k = count - k
 
 abbrev Loop : Type 0
-Loop = tie.At-loop invariant-loop decreases-loop
+Loop = tie.At-loop-k invariant-loop decreases-loop
 
 abbrev text : Loop → List ℕ
-text l = l.before.before.before.before.before.args.text.now
+text l = l.args.text.now
 
-abbrev loop : tie.After-check-part invariant-loop decreases-loop → Loop
+abbrev loop : tie.After-check_part-checked invariant-loop decreases-loop → Loop
 loop c = c.before.before.before
 
 -- one part, and those after it
-turn : (c : tie.After-check-part invariant-loop decreases-loop) {t : Bool} → right c.check-part.result ≡ t
-    → text_right (text (loop c)) ≡ t && every text_part_right (drop ((loop c).loop.k + 1) (text_parts (text (loop c))))
+turn : (c : tie.After-check_part-checked invariant-loop decreases-loop) {t : Bool} → right c.check_part-checked.result ≡ t
+    → text_right (text (loop c)) ≡ t && every text_part_right (drop ((loop c).loop-k.k + 1) (text_parts (text (loop c))))
 turn c e =
     let l = loop c in
-    l.loop.inv.1 ∙ part_step (text l) l.loop.k (omega arith)
-    ∙ ap (λ (t : Bool). t && every text_part_right (drop (l.loop.k + 1) (text_parts (text l)))) (sym c.check-part.ensures ∙ e)
+    l.loop-k.invariant.1 ∙ part_step (text l) l.loop-k.k (omega arith)
+    ∙ ap (λ (t : Bool). t && every text_part_right (drop (l.loop-k.k + 1) (text_parts (text l)))) (sym c.check_part-checked.ensures ∙ e)
 
-returns : tie.Need-returns invariant-loop decreases-loop
-returns c = text_wrong c.before.before.args.text.now (λ x. omega arith)
+returns : tie.Need-returns-then-text-gt-TEXT_ROOM invariant-loop decreases-loop
+returns c = text_wrong c.args.text.now (λ x. omega arith)
 
-returns-2 : tie.Need-returns-2 invariant-loop decreases-loop
-returns-2 c = text_wrong c.before.before.before.args.text.now (λ x. omega arith)
+returns-2 : tie.Need-returns-then-count-text invariant-loop decreases-loop
+returns-2 c = text_wrong c.args.text.now (λ x. omega arith)
 
-loop-holds : tie.Need-loop-init invariant-loop decreases-loop
-loop-holds c = let t = c.before.before.before.before.args.text.now in (search rules, text_sized t (omega arith) (omega arith))
+loop-holds : tie.Need-loop-k-init invariant-loop decreases-loop
+loop-holds c = let t = c.args.text.now in (search rules, text_sized t (omega arith) (omega arith))
 
-check-part-requires : tie.Need-check-part-requires invariant-loop decreases-loop
-check-part-requires c κs = (c.before.before.before.digits.ensures, omega arith)
+check-part-requires : tie.Need-check_part-checked-requires invariant-loop decreases-loop
+check-part-requires c κs = (c.digits-table.ensures, omega arith)
 
-returns-3 : tie.Need-returns-3 invariant-loop decreases-loop
-returns-3 c = sym (turn c.before.before (ap right c.enum-told2.given.1))
+returns-3 : tie.Need-returns-in_default invariant-loop decreases-loop
+returns-3 c = sym (turn c.before (ap right c.in_default.is))
 
-loop-again : tie.Need-loop-preserved invariant-loop decreases-loop
-loop-again c = (omega arith, turn c.before.before (ap right c.enum_told.given.1))
+loop-again : tie.Need-loop-k-preserved invariant-loop decreases-loop
+loop-again c = (omega arith, turn c.before (ap right c.in-Right.is))
 
-returns-4 : tie.Need-returns-4 invariant-loop decreases-loop
+returns-4 : tie.Need-returns invariant-loop decreases-loop
 returns-4 c =
     let l = c.before in
     let t = text l in
-    sym (l.loop.invariant.1 ∙ every_end text_part_right (text_parts t) l.loop.k (omega (arith, length_parts (suc (length t) / text_part_size) text_part_size (t ++ comma ∷ []))))
+    sym (l.loop-k.invariant.1 ∙ every_end text_part_right (text_parts t) l.loop-k.k (omega (arith, length_parts (suc (length t) / text_part_size) text_part_size (t ++ comma ∷ []))))
 
 pub check_text_spec : {M : Type 1} → statement M
 check_text_spec =
