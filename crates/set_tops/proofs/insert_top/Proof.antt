@@ -8,13 +8,9 @@ use Rattle.set_tops.proofs.insert_top.Tie as tie
 
 returns : tie.Need-returns
 returns c =
-    let put = c.before.before in
-    let back = put.before.before.before.before in
-    let out = back.before.before.before.before in
-    let s = out.before.before.before.before.before in
-    let a = s.args in
-    tops_put_in a.tops.now a.p a.count (sequence_number a.s) s.requires.3 (omega arith) (omega arith)
-    _ out.copy_at.ensures (omega arith) back.copy-at2.ensures put.put-sequence.ensures
+    let a = c.args in
+    tops_put_in a.tops.now a.p a.count (sequence_number a.s) c.requires.3 (omega arith) (omega arith)
+    _ c.copy_at.ensures (omega arith) c.copy_at-2.ensures c.put_sequence.ensures
 
 pub insert_top_spec : {M : Type 1} → statement M
 insert_top_spec =

@@ -14,21 +14,21 @@ use Rattle.set_tops.specs.TopsLaws.{tops_length, top_at}
 use Rattle.set_tops.proofs.is_on_line.Statement.{statement}
 use Rattle.set_tops.proofs.is_on_line.Tie as tie
 
-returns : tie.Need-returns
+returns : tie.Need-returns-then-count-p
 returns c =
-    let a = c.before.before.args in
+    let a = c.args in
     let tops = tops_in a.tops.now a.count in
     ap (λ (b : Bool). b && eqb (line_of (get_or tops a.p 0)) (line_of (sequence_number a.s)))
     (sym (le-ltb a.p (length tops) (omega (arith, tops_length a.tops.now a.count))))
 
-returns-2 : tie.Need-returns-2
+returns-2 : tie.Need-returns
 returns-2 c =
-    let a = c.before.before.before.before.args in
+    let a = c.args in
     let tops = tops_in a.tops.now a.count in
     c.same_line.ensures
     ∙ ap₂ (λ (b : Bool) (n : ℕ). b && eqb (line_of n) (line_of (sequence_number a.s)))
     (sym (lt-ltb a.p (length tops) (omega (arith, tops_length a.tops.now a.count))))
-    (c.before.read-sequence.ensures ∙ sym (top_at a.tops.now a.count a.p (omega arith)))
+    (c.read_sequence-top.ensures ∙ sym (top_at a.tops.now a.count a.p (omega arith)))
 
 pub is_on_line_spec : {M : Type 1} → statement M
 is_on_line_spec = tie.close (tie.spec returns (λ c. omega arith) (λ c κs. omega arith) (λ c κs. search rules) returns-2)

@@ -14,54 +14,54 @@ use Rattle.set_tops.specs.RaisingLaws.{passes_none, passes_more}
 use Rattle.set_tops.proofs.top_place.Statement.{statement}
 use Rattle.set_tops.proofs.top_place.Tie as tie
 
-abbrev invariant-loop : tie.invariant-loop
+abbrev invariant-loop : tie.invariant-loop-p
 invariant-loop tops count s p₀ p = Passes (sequence_number s) (tops_in tops count) p
 
-abbrev decreases-loop : tie.decreases-loop
+abbrev decreases-loop : tie.decreases-loop-p
 decreases-loop tops count s p₀ p = count - p
 
-loop-holds : tie.Need-loop-init invariant-loop decreases-loop
-loop-holds c = passes_none (sequence_number c.before.args.s) (tops_in c.before.args.tops.now c.before.args.count)
+loop-holds : tie.Need-loop-p-init invariant-loop decreases-loop
+loop-holds c = passes_none (sequence_number c.args.s) (tops_in c.args.tops.now c.args.count)
 
 -- the turn in which a top was compared, and the call as it began
-abbrev turn : tie.After-line-below invariant-loop decreases-loop → tie.At-loop invariant-loop decreases-loop
+abbrev turn : tie.After-line_below invariant-loop decreases-loop → tie.At-loop-p invariant-loop decreases-loop
 turn c = c.before.before.before
 
-abbrev start : tie.At-loop invariant-loop decreases-loop → tie.Start invariant-loop decreases-loop
+abbrev start : tie.At-loop-p invariant-loop decreases-loop → tie.Start invariant-loop decreases-loop
 start h = h.before.before
 
 -- the top that was read
-top_read : (c : tie.After-line-below invariant-loop decreases-loop)
-    → sequence_number c.before.read-sequence.result ≡ get_or (tops_in (start (turn c)).args.tops.now (start (turn c)).args.count) (turn c).loop.p 0
+top_read : (c : tie.After-line_below invariant-loop decreases-loop)
+    → sequence_number c.read_sequence-top.result ≡ get_or (tops_in (start (turn c)).args.tops.now (start (turn c)).args.count) (turn c).loop-p.p 0
 top_read c =
     let a = (start (turn c)).args in
-    c.before.read-sequence.ensures ∙ sym (top_at a.tops.now a.count (turn c).loop.p (omega arith))
+    c.read_sequence-top.ensures ∙ sym (top_at a.tops.now a.count (turn c).loop-p.p (omega arith))
 
-returns : tie.Need-returns invariant-loop decreases-loop
+returns : tie.Need-returns-then-not-line_below invariant-loop decreases-loop
 returns c =
     let a = (start (turn c.before)).args in
-    let x = line_of (sequence_number c.before.before.read-sequence.result) in
+    let x = line_of (sequence_number c.read_sequence-top.result) in
     let y = line_of (sequence_number a.s) in
     record {
-      passes = (turn c.before).loop.inv;
-      here = λ h. omega (arith, ap line_of (top_read c.before), ltb-false x y (sym c.before.line-below.ensures ∙ c.if1.true));
+      passes = (turn c.before).loop-p.invariant;
+      here = λ h. omega (arith, ap line_of (top_read c.before), ltb-false x y (sym c.line_below.ensures ∙ c.if-not-line_below.true));
     }
 
-loop-again : tie.Need-loop-preserved invariant-loop decreases-loop
+loop-again : tie.Need-loop-p-preserved invariant-loop decreases-loop
 loop-again c =
     let t = turn c.before in
     let a = (start t).args in
-    let x = line_of (sequence_number c.before.before.read-sequence.result) in
+    let x = line_of (sequence_number c.read_sequence-top.result) in
     let y = line_of (sequence_number a.s) in
-    passes_more (sequence_number a.s) (tops_in a.tops.now a.count) t.loop.p t.loop.inv
+    passes_more (sequence_number a.s) (tops_in a.tops.now a.count) t.loop-p.p t.loop-p.invariant
     (omega (arith, tops_length a.tops.now a.count))
-    (omega (arith, ap line_of (top_read c.before), ltb-true x y (sym c.before.line-below.ensures ∙ c.if1.false)))
+    (omega (arith, ap line_of (top_read c.before), ltb-true x y (sym c.line_below.ensures ∙ c.if-not-line_below.false)))
 
-returns-2 : tie.Need-returns-2 invariant-loop decreases-loop
+returns-2 : tie.Need-returns invariant-loop decreases-loop
 returns-2 c =
     let a = (start c.before).args in
     record {
-      passes = c.before.loop.invariant;
+      passes = c.loop-p.invariant;
       here = λ h. let z : ⊥ = omega (arith, tops_length a.tops.now a.count) in absurd z;
     }
 

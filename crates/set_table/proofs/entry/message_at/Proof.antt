@@ -15,30 +15,30 @@ lies : (c : tie.Start) → Lies c.args.pool.now (get_or c.args.starts.now c.args
 lies c = (stands c.args.pool.now c.args.starts.now c.requires.0 c.args.i c.requires.1).lies
 
 -- where the length field is read
-abbrev read : tie.After-shared-slice-known3 → tie.Start
+abbrev read : tie.After-shared_slice_known-3-1 → tie.Start
 read c = c.before.before.before
 
-cast-at : tie.Need-overflow-cast-at
+cast-at : tie.Need-overflow_cast-at
 cast-at c = let l = lies (read c) in omega arith
 
-add-get-u16 : tie.Need-overflow-add-get-u16
+add-get-u16 : tie.Need-overflow_add-at
 add-get-u16 c = let l = lies (read c) in omega arith
 
-get-u16-requires : tie.Need-get-u16-requires
+get-u16-requires : tie.Need-get_u16-requires
 get-u16-requires c κs = let l = lies (read c) in omega arith
 
-add-end : tie.Need-overflow-add-end
-add-end c = let l = lies (read c.before) in omega (arith, c.get-u16.ensures)
+add-end : tie.Need-overflow_add-end
+add-end c = let l = lies (read c.before) in omega (arith, c.get_u16.ensures)
 
-part-result-end : tie.Need-slice-bounds-result-end
-part-result-end c = let l = lies (read c.before) in omega (arith, c.get-u16.ensures)
+part-result-end : tie.Need-slice_bounds-result-end
+part-result-end c = let l = lies (read c.before) in omega (arith, c.get_u16.ensures)
 
 returns : tie.Need-returns
 returns c =
     let s = read c.before.before in
     let at = get_or s.args.starts.now s.args.i 0 in
-    let size : at + c.before.get-u16.result - at ≡ field s.args.pool.now (at + length_at) 2 = omega (arith, c.before.get-u16.ensures) in
-    ap (λ (n : ℕ). take n (drop at s.args.pool.now)) size ∙ sym (delta_at s.args.pool.now s.args.starts.now s.args.i s.pre.1)
+    let size : at + c.get_u16.result - at ≡ field s.args.pool.now (at + length_at) 2 = omega (arith, c.get_u16.ensures) in
+    ap (λ (n : ℕ). take n (drop at s.args.pool.now)) size ∙ sym (delta_at s.args.pool.now s.args.starts.now s.args.i s.requires.1)
 
 pub message_at_spec : {M : Type 1} → statement M
 message_at_spec =
