@@ -18,14 +18,14 @@ use set_readiness::MARKS;
 use set_table::entry::sequence_at;
 
 // Marks by index of the table: what is in the log, and what a delta of the log needs.
-#[derive(Drop)]
+#[derive(Clone, Copy)]
 pub struct Uses {
     pub logged: [u8; MARKS],
     pub needed: [u8; MARKS],
 }
 
 // Places of a table, the first `count` of the array.
-#[derive(Drop)]
+#[derive(Clone, Copy)]
 pub struct Dependencies {
     pub places: [u8; CAPACITY],
     pub count: usize,

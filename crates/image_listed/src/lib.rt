@@ -22,7 +22,7 @@ use set_table::Table;
 
 // A buffer whose messages were read: where they lie, of its log's messages the places in the table and the offsets, and whether it was
 // judged to be an image (`image_judged`).
-#[derive(Drop)]
+#[derive(Clone, Copy)]
 pub struct Station {
     pub check: Check,
     pub table: Table,

@@ -7,7 +7,7 @@ ghost use Rattle.image_sections.specs.LogPlaces.{HeldBelow};
 use layout::CAPACITY;
 
 // Places in ascending order: the first `count` of the array.
-#[derive(Drop)]
+#[derive(Clone, Copy)]
 pub struct Held {
     pub places: [u8; CAPACITY],
     pub count: usize,

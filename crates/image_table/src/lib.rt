@@ -17,7 +17,7 @@ use set_table::inserting::insert_start;
 use set_table::places::{Place, find_from_end};
 
 // Whether an image's messages were read, and their table.
-#[derive(Drop)]
+#[derive(Clone, Copy)]
 pub struct TableReading {
     pub check: Check,
     pub table: Table,

@@ -15,7 +15,7 @@ use message_header::checks::Check;
 use set_table::start::messages_start;
 
 // Whether a buffer's messages can be those of an image, and the offsets of all of them, in its order.
-#[derive(Drop)]
+#[derive(Clone, Copy)]
 pub struct Walk {
     pub check: Check,
     pub offsets: [u16; CAPACITY],

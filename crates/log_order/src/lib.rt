@@ -7,7 +7,7 @@ ghost use Rattle.log_order.specs.LogOrder.{old_of, places_of, OrderRight, Begun,
 use layout::CAPACITY;
 
 // The old log and the new one so far, as places in the table, and how many at their start are the same.
-#[derive(Drop)]
+#[derive(Clone, Copy)]
 pub struct LogOrder {
     pub old: [u8; CAPACITY],
     pub old_count: usize,

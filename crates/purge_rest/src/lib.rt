@@ -17,7 +17,7 @@ use set_readiness::greater;
 use set_table::start::messages_start;
 
 // `from` is where the first message that stays begins, in the image before the purge.
-#[derive(Drop)]
+#[derive(Clone, Copy)]
 pub struct Rest {
     pub base: [i32; TAG_COUNT],
     pub block: u32,

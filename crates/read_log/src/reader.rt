@@ -7,7 +7,7 @@ use buffer_sizes::check_image_size;
 use message_header::checks::Check;
 use set_table::start::messages_start;
 
-#[derive(Drop)]
+#[derive(Clone, Copy)]
 pub struct LogReader<'a> {
     pub image: &'a [u8],
     pub offset: usize,

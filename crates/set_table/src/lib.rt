@@ -13,7 +13,7 @@ use crate::inserting::insert_start;
 use layout::CAPACITY;
 
 // The places where messages start, the first `count` of them in use.
-#[derive(Drop)]
+#[derive(Clone, Copy)]
 pub struct Table {
     pub starts: [u16; CAPACITY],
     pub count: usize,

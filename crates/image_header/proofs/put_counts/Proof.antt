@@ -12,12 +12,9 @@ use Rattle.image_header.proofs.put_counts.Tie as tie
 
 returns : tie.Need-returns
 returns c =
-    let held = c.before.before in
-    let log = held.before.before.before.before in
-    let s = log.before.before.before in
-    held.put-u162.ensures
-    ∙ ap (λ (b : List ℕ). paste b held_count_at (bytes 2 s.args.held) 2) log.put-u16.ensures
-    ∙ counts_pasted s.args.out.now s.args.log s.args.held s.requires
+    c.put_u16-2.ensures
+    ∙ ap (λ (b : List ℕ). paste b held_count_at (bytes 2 c.args.held) 2) c.put_u16.ensures
+    ∙ counts_pasted c.args.out.now c.args.log c.args.held c.requires
 
 pub put_counts_spec : {M : Type 1} → statement M
 put_counts_spec = tie.close (tie.spec (λ c κs. search rules) (λ c κs. search rules) (λ c. search rules) returns)

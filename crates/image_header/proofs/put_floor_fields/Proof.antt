@@ -13,15 +13,11 @@ use Rattle.image_header.proofs.put_floor_fields.Tie as tie
 
 returns : tie.Need-returns
 returns c =
-    let base = c.before.before in
-    let floors = base.before.before.before.before in
-    let count = floors.before.before.before.before in
-    let s = count.before.before.before in
-    let room = s.requires in
-    base.put-u163.ensures
+    let room = c.requires in
+    c.put_u16-3.ensures
     ∙ ap (λ (b : List ℕ). paste b base_offset_at (bytes 2 base_start) 2)
-    (floors.put-u162.ensures ∙ ap (λ (b : List ℕ). paste b floors_offset_at (bytes 2 floors_start) 2) count.put-u16.ensures)
-    ∙ three_pasted s.args.out.now floor_count_at s.args.floors floors_start base_start (omega arith)
+    (c.put_u16-2.ensures ∙ ap (λ (b : List ℕ). paste b floors_offset_at (bytes 2 floors_start) 2) c.put_u16.ensures)
+    ∙ three_pasted c.args.out.now floor_count_at c.args.floors floors_start base_start (omega arith)
 
 pub put_floor_fields_spec : {M : Type 1} → statement M
 put_floor_fields_spec =

@@ -12,18 +12,13 @@ use Rattle.image_header.proofs.put_image_header.Tie as tie
 
 returns : tie.Need-returns
 returns c =
-    let purged = c.before.before in
-    let floors = purged.before.before.before.before in
-    let offsets = floors.before.before.before.before in
-    let counts = offsets.before.before.before.before in
-    let s = counts.before.before.before in
-    let a = s.args in
-    let room = s.requires in
-    purged.put-purged.ensures
+    let a = c.args in
+    let room = c.requires in
+    c.put_purged.ensures
     ∙ ap (λ (b : List ℕ). pasted b purged_block_at (purged_bytes a.block a.group))
-    (floors.put-floor-fields.ensures
+    (c.put_floor_fields.ensures
     ∙ ap (λ (b : List ℕ). pasted b floor_count_at (floor_fields_bytes a.floors))
-    (offsets.put-offsets.ensures ∙ ap (λ (b : List ℕ). pasted b setpoints_offset_at (offsets_bytes a.start a.used)) counts.put-counts.ensures))
+    (c.put_offsets.ensures ∙ ap (λ (b : List ℕ). pasted b setpoints_offset_at (offsets_bytes a.start a.used)) c.put_counts.ensures))
     ∙ order_pasted a.out.now 0
     (counts_bytes a.log a.held ∷ offsets_bytes a.start a.used ∷ floor_fields_bytes a.floors ∷ purged_bytes a.block a.group ∷ []) (omega arith)
 

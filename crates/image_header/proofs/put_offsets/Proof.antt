@@ -13,15 +13,11 @@ use Rattle.image_header.proofs.put_offsets.Tie as tie
 
 returns : tie.Need-returns
 returns c =
-    let used = c.before.before in
-    let messages = used.before.before.before.before in
-    let setpoints = messages.before.before.before.before in
-    let s = setpoints.before.before.before in
-    let room = s.requires in
-    used.put-u163.ensures
-    ∙ ap (λ (b : List ℕ). paste b used_at (bytes 2 s.args.used) 2)
-    (messages.put-u162.ensures ∙ ap (λ (b : List ℕ). paste b messages_offset_at (bytes 2 s.args.start) 2) setpoints.put-u16.ensures)
-    ∙ three_pasted s.args.out.now setpoints_offset_at setpoints_start s.args.start s.args.used (omega arith)
+    let room = c.requires in
+    c.put_u16-3.ensures
+    ∙ ap (λ (b : List ℕ). paste b used_at (bytes 2 c.args.used) 2)
+    (c.put_u16-2.ensures ∙ ap (λ (b : List ℕ). paste b messages_offset_at (bytes 2 c.args.start) 2) c.put_u16.ensures)
+    ∙ three_pasted c.args.out.now setpoints_offset_at setpoints_start c.args.start c.args.used (omega arith)
 
 pub put_offsets_spec : {M : Type 1} → statement M
 put_offsets_spec =

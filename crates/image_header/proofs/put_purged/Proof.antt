@@ -12,14 +12,10 @@ use Rattle.image_header.proofs.put_purged.Tie as tie
 
 returns : tie.Need-returns
 returns c =
-    let zeros = c.before.before in
-    let group = zeros.before.before.before.before in
-    let block = group.before.before.before.before in
-    let s = block.before.before.before in
-    zeros.put-u64.ensures
+    c.put_u64.ensures
     ∙ ap (λ (b : List ℕ). paste b zeros_at (bytes 8 0) 8)
-    (group.put-u322.ensures ∙ ap (λ (b : List ℕ). paste b purged_group_at (bytes 4 s.args.group) 4) block.put-u32.ensures)
-    ∙ purged_pasted s.args.out.now s.args.block s.args.group s.requires
+    (c.put_u32-2.ensures ∙ ap (λ (b : List ℕ). paste b purged_group_at (bytes 4 c.args.group) 4) c.put_u32.ensures)
+    ∙ purged_pasted c.args.out.now c.args.block c.args.group c.requires
 
 pub put_purged_spec : {M : Type 1} → statement M
 put_purged_spec = tie.close (tie.spec (λ c κs. search rules) (λ c κs. search rules) (λ c κs. search rules) (λ c. search rules) returns)

@@ -14,43 +14,37 @@ use Rattle.image_origin.proofs.origin.check_origin.Statement.{statement}
 use Rattle.image_origin.proofs.origin.check_origin.Tie as tie
 
 -- the floors were counted
-abbrev start : tie.After-count-floors → tie.Start
+abbrev start : tie.After-count_floors-count → tie.Start
 start k = k.before.before
 
-abbrev bytes : tie.After-count-floors → List ℕ
+abbrev bytes : tie.After-count_floors-count → List ℕ
 bytes k = (start k).args.b.now
 
-are_bytes : (k : tie.After-count-floors) → T (is_bytes (bytes k))
-are_bytes k = all_bytes (bytes k) (λ i. (k.before.shared-slice-known.given i).fits)
+are_bytes : (k : tie.After-count_floors-count) → T (is_bytes (bytes k))
+are_bytes k = all_bytes (bytes k) (λ i. (k.shared_slice_known-1.given i).fits)
 
 -- where they are few, the buffer ends past them
-counted : (k : tie.After-count-floors) → k.count_floors.result ≤ most_floors → Counted (bytes k) k.count_floors.result
-counted k h = record { is = k.count_floors.ensures.0; room = omega (arith, (start k).requires) }
+counted : (k : tie.After-count_floors-count) → k.count_floors-count.result ≤ most_floors → Counted (bytes k) k.count_floors-count.result
+counted k h = record { is = k.count_floors-count.ensures.0; room = omega (arith, (start k).requires) }
 
-returns : tie.Need-returns
-returns c = let k = c.before in sym (many_floors (bytes k) (omega (arith, k.count_floors.ensures.0, c.if1.true)))
+returns : tie.Need-returns-then-count-gt-MOST_FLOORS
+returns c = sym (many_floors (bytes c.before) (omega (arith, c.count_floors-count.ensures.0, c.if-count-gt-MOST_FLOORS.true)))
 
-check-unpurged-requires : tie.Need-check-unpurged-requires
-check-unpurged-requires c κs = let few = c.before in counted_start (counted few.before few.if1.false)
+check-unpurged-requires : tie.Need-check_unpurged-requires
+check-unpurged-requires c κs = counted_start (counted c.before.before c.if-count-gt-MOST_FLOORS.false)
 
-returns-2 : tie.Need-returns-2
+returns-2 : tie.Need-returns-then-count-eq0
 returns-2 c =
-    let none = c.before in
-    let few = none.before in
-    let k = few.before in
-    c.check-unpurged.ensures ∙ sym (origin_unpurged (bytes k) (counted_start (counted k few.if1.false)) (sym k.count_floors.ensures.0 ∙ none.if2.true))
+    c.check_unpurged.ensures ∙ sym (origin_unpurged (bytes c.before.before.before) (counted_start (counted c.before.before.before c.if-count-gt-MOST_FLOORS.false)) (sym c.count_floors-count.ensures.0 ∙ c.if-count-eq0.true))
 
-check-purged-requires : tie.Need-check-purged-requires
-check-purged-requires c κs = let few = c.before in counted few.before few.if1.false
+check-purged-requires : tie.Need-check_purged-requires
+check-purged-requires c κs = counted c.before.before c.if-count-gt-MOST_FLOORS.false
 
-returns-3 : tie.Need-returns-3
+returns-3 : tie.Need-returns
 returns-3 c =
-    let some = c.before in
-    let few = some.before in
-    let k = few.before in
-    c.check-purged.ensures
-    ∙ sym (origin_purged (bytes k) (are_bytes k) (counted_start (counted k few.if1.false)) (omega (arith, k.count_floors.ensures.0, few.if1.false))
-    (omega (arith, k.count_floors.ensures.0, some.if2.false)))
+    c.check_purged.ensures
+    ∙ sym (origin_purged (bytes c.before.before.before) (are_bytes c.before.before.before) (counted_start (counted c.before.before.before c.if-count-gt-MOST_FLOORS.false)) (omega (arith, c.count_floors-count.ensures.0, c.if-count-gt-MOST_FLOORS.false))
+    (omega (arith, c.count_floors-count.ensures.0, c.if-count-eq0.false)))
 
 pub check_origin_spec : {M : Type 1} → statement M
 check_origin_spec =

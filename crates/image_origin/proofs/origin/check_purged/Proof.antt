@@ -18,46 +18,43 @@ use Rattle.image_origin.proofs.origin.check_purged.Statement.{statement}
 use Rattle.image_origin.proofs.origin.check_purged.Tie as tie
 
 -- of the floors, then of the base values
-abbrev bytes : tie.After-check-floors → List ℕ
-bytes f = f.before.before.args.b.now
+abbrev bytes : tie.After-check_floors-floors → List ℕ
+bytes f = f.args.b.now
 
-abbrev floored : tie.After-check-base → tie.After-enum-told
+abbrev floored : tie.After-check_base-base → tie.In-Right
 floored v = v.before
 
-floors_are : (f : tie.After-check-floors) {t : Bool} → right f.check-floors.result ≡ t
+floors_are : (f : tie.After-check_floors-floors) {t : Bool} → right f.check_floors-floors.result ≡ t
     → (let b = bytes f in ascending (map line_of (floors_in b)) && every numbered (floors_in b)) ≡ t
-floors_are f e = sym f.check-floors.ensures ∙ e
+floors_are f e = sym f.check_floors-floors.ensures ∙ e
 
-values_are : (v : tie.After-check-base) {t : Bool} → right v.check-base.result ≡ t
-    → (let b = bytes (floored v).before.before in (ascending (map line_of (floors_in b)) && every numbered (floors_in b)) && every in_range (base_in b)) ≡ t
+values_are : (v : tie.After-check_base-base) {t : Bool} → right v.check_base-base.result ≡ t
+    → (let b = bytes (floored v).before in (ascending (map line_of (floors_in b)) && every numbered (floors_in b)) && every in_range (base_in b)) ≡ t
 values_are v e =
     let told = floored v in
-    ap₂ ◌&&◌ (floors_are told.before.before (ap right told.enum_told.given.1)) (sym v.check-base.ensures ∙ e)
+    ap₂ ◌&&◌ (floors_are told.before (ap right told.in-Right.is)) (sym v.check_base-base.ensures ∙ e)
 
-returns : tie.Need-returns
+returns : tie.Need-returns-in_default
 unfolding purged_right
 returns c =
-    let f = c.before.before in
-    let b = bytes f in
-    sym (ap (λ (t : Bool). t && every in_range (base_in b) && (leb (field b purged_block_at 4) field_limit && leb (field b purged_group_at 4) field_limit)) (floors_are f (ap right c.enum-told2.given.1)))
+    let b = bytes c.before in
+    sym (ap (λ (t : Bool). t && every in_range (base_in b) && (leb (field b purged_block_at 4) field_limit && leb (field b purged_group_at 4) field_limit)) (floors_are c.before (ap right c.in_default.is)))
 
-check-base-requires : tie.Need-check-base-requires
-check-base-requires c κs = counted_start c.before.before.before.before.requires
+check-base-requires : tie.Need-check_base-base-requires
+check-base-requires c κs = counted_start c.requires
 
-returns-2 : tie.Need-returns-2
+returns-2 : tie.Need-returns-in_default-base
 unfolding purged_right
 returns-2 c =
-    let v = c.before.before in
-    let b = bytes (floored v).before.before in
-    sym (ap (λ (t : Bool). t && (leb (field b purged_block_at 4) field_limit && leb (field b purged_group_at 4) field_limit)) (values_are v (ap right c.enum-told4.given.1)))
+    let b = bytes (floored c.before).before in
+    sym (ap (λ (t : Bool). t && (leb (field b purged_block_at 4) field_limit && leb (field b purged_group_at 4) field_limit)) (values_are c.before (ap right c.in_default-base.is)))
 
-returns-3 : tie.Need-returns-3
+returns-3 : tie.Need-returns
 unfolding purged_right
 returns-3 c =
-    let v = c.before.before.before in
-    let b = bytes (floored v).before.before in
-    c.check-limits.ensures
-    ∙ sym (ap (λ (t : Bool). t && (leb (field b purged_block_at 4) field_limit && leb (field b purged_group_at 4) field_limit)) (values_are v (ap right c.before.enum-told3.given.1)))
+    let b = bytes (floored c.before.before).before in
+    c.check_limits.ensures
+    ∙ sym (ap (λ (t : Bool). t && (leb (field b purged_block_at 4) field_limit && leb (field b purged_group_at 4) field_limit)) (values_are c.before.before (ap right c.in-Right-base.is)))
 
 pub check_purged_spec : {M : Type 1} → statement M
 check_purged_spec =

@@ -15,66 +15,63 @@ use Rattle.image_sections.specs.HeldLaws.{others_skip, others_take, others_lengt
 use Rattle.image_sections.proofs.held.held_places.Statement.{statement}
 use Rattle.image_sections.proofs.held.held_places.Tie as tie
 
-abbrev invariant-loop : tie.invariant-loop
+abbrev invariant-loop : tie.invariant-loop-i
 invariant-loop count places held₀ n₀ i₀ held n i =
     (i ≤ count) × ((n ≡ length (others_below i places)) × ((take n held ≡ others_below i places) × (length held ≡ capacity)))
 
-abbrev decreases-loop : tie.decreases-loop
+abbrev decreases-loop : tie.decreases-loop-i
 decreases-loop count places held₀ n₀ i₀ held n i = count - i
 
 -- there is room for one more
-free : (l : tie.At-loop invariant-loop decreases-loop) → l.loop.i < l.before.before.args.count → l.loop.n < capacity
-free l h = omega (arith, l.before.before.requires, l.loop.invariant.1.0, others_length l.loop.i l.before.before.args.places.now)
+free : (l : tie.At-loop-i invariant-loop decreases-loop) → l.loop-i.i < l.args.count → l.loop-i.n < capacity
+free l h = omega (arith, l.requires, l.loop-i.invariant.1.0, others_length l.loop-i.i l.args.places.now)
 
-loop-holds : tie.Need-loop-init invariant-loop decreases-loop
+loop-holds : tie.Need-loop-i-init invariant-loop decreases-loop
 loop-holds c = (omega arith, (refl, (refl, refl)))
 
-array-write-held : tie.Need-array-write-held invariant-loop decreases-loop
-array-write-held c = free c.before.before.before c.before.before.loop-test.true
+array-write-held : tie.Need-bounds-held-n invariant-loop decreases-loop
+array-write-held c = free c.before.before.before c.loop-i-test.true
 
-add-n : tie.Need-overflow-add-n invariant-loop decreases-loop
-add-n c = let h = free c.before.before.before c.before.before.loop-test.true in search rules
+add-n : tie.Need-overflow_add-n invariant-loop decreases-loop
+add-n c = let h = free c.before.before.before c.loop-i-test.true in search rules
 
-loop-again : tie.Need-loop-preserved invariant-loop decreases-loop
+loop-again : tie.Need-loop-i-preserved invariant-loop decreases-loop
 loop-again c =
-    let l = c.before.before.before in
-    let s = l.before.before in
-    let places = s.args.places.now in
-    let i = l.loop.i in
-    let n = l.loop.n in
-    let h = c.before.before.loop-test.true in
-    let inv = l.loop.invariant in
+    let places = c.args.places.now in
+    let i = c.loop-i.i in
+    let n = c.loop-i.n in
+    let h = c.loop-i-test.true in
+    let inv = c.loop-i.invariant in
     ⊎_elim
     (λ w.
-    let new = others_take i places (sym c.before.is_among.ensures ∙ w.0.taken) in (
+    let new = others_take i places (sym c.is_among.ensures ∙ w.0.taken) in (
       omega arith,
       (
         w.2 ∙ ap (λ (x : ℕ). x + 1) inv.1.0 ∙ sym (ap length new ∙ length-append (others_below i places) (i ∷ [])),
         (
-          ap₂ take (w.2 ∙ add-one n) w.1 ∙ take-suc-set l.loop.held n i (let f = free l h in omega arith)
+          ap₂ take (w.2 ∙ add-one n) w.1 ∙ take-suc-set c.loop-i.held n i (let f = free c.before.before.before h in omega arith)
               ∙ ap (λ (x : List ℕ). x ++ (i ∷ [])) inv.1.1.0 ∙ sym new,
-          ap length w.1 ∙ length-set l.loop.held n i ∙ inv.1.1.1,
+          ap length w.1 ∙ length-set c.loop-i.held n i ∙ inv.1.1.1,
         ),
       ),
     ))
     (λ w.
-    let old = others_skip i places (sym c.before.is_among.ensures ∙ w.0.left) in (
+    let old = others_skip i places (sym c.is_among.ensures ∙ w.0.left) in (
       omega arith,
       (
         w.2 ∙ inv.1.0 ∙ sym (ap length old),
         (ap₂ take w.2 w.1 ∙ inv.1.1.0 ∙ sym old, ap length w.1 ∙ inv.1.1.1),
       ),
     ))
-    c.if1.branch
+    c.if-not-is_among.branch
 
 returns : tie.Need-returns invariant-loop decreases-loop
 returns c =
-    let l = c.before.loop in
-    let s = c.before.before.before in
-    let e : l.i ≡ s.args.count = omega arith in
+    let l = c.loop-i in
+    let e : l.i ≡ c.args.count = omega arith in
     record {
-      others = l.invariant.1.1.0 ∙ ap (λ (x : ℕ). others_below x s.args.places.now) e;
-      size = l.invariant.1.0 ∙ ap (λ (x : ℕ). length (others_below x s.args.places.now)) e;
+      others = l.invariant.1.1.0 ∙ ap (λ (x : ℕ). others_below x c.args.places.now) e;
+      size = l.invariant.1.0 ∙ ap (λ (x : ℕ). length (others_below x c.args.places.now)) e;
     }
 
 pub held_places_spec : {M : Type 1} → statement M

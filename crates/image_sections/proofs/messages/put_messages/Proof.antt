@@ -17,7 +17,7 @@ use Rattle.image_sections.proofs.messages.put_messages.Statement.{statement}
 use Rattle.image_sections.proofs.messages.put_messages.Tie as tie
 
 -- the call as it began, from where the log's messages are copied
-abbrev start : tie.After-copy-messages → tie.Start
+abbrev start : tie.After-copy_messages-behind → tie.Start
 start c = c.before.before.before.before.before.before.before
 
 -- the messages of the log, and the held ones
@@ -36,30 +36,26 @@ room s = omega (
   s.requires.1,
 )
 
-copy-messages-requires : tie.Need-copy-messages-requires
+copy-messages-requires : tie.Need-copy_messages-behind-requires
 copy-messages-requires c κs =
-    let s = c.before.before.before.before.before.before in
-    (log_inside s.args.pool.now s.args.starts.now s.args.places.now s.requires.0.logged, omega (arith, room s))
+    (log_inside c.args.pool.now c.args.starts.now c.args.places.now c.requires.0.logged, omega (arith, room c.before.before.before.before.before.before))
 
-copy-messages-requires-2 : tie.Need-copy-messages-requires-2
+copy-messages-requires-2 : tie.Need-copy_messages-requires
 copy-messages-requires-2 c κs =
-    let first = c.before.before.before in
-    let s = start first in
+    let s = start c.before.before.before in
     let pool = s.args.pool.now in
     let starts = s.args.starts.now in (
-      subst (λ (x : List ℕ). TablePlaces pool starts x) (sym s.pre.0.held) (others_inside pool starts s.args.places.now s.pre.0.logged),
-      omega (arith, room s, first.copy-messages.ensures.end),
+      subst (λ (x : List ℕ). TablePlaces pool starts x) (sym s.requires.0.held) (others_inside pool starts s.args.places.now s.requires.0.logged),
+      omega (arith, room s, c.copy_messages-behind.ensures.end),
     )
 
 returns : tie.Need-returns
 returns c =
-    let second = c.before.before in
-    let first = second.before.before.before.before in
-    let s = start first in
+    let s = start c.before.before.before.before.before.before in
     let a = s.args in
-    subst (λ (b : List ℕ). Copied a.out.now a.at b second.copy-messages2.new.0 second.copy-messages2.result)
-    (messages_are a.pool.now a.starts.now a.places.now a.others.now s.pre.0)
-    (copied_behind (omega (arith, room s)) first.copy-messages.ensures second.copy-messages2.ensures)
+    subst (λ (b : List ℕ). Copied a.out.now a.at b c.copy_messages.new.out c.copy_messages.result)
+    (messages_are a.pool.now a.starts.now a.places.now a.others.now s.requires.0)
+    (copied_behind (omega (arith, room s)) c.copy_messages-behind.ensures c.copy_messages.ensures)
 
 pub put_messages_spec : {M : Type 1} → statement M
 put_messages_spec = tie.close (tie.spec copy-messages-requires copy-messages-requires-2 (λ c. search rules) returns)

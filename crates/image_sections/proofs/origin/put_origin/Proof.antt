@@ -17,21 +17,18 @@ use Rattle.image_sections.proofs.origin.put_origin.Tie as tie
 long : (s : tie.Start) → base_start ≤ s.args.start
 long s = omega (arith, s.requires.0, start_least s.args.pool.now)
 
-copy-at-requires : tie.Need-copy-at-requires
+copy-at-requires : tie.Need-copy_at-requires
 copy-at-requires c κs =
-    let s = c.before.before.before.before in
-    let n = s.args.start - base_start in
-    let rest : List ℕ = drop base_start s.args.pool.now in
-    (omega (arith, length-take-le n rest (omega (arith, length-drop base_start s.args.pool.now, s.requires.1))), omega (arith, long s, s.requires.2))
+    let n = c.args.start - base_start in
+    let rest : List ℕ = drop base_start c.args.pool.now in
+    (omega (arith, length-take-le n rest (omega (arith, length-drop base_start c.args.pool.now, c.requires.1))), omega (arith, long c.before.before.before.before, c.requires.2))
 
 returns : tie.Need-returns
 returns c =
-    let known = c.before.before.before.before.before in
-    let s = known.before.before in
-    let pool : List ℕ = s.args.pool.now in
-    c.before.before.copy_at.ensures
-    ∙ ap (λ (n : ℕ). paste s.args.out.now base_start (take (n - base_start) (drop base_start pool)) (n - base_start)) s.requires.0
-    ∙ origin_pasted pool (all_bytes pool (λ i. omega (arith, known.shared-slice-known.given i))) (omega (arith, s.requires.0, s.requires.1)) s.args.out.now
+    let pool : List ℕ = c.args.pool.now in
+    c.copy_at.ensures
+    ∙ ap (λ (n : ℕ). paste c.args.out.now base_start (take (n - base_start) (drop base_start pool)) (n - base_start)) c.requires.0
+    ∙ origin_pasted pool (all_bytes pool (λ i. omega (arith, c.shared_slice_known-1.given i))) (omega (arith, c.requires.0, c.requires.1)) c.args.out.now
 
 pub put_origin_spec : {M : Type 1} → statement M
 put_origin_spec =
@@ -39,7 +36,7 @@ put_origin_spec =
     (tie.spec
     (λ c. long c.before.before)
     (λ c. long c.before.before.before)
-    (λ c. omega (arith, long c.before.before.before, c.before.before.before.requires.1))
+    (λ c. omega (arith, long c.before.before.before, c.requires.1))
     (λ c. search rules)
     copy-at-requires
     (λ c. search rules)

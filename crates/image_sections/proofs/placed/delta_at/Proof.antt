@@ -11,18 +11,16 @@ use Rattle.image_sections.specs.LogPlaceLaws.{place_inside}
 use Rattle.image_sections.proofs.placed.delta_at.Statement.{statement}
 use Rattle.image_sections.proofs.placed.delta_at.Tie as tie
 
-cast-place : tie.Need-overflow-cast-place
-cast-place c = omega (arith, c.shared-slice-known4.given c.before.before.before.before.args.k)
+cast-place : tie.Need-overflow_cast-place
+cast-place c = omega (arith, c.shared_slice_known-4-1.given c.args.k)
 
-message-at-requires : tie.Need-message-at-requires
+message-at-requires : tie.Need-message_at-requires
 message-at-requires c κs =
-    let s = c.before.before.before.before in
-    (s.requires.0.holds, place_inside s.args.pool.now s.args.starts.now s.args.places.now s.requires.0 s.args.k s.requires.1)
+    (c.requires.0.holds, place_inside c.args.pool.now c.args.starts.now c.args.places.now c.requires.0 c.args.k c.requires.1)
 
 returns : tie.Need-returns
 returns c =
-    let s = c.before.before.before.before.before in
-    c.message-at.ensures ∙ sym (get_d_map (λ (i : ℕ). get_or (deltas_of s.args.pool.now s.args.starts.now) i []) s.args.places.now s.args.k 0 [] s.requires.1)
+    c.message_at.ensures ∙ sym (get_d_map (λ (i : ℕ). get_or (deltas_of c.args.pool.now c.args.starts.now) i []) c.args.places.now c.args.k 0 [] c.requires.1)
 
 pub delta_at_spec : {M : Type 1} → statement M
 delta_at_spec = tie.close (tie.spec (λ c. search rules) cast-place message-at-requires returns)

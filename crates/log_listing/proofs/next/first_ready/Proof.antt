@@ -9,46 +9,43 @@ use Rattle.log_listing.specs.NextLaws.{one_more}
 use Rattle.log_listing.proofs.next.first_ready.Statement.{statement}
 use Rattle.log_listing.proofs.next.first_ready.Tie as tie
 
-abbrev invariant-loop : tie.invariant-loop
+abbrev invariant-loop : tie.invariant-loop-k
 invariant-loop rows counts sorted placed from k₀ k = (from ≤ k) × ((a : ℕ) → from ≤ a → a < k → ready_in rows counts placed (get_or sorted a 0) ≡ false)
 
-abbrev decreases-loop : tie.decreases-loop
+abbrev decreases-loop : tie.decreases-loop-k
 decreases-loop rows counts sorted placed from k₀ k = length sorted - k
 
 -- the call, from the head of the loop, and the head of a turn
-abbrev entry : tie.At-loop invariant-loop decreases-loop → tie.Start invariant-loop decreases-loop
+abbrev entry : tie.At-loop-k invariant-loop decreases-loop → tie.Start invariant-loop decreases-loop
 entry c = c.before.before.before.before.before
 
-abbrev turn : tie.After-ready invariant-loop decreases-loop → tie.At-loop invariant-loop decreases-loop
+abbrev turn : tie.After-ready invariant-loop decreases-loop → tie.At-loop-k invariant-loop decreases-loop
 turn c = c.before.before.before
 
-loop-holds : tie.Need-loop-init invariant-loop decreases-loop
+loop-holds : tie.Need-loop-k-init invariant-loop decreases-loop
 loop-holds c = (omega arith, λ a h q. let z : ⊥ = omega arith in absurd z)
 
-cast-i : tie.Need-overflow-cast-i invariant-loop decreases-loop
-cast-i c = let l = c.before.before in omega (arith, (entry l).requires.0.marked l.loop.k (omega arith))
+cast-i : tie.Need-overflow_cast-i invariant-loop decreases-loop
+cast-i c = omega (arith, (entry c.before.before).requires.0.marked c.loop-k.k (omega arith))
 
 ready-requires : tie.Need-ready-requires invariant-loop decreases-loop
 ready-requires c κs =
-    let l = c.before.before in
-    let s = entry l in
-    (s.pre.0.rows_fit l.loop.k (omega arith), s.pre.1, s.pre.0.marked l.loop.k (omega arith))
+    let s = entry c.before.before in
+    (s.requires.0.rows_fit c.loop-k.k (omega arith), s.requires.1, s.requires.0.marked c.loop-k.k (omega arith))
 
-returns : tie.Need-returns invariant-loop decreases-loop
+returns : tie.Need-returns-then-ready invariant-loop decreases-loop
 returns c =
-    let a = c.before in
-    let l = turn a in
-    (l.loop.k, omega arith, refl, sym a.ready.ensures ∙ c.if1.true, l.loop.inv.1)
+    let l = turn c.before in
+    (l.loop-k.k, omega arith, refl, sym c.ready.ensures ∙ c.if-ready.true, l.loop-k.invariant.1)
 
-loop-again : tie.Need-loop-preserved invariant-loop decreases-loop
+loop-again : tie.Need-loop-k-preserved invariant-loop decreases-loop
 loop-again c =
-    let a = c.before in
-    let l = turn a in
+    let l = turn c.before in
     let s = entry l in
-    (omega arith, one_more (λ (q : ℕ). ready_in s.args.rows.now s.args.counts.now s.args.placed.now (get_or s.args.sorted.now q 0) ≡ false) s.args.from l.loop.k l.loop.inv.1 (sym a.ready.ensures ∙ c.if1.false))
+    (omega arith, one_more (λ (q : ℕ). ready_in s.args.rows.now s.args.counts.now s.args.placed.now (get_or s.args.sorted.now q 0) ≡ false) s.args.from l.loop-k.k l.loop-k.invariant.1 (sym c.ready.ensures ∙ c.if-ready.false))
 
-returns-2 : tie.Need-returns-2 invariant-loop decreases-loop
-returns-2 c = λ a h q. c.before.loop.invariant.1 a h (omega arith)
+returns-2 : tie.Need-returns invariant-loop decreases-loop
+returns-2 c = λ a h q. c.loop-k.invariant.1 a h (omega arith)
 
 pub first_ready_spec : {M : Type 1} → statement M
 first_ready_spec =

@@ -4,7 +4,7 @@ use Rattle.log_order.proofs.LogOrder.begin.Statement.{statement}
 use Rattle.log_order.proofs.LogOrder.begin.Tie as tie
 
 returns : tie.Need-returns
-returns c = begun c.args.old _ c.args.old-count c.requires
+returns c = begun c.args.old _ c.args.old_count c.requires
 
 pub begin_spec : {M : Type 1} → statement M
 begin_spec = tie.close (tie.spec returns)

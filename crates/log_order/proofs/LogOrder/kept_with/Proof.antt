@@ -7,33 +7,27 @@ use borrow.Author.Rules.{rules}
 use Rattle.log_order.proofs.LogOrder.kept_with.Statement.{statement}
 use Rattle.log_order.proofs.LogOrder.kept_with.Tie as tie
 
-olds : (s : tie.Start) → length s.args.t1.old ≡ capacity
+olds : (s : tie.Start) → length s.args.self.old ≡ capacity
 olds s = search rules
 
-news : (s : tie.Start) → length s.args.t1.places ≡ capacity
+news : (s : tie.Start) → length s.args.self.places ≡ capacity
 news s = search rules
 
-returns : tie.Need-returns
+returns : tie.Need-returns-then-self-at
 returns c =
-    let s = c.before in
-    kept_parted s.args.t1 (olds s) (news s) s.requires s.args.i c.if1.true
+    kept_parted c.args.self (olds c.before) (news c.before) c.requires c.args.i c.if-self-at.true
 
-returns-2 : tie.Need-returns-2
+returns-2 : tie.Need-returns-then-self-at-2
 returns-2 c =
-    let s = c.before.before in
-    kept_past s.args.t1 (olds s) (news s) s.requires s.args.i c.if2.true
+    kept_past c.args.self (olds c.before.before) (news c.before.before) c.requires c.args.i c.if-self-at-2.true
 
-returns-3 : tie.Need-returns-3
+returns-3 : tie.Need-returns-then-self-at-3
 returns-3 c =
-    let past = c.before.before in
-    let s = past.before.before in
-    kept_other s.args.t1 (olds s) (news s) s.requires s.args.i past.before.if1.false past.if2.false c.if3.true
+    kept_other c.args.self (olds c.before.before.before.before) (news c.before.before.before.before) c.requires c.args.i c.if-self-at.false c.if-self-at-2.false c.if-self-at-3.true
 
-returns-4 : tie.Need-returns-4
+returns-4 : tie.Need-returns
 returns-4 c =
-    let past = c.before.before in
-    let s = past.before.before in
-    kept_more s.args.t1 (olds s) (news s) s.requires s.args.i past.before.if1.false past.if2.false c.if3.false
+    kept_more c.args.self (olds c.before.before.before.before) (news c.before.before.before.before) c.requires c.args.i c.if-self-at.false c.if-self-at-2.false c.if-self-at-3.false
 
 pub kept_with_spec : {M : Type 1} → statement M
 kept_with_spec =

@@ -9,10 +9,10 @@ use Rattle.log_order.proofs.LogOrder.place.Tie as tie
 
 returns : tie.Need-returns
 returns c =
-    let o = c.before.args.self in
+    let o = c.args.self in
     let olds : length o.old ≡ capacity = search rules in
     let news : length o.places ≡ capacity = search rules in
-    placed o olds news c.before.requires.0 c.before.args.i c.kept-with.result c.before.requires.1 c.kept-with.ensures
+    placed o olds news c.requires.0 c.args.i c.kept_with-kept.result c.requires.1 c.kept_with-kept.ensures
 
 pub place_spec : {M : Type 1} → statement M
 place_spec = tie.close (tie.spec (λ c κs. search rules) (λ c. search rules) (λ c. search rules) returns)

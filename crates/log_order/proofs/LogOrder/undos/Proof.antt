@@ -8,19 +8,19 @@ use Rattle.log_order.specs.LogOrderLaws.{kept_le, undos_is}
 use Rattle.log_order.proofs.LogOrder.undos.Statement.{statement}
 use Rattle.log_order.proofs.LogOrder.undos.Tie as tie
 
-sub-result : tie.Need-overflow-sub-result
+sub-result : tie.Need-overflow_sub-result
 sub-result c =
-    let o = c.before.args.self in
+    let o = c.args.self in
     let olds : length o.old ≡ capacity = search rules in
     let news : length o.places ≡ capacity = search rules in
-    omega (arith, kept_le o olds news c.before.requires)
+    omega (arith, kept_le o olds news c.requires)
 
 returns : tie.Need-returns
 returns c =
-    let o = c.before.args.self in
+    let o = c.args.self in
     let olds : length o.old ≡ capacity = search rules in
     let news : length o.places ≡ capacity = search rules in
-    undos_is o olds news c.before.requires
+    undos_is o olds news c.requires
 
 pub undos_spec : {M : Type 1} → statement M
 undos_spec = tie.close (tie.spec sub-result returns)

@@ -19,94 +19,91 @@ use Rattle.log_prepared.specs.KeyMaking.{keys_none, keys_more, keys_all}
 use Rattle.log_prepared.proofs.keys.fill_keys.Statement.{statement}
 use Rattle.log_prepared.proofs.keys.fill_keys.Tie as tie
 
-abbrev invariant-loop : tie.invariant-loop
+abbrev invariant-loop : tie.invariant-loop-k
 invariant-loop keys₀ pool starts blocks indices k₀ keys k = (k ≤ length indices) × KeysMade (deltas_of pool starts) blocks (take k indices) keys
 
-abbrev decreases-loop : tie.decreases-loop
+abbrev decreases-loop : tie.decreases-loop-k
 decreases-loop keys₀ pool starts blocks indices k₀ keys k = length indices - k
 
 -- where the call began, where a turn reads its index, and where it made the key
-abbrev entry : tie.At-loop invariant-loop decreases-loop → tie.Start invariant-loop decreases-loop
+abbrev entry : tie.At-loop-k invariant-loop decreases-loop → tie.Start invariant-loop decreases-loop
 entry c = c.before.before.before.before.before.before
 
-abbrev turn : tie.After-shared-slice-known5 invariant-loop decreases-loop → tie.At-loop invariant-loop decreases-loop
+abbrev turn : tie.After-shared_slice_known-in-loop-k-1 invariant-loop decreases-loop → tie.At-loop-k invariant-loop decreases-loop
 turn c = c.before.before
 
-abbrev indexed : tie.After-message-at invariant-loop decreases-loop → tie.After-shared-slice-known5 invariant-loop decreases-loop
+abbrev indexed : tie.After-message_at invariant-loop decreases-loop → tie.After-shared_slice_known-in-loop-k-1 invariant-loop decreases-loop
 indexed c = c.before
 
-abbrev made : tie.After-put-key-arg invariant-loop decreases-loop → tie.After-make-key invariant-loop decreases-loop
+abbrev made : tie.After-put_key-arg-1 invariant-loop decreases-loop → tie.After-make_key-key invariant-loop decreases-loop
 made c = c.before
 
-abbrev messaged : tie.After-make-key invariant-loop decreases-loop → tie.After-message-at invariant-loop decreases-loop
+abbrev messaged : tie.After-make_key-key invariant-loop decreases-loop → tie.After-message_at invariant-loop decreases-loop
 messaged c = c.before.before.before
 
 -- the index is one of the table
-inside : (c : tie.After-shared-slice-known5 invariant-loop decreases-loop) → get_or (entry (turn c)).args.indices.now (turn c).loop.k 0 < length (entry (turn c)).args.starts.now
-inside c = let l = turn c in let s = entry l in s.pre.3 (get_or s.args.indices.now l.loop.k 0) (get_d_∈ s.args.indices.now l.loop.k 0 (omega arith))
+inside : (c : tie.After-shared_slice_known-in-loop-k-1 invariant-loop decreases-loop) → get_or (entry (turn c)).args.indices.now (turn c).loop-k.k 0 < length (entry (turn c)).args.starts.now
+inside c = let l = turn c in let s = entry l in s.requires.3 (get_or s.args.indices.now l.loop-k.k 0) (get_d_∈ s.args.indices.now l.loop-k.k 0 (omega arith))
 
 few : (s : tie.Start invariant-loop decreases-loop) → length s.args.starts.now ≤ capacity
 few s = omega (arith, s.requires.1.fits, length-map s.args.starts.now (message_from s.args.pool.now))
 
-loop-holds : tie.Need-loop-init invariant-loop decreases-loop
+loop-holds : tie.Need-loop-k-init invariant-loop decreases-loop
 loop-holds c =
-    let s = c.before.before.before.before.before in
-    (omega arith, keys_none (deltas_of s.args.pool.now s.args.starts.now) s.args.blocks.now s.args.indices.now s.args.keys.now s.requires.0)
+    (omega arith, keys_none (deltas_of c.args.pool.now c.args.starts.now) c.args.blocks.now c.args.indices.now c.args.keys.now c.requires.0)
 
-cast-i : tie.Need-overflow-cast-i invariant-loop decreases-loop
+cast-i : tie.Need-overflow_cast-i invariant-loop decreases-loop
 cast-i c = omega (arith, inside c, few (entry (turn c)))
 
-message-at-requires : tie.Need-message-at-requires invariant-loop decreases-loop
-message-at-requires c κs = ((entry (turn c)).pre.1, inside c)
+message-at-requires : tie.Need-message_at-requires invariant-loop decreases-loop
+message-at-requires c κs = ((entry (turn c)).requires.1, inside c)
 
-read-header-requires : tie.Need-read-header-requires invariant-loop decreases-loop
+read-header-requires : tie.Need-read_header-header-requires invariant-loop decreases-loop
 read-header-requires c κs =
     let i = indexed c in
     let s = entry (turn i) in
-    omega (arith, ap length c.message-at.ensures, entry_long s.args.pool.now s.args.starts.now s.pre.1 (get_or s.args.indices.now (turn i).loop.k 0) (inside i))
+    omega (arith, ap length c.message_at.ensures, entry_long s.args.pool.now s.args.starts.now s.requires.1 (get_or s.args.indices.now (turn i).loop-k.k 0) (inside i))
 
-mul-make-key : tie.Need-overflow-mul-make-key invariant-loop decreases-loop
+mul-make-key : tie.Need-offset_bounds-blocks-i invariant-loop decreases-loop
 mul-make-key c = let i = indexed c.before in omega (arith, inside i, few (entry (turn i)))
 
-shared-slice-read-make-key : tie.Need-shared-slice-read-make-key invariant-loop decreases-loop
+shared-slice-read-make-key : tie.Need-bounds-blocks-i invariant-loop decreases-loop
 shared-slice-read-make-key c =
     let i = indexed c.before.before in
     let s = entry (turn i) in
-    omega (arith, inside i, few s, s.pre.2)
+    omega (arith, inside i, few s, s.requires.2)
 
-make-key-requires : tie.Need-make-key-requires invariant-loop decreases-loop
+make-key-requires : tie.Need-make_key-key-requires invariant-loop decreases-loop
 make-key-requires c κs = tt
 
-put-key-requires : tie.Need-put-key-requires invariant-loop decreases-loop
+put-key-requires : tie.Need-put_key-requires invariant-loop decreases-loop
 put-key-requires c κs =
     let i = indexed (messaged (made c)) in
-    omega (arith, (turn i).loop.inv.1.size, inside i, few (entry (turn i)))
+    omega (arith, (turn i).loop-k.invariant.1.size, inside i, few (entry (turn i)))
 
-loop-again : tie.Need-loop-preserved invariant-loop decreases-loop
+loop-again : tie.Need-loop-k-preserved invariant-loop decreases-loop
 loop-again c =
-    let put = c.before.before in
-    let m = made put.before in
+    let m = made c.before.before.before in
     let at = messaged m in
     let i = indexed at in
     let l = turn i in
     let s = entry l in
-    let header = m.before.before.read-header.ensures ∙ ap header_of at.message-at.ensures in
-    let delta : Message = get_or (deltas_of s.args.pool.now s.args.starts.now) (get_or s.args.indices.now l.loop.k 0) [] in
-    let block : ℕ = get_or s.args.blocks.now (get_or s.args.indices.now l.loop.k 0) 0 in (
+    let header = m.read_header-header.ensures ∙ ap header_of at.message_at.ensures in
+    let delta : Message = get_or (deltas_of s.args.pool.now s.args.starts.now) (get_or s.args.indices.now l.loop-k.k 0) [] in
+    let block : ℕ = get_or s.args.blocks.now (get_or s.args.indices.now l.loop-k.k 0) 0 in (
       omega arith,
-      subst (λ (x : List ℕ). KeysMade (deltas_of s.args.pool.now s.args.starts.now) s.args.blocks.now (take (l.loop.k + 1) s.args.indices.now) x) (sym put.put-key.ensures)
-          (keys_more (deltas_of s.args.pool.now s.args.starts.now) s.args.blocks.now s.args.indices.now l.loop.keys l.loop.k m.make-key.result (omega arith) (omega (arith, inside i, few s)) l.loop.inv.1
-          (m.make-key.ensures ∙ ap (λ (h : Header). header_key block (priority_number h.priority) h) header ∙ ap (λ (p : Option ℕ). header_key block p (header_of delta)) (stated_is delta))),
+      subst (λ (x : List ℕ). KeysMade (deltas_of s.args.pool.now s.args.starts.now) s.args.blocks.now (take (l.loop-k.k + 1) s.args.indices.now) x) (sym c.put_key.ensures)
+          (keys_more (deltas_of s.args.pool.now s.args.starts.now) s.args.blocks.now s.args.indices.now l.loop-k.keys l.loop-k.k m.make_key-key.result (omega arith) (omega (arith, inside i, few s)) l.loop-k.invariant.1
+          (m.make_key-key.ensures ∙ ap (λ (h : Header). header_key block (priority_number h.priority) h) header ∙ ap (λ (p : Option ℕ). header_key block p (header_of delta)) (stated_is delta))),
     )
 
-same_length : tie.Need-same-length invariant-loop decreases-loop
-same_length c = let l = c.before in omega (arith, l.loop.invariant.1.size, (entry l).requires.0)
+same_length : tie.Need-shape_of-keys invariant-loop decreases-loop
+same_length c = omega (arith, c.loop-k.invariant.1.size, (entry c.before).requires.0)
 
 returns : tie.Need-returns invariant-loop decreases-loop
 returns c =
-    let l = c.before in
-    let s = entry l in
-    keys_all (deltas_of s.args.pool.now s.args.starts.now) s.args.blocks.now s.args.indices.now l.loop.keys l.loop.k (omega arith) l.loop.invariant.1
+    let s = entry c.before in
+    keys_all (deltas_of s.args.pool.now s.args.starts.now) s.args.blocks.now s.args.indices.now c.loop-k.keys c.loop-k.k (omega arith) c.loop-k.invariant.1
 
 pub fill_keys_spec : {M : Type 1} → statement M
 fill_keys_spec =

@@ -19,39 +19,39 @@ use Rattle.set_closure.proofs.closing.close.Tie as tie
 abbrev Idle : Bool → List ℕ → List ℕ → List ℕ → List ℕ → List ℕ → Type 0
 Idle settled pool starts rows counts placed = settled ≡ true → (i : ℕ) → i < length (deltas_of pool starts) → ready_in rows counts placed i ≡ false
 
-abbrev invariant-loop : tie.invariant-loop
+abbrev invariant-loop : tie.invariant-loop-settled
 invariant-loop blocks₀ order₀ pool starts rows counts placed₀ count₀ settled₀ blocks order placed count settled =
     Closing (set_in pool starts) placed blocks order count × Idle settled pool starts rows counts placed
 
-abbrev decreases-loop : tie.decreases-loop
+abbrev decreases-loop : tie.decreases-loop-settled
 decreases-loop blocks₀ order₀ pool starts rows counts placed₀ count₀ settled₀ blocks order placed count settled =
     2 * (length starts - count) + cond settled 0 1
 
 -- where the loop is entered, and where a turn of it begins
-abbrev entry : tie.At-loop invariant-loop decreases-loop → tie.Start invariant-loop decreases-loop
+abbrev entry : tie.At-loop-settled invariant-loop decreases-loop → tie.Start invariant-loop decreases-loop
 entry c = c.before.before.before.before.before.before.before
 
-abbrev turn : tie.After-pass-arg2 invariant-loop decreases-loop → tie.In-loop invariant-loop decreases-loop
+abbrev turn : tie.After-pass-arg-in-loop-settled-1 invariant-loop decreases-loop → tie.In-loop-settled invariant-loop decreases-loop
 turn c = c.before.before.before
 
-abbrev passed : tie.After-slice-known4 invariant-loop decreases-loop → tie.After-pass invariant-loop decreases-loop
+abbrev passed : tie.After-slice_known-in-loop-settled-2-1 invariant-loop decreases-loop → tie.After-pass-next invariant-loop decreases-loop
 passed c = c.before.before.before.before.before
 
-loop-holds : tie.Need-loop-init invariant-loop decreases-loop
+loop-holds : tie.Need-loop-settled-init invariant-loop decreases-loop
 loop-holds c =
-    let s = c.before.before.before.before.before.before in (
-      closing_none (set_in s.args.pool.now s.args.starts.now) s.requires.2 s.args.blocks.now s.args.order.now s.requires.0 s.requires.1,
+    (
+      closing_none (set_in c.args.pool.now c.args.starts.now) c.requires.2 c.args.blocks.now c.args.order.now c.requires.0 c.requires.1,
       λ e. let z : ◌≡◌ {A = ℕ} 0 1 = cc in absurd (let y : ⊥ = omega arith in y),
     )
 
-slice-aggregate-pass : tie.Need-slice-aggregate-pass invariant-loop decreases-loop
-slice-aggregate-pass c = omega (arith, c.before.before.loop.invariant.0.placing.marks.size)
+slice-aggregate-pass : tie.Need-slice_bounds-pass-end invariant-loop decreases-loop
+slice-aggregate-pass c = omega (arith, c.loop-settled.invariant.0.placing.marks.size)
 
-pass-requires : tie.Need-pass-requires invariant-loop decreases-loop
+pass-requires : tie.Need-pass-next-requires invariant-loop decreases-loop
 pass-requires c κs =
-    let l = (turn c).before in
-    let s = entry l in
-    (s.pre.2, s.pre.3, l.loop.inv.0)
+    let l = (turn c) in
+    let s = entry l.before in
+    (s.requires.2, s.requires.3, l.loop-settled.invariant.0)
 
 -- a pass that settles nothing has placed one more
 fewer : (n count next : ℕ) (settled : Bool) → settled ≡ false → count ≤ next → next ≤ n → 2 * (n - next) + cond (eqb next count) 0 1 < 2 * (n - count) + cond settled 0 1
@@ -61,25 +61,25 @@ fewer n count next settled e p q = subst (λ (t : Bool). 2 * (n - next) + cond (
     go true f = omega arith
     go false f = let more : next ≡ count → ⊥ = f tt in omega arith
 
-loop-less : tie.Need-loop-smaller invariant-loop decreases-loop
+loop-less : tie.Need-loop-settled-smaller invariant-loop decreases-loop
 loop-less c =
     let a = passed c in
     let i = turn a.before in
     let s = entry i.before in
-    fewer (length s.args.starts.now) i.before.loop.count a.pass.result i.before.loop.settled (i.loop-test.taken) a.pass.ensures.grows
-    (omega (arith, a.pass.ensures.closing.few, length-map s.args.starts.now (message_from s.args.pool.now)))
+    fewer (length s.args.starts.now) i.loop-settled.count a.pass-next.result i.loop-settled.settled (i.loop-settled-test.true) a.pass-next.ensures.grows
+    (omega (arith, a.pass-next.ensures.closing.few, length-map s.args.starts.now (message_from s.args.pool.now)))
 
-loop-again : tie.Need-loop-preserved invariant-loop decreases-loop
-loop-again c = let a = passed c in (a.pass.ensures.closing, λ e. a.pass.ensures.idle (eqb-true _ _ e))
+loop-again : tie.Need-loop-settled-preserved invariant-loop decreases-loop
+loop-again c = let a = passed c in (a.pass-next.ensures.closing, λ e. a.pass-next.ensures.idle (eqb-true _ _ e))
 
-same_length : tie.Need-same-length invariant-loop decreases-loop
-same_length c = let l = c.before in omega (arith, l.loop.invariant.0.effective.size, (entry l).requires.0)
+same_length : tie.Need-shape_of-blocks invariant-loop decreases-loop
+same_length c = omega (arith, c.loop-settled.invariant.0.effective.size, (entry c.before).requires.0)
 
-same-length-2 : tie.Need-same-length-2 invariant-loop decreases-loop
-same-length-2 c = let l = c.before in omega (arith, l.loop.invariant.0.size, (entry l).requires.1)
+same-length-2 : tie.Need-shape_of-order invariant-loop decreases-loop
+same-length-2 c = omega (arith, c.loop-settled.invariant.0.size, (entry c.before).requires.1)
 
 returns : tie.Need-returns invariant-loop decreases-loop
-returns c = let l = c.before in record { placed = l.loop.placed; closing = l.loop.invariant.0; idle = l.loop.invariant.1 (c.loop-test.false) }
+returns c = record { placed = c.loop-settled.placed; closing = c.loop-settled.invariant.0; idle = c.loop-settled.invariant.1 (c.loop-settled-test.false) }
 
 pub close_spec : {M : Type 1} → statement M
 close_spec =

@@ -9,46 +9,43 @@ use Rattle.set_closure.specs.ClosingLaws.{passing_none, passing_more, passing_al
 use Rattle.set_closure.proofs.passing.pass.Statement.{statement}
 use Rattle.set_closure.proofs.passing.pass.Tie as tie
 
-abbrev invariant-loop : tie.invariant-loop
+abbrev invariant-loop : tie.invariant-loop-i
 invariant-loop pool starts rows counts placed₀ blocks₀ order₀ count n₀ i₀ placed blocks order n i =
     (i ≤ length starts) × Passing (set_in pool starts) rows counts count placed blocks order n i
 
-abbrev decreases-loop : tie.decreases-loop
+abbrev decreases-loop : tie.decreases-loop-i
 decreases-loop pool starts rows counts placed₀ blocks₀ order₀ count n₀ i₀ placed blocks order n i = length starts - i
 
 -- where the loop is entered, and where a turn of it begins
-abbrev entry : tie.After-slice-known3 invariant-loop decreases-loop → tie.Start invariant-loop decreases-loop
+abbrev entry : tie.After-slice_known-3-1 invariant-loop decreases-loop → tie.Start invariant-loop decreases-loop
 entry c = c.before.before.before.before.before.before.before
 
-abbrev turn : tie.After-try-place invariant-loop decreases-loop → tie.At-loop invariant-loop decreases-loop
+abbrev turn : tie.After-try_place-n invariant-loop decreases-loop → tie.At-loop-i invariant-loop decreases-loop
 turn c = c.before.before.before.before.before
 
-loop-holds : tie.Need-loop-init invariant-loop decreases-loop
+loop-holds : tie.Need-loop-i-init invariant-loop decreases-loop
 loop-holds c =
     let s = entry c in
-    (omega arith, passing_none (set_in s.args.pool.now s.args.starts.now) s.args.rows.now s.args.counts.now s.args.count s.args.placed.now s.args.blocks.now s.args.order.now s.pre.2)
+    (omega arith, passing_none (set_in s.args.pool.now s.args.starts.now) s.args.rows.now s.args.counts.now s.args.count s.args.placed.now s.args.blocks.now s.args.order.now s.requires.2)
 
-try-place-requires : tie.Need-try-place-requires invariant-loop decreases-loop
+try-place-requires : tie.Need-try_place-n-requires invariant-loop decreases-loop
 try-place-requires c κs =
-    let l = c.before.before.before.before in
-    let s = entry l.before in
-    (s.pre.0, s.pre.1, l.loop.invariant.1.closing, omega arith)
+    let s = entry c.before.before.before.before.before in
+    (s.requires.0, s.requires.1, c.loop-i.invariant.1.closing, omega arith)
 
-loop-again : tie.Need-loop-preserved invariant-loop decreases-loop
+loop-again : tie.Need-loop-i-preserved invariant-loop decreases-loop
 loop-again c =
-    let a = c.before.before.before.before.before.before in
-    let l = turn a in
+    let l = turn c.before.before.before.before.before.before in
     let s = entry l.before in (
       omega arith,
-      passing_more (set_in s.args.pool.now s.args.starts.now) s.args.rows.now s.args.counts.now s.args.count l.loop.placed _ _ _ l.loop.n a.try-place.result l.loop.i l.loop.inv.1 a.try-place.ensures,
+      passing_more (set_in s.args.pool.now s.args.starts.now) s.args.rows.now s.args.counts.now s.args.count l.loop-i.placed _ _ _ l.loop-i.n c.try_place-n.result l.loop-i.i l.loop-i.invariant.1 c.try_place-n.ensures,
     )
 
 returns : tie.Need-returns invariant-loop decreases-loop
 returns c =
-    let l = c.before in
-    let s = entry l.before in
-    passing_all (set_in s.args.pool.now s.args.starts.now) s.args.rows.now s.args.counts.now s.args.count l.loop.placed l.loop.blocks l.loop.order l.loop.n l.loop.i
-    (omega (arith, length-map s.args.starts.now (message_from s.args.pool.now))) l.loop.invariant.1
+    let s = entry c.before.before in
+    passing_all (set_in s.args.pool.now s.args.starts.now) s.args.rows.now s.args.counts.now s.args.count c.loop-i.placed c.loop-i.blocks c.loop-i.order c.loop-i.n c.loop-i.i
+    (omega (arith, length-map s.args.starts.now (message_from s.args.pool.now))) c.loop-i.invariant.1
 
 pub pass_spec : {M : Type 1} → statement M
 pass_spec =

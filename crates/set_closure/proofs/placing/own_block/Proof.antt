@@ -11,25 +11,23 @@ use Rattle.set_table.specs.PlaceLaws.{entry_long}
 use Rattle.set_closure.proofs.placing.own_block.Statement.{statement}
 use Rattle.set_closure.proofs.placing.own_block.Tie as tie
 
-abbrev start : tie.After-message-at → tie.Start
+abbrev start : tie.After-message_at → tie.Start
 start c = c.before.before.before
 
-get-u32-requires : tie.Need-get-u32-requires
+get-u32-requires : tie.Need-get_u32-stated-requires
 get-u32-requires c κs =
     let s = start c in
-    omega (arith, ap length c.message-at.ensures, entry_long s.args.pool.now s.args.starts.now s.pre.0 s.args.i s.pre.1)
+    omega (arith, ap length c.message_at.ensures, entry_long s.args.pool.now s.args.starts.now s.requires.0 s.args.i s.requires.1)
 
-get-u32-requires-2 : tie.Need-get-u32-requires-2
+get-u32-requires-2 : tie.Need-get_u32-requires
 get-u32-requires-2 c κs =
     let s = start c.before in
-    omega (arith, start_least s.args.pool.now, room_of s.args.pool.now s.pre.0.right)
+    omega (arith, start_least s.args.pool.now, room_of s.args.pool.now s.requires.0.right)
 
 returns : tie.Need-returns
 unfolding origin_in
 returns c =
-    let purged = c.before in
-    let stated = purged.before in
-    c.greater.ensures ∙ ap₂ max (stated.get-u32.ensures ∙ ap block_of stated.before.message-at.ensures) purged.get-u322.ensures
+    c.greater.ensures ∙ ap₂ max (c.get_u32-stated.ensures ∙ ap block_of c.message_at.ensures) c.get_u32.ensures
 
 pub own_block_spec : {M : Type 1} → statement M
 own_block_spec =

@@ -14,18 +14,18 @@ use Rattle.set_needs.specs.IndexLaws.{index_here, index_none}
 use Rattle.set_needs.proofs.sequences.index_of.Statement.{statement}
 use Rattle.set_needs.proofs.sequences.index_of.Tie as tie
 
-abbrev invariant-loop : tie.invariant-loop
+abbrev invariant-loop : tie.invariant-loop-first
 invariant-loop high low s first₀ last₀ first last = Narrows (λ k. get_or (names_in high low) k 0) (length high) (sequence_number s) first last
 
-abbrev decreases-loop : tie.decreases-loop
+abbrev decreases-loop : tie.decreases-loop-first
 decreases-loop high low s first₀ last₀ first last = last - first
 
 -- the start of a turn's call, and what the turn looks at
-abbrev start : tie.At-loop invariant-loop decreases-loop → tie.Start invariant-loop decreases-loop
+abbrev start : tie.At-loop-first invariant-loop decreases-loop → tie.Start invariant-loop decreases-loop
 start a = a.before.before.before
 
-abbrev place : tie.At-loop invariant-loop decreases-loop → ℕ
-place a = middle a.loop.first a.loop.last
+abbrev place : tie.At-loop-first invariant-loop decreases-loop → ℕ
+place a = middle a.loop-first.first a.loop-first.last
 
 abbrev names : tie.Start invariant-loop decreases-loop → List ℕ
 names s = names_in s.args.high.now s.args.low.now
@@ -37,35 +37,34 @@ ascends : (s : tie.Start invariant-loop decreases-loop) (i j : ℕ) → i < j �
 ascends s i j p q = s.requires.ascends i j p (omega (arith, size s))
 
 -- the turn in which two sequences were compared, and the name that it read
-abbrev turn : tie.After-equal invariant-loop decreases-loop → tie.In-loop invariant-loop decreases-loop
+abbrev turn : tie.After-equal invariant-loop decreases-loop → tie.In-loop-first invariant-loop decreases-loop
 turn c = c.before.before.before
 
-name : (t : tie.In-loop invariant-loop decreases-loop) → let a = t.before in
-    get_or (names (start a)) (place a) 0 ≡ name_of (get_or (start a).args.high.now (place a) 0) (get_or (start a).args.low.now (place a) 0)
-name t = let a = t.before in name_at (start a).args.high.now (start a).args.low.now (place a) (start a).requires.paired (omega arith)
+name : (t : tie.In-loop-first invariant-loop decreases-loop) → get_or (names (start t.before)) (place t.before) 0 ≡ name_of (get_or (start t.before).args.high.now (place t.before) 0) (get_or (start t.before).args.low.now (place t.before) 0)
+name t = name_at (start t.before).args.high.now (start t.before).args.low.now (place t.before) (start t.before).requires.paired (omega arith)
 
-returns : tie.Need-returns invariant-loop decreases-loop
+returns : tie.Need-returns-then-equal invariant-loop decreases-loop
 returns c =
     let t = turn c.before in
     let s = start t.before in
-    index_here (names s) s.pre.ascends (sequence_number s.args.s) (place t.before) (omega (arith, size s))
-    (name t ∙ eqb-true _ _ (sym c.before.equal.ensures ∙ c.if1.true))
+    index_here (names s) s.requires.ascends (sequence_number s.args.s) (place t.before) (omega (arith, size s))
+    (name t ∙ eqb-true _ _ (sym c.equal.ensures ∙ c.if-equal.true))
 
-loop-again : tie.Need-loop-preserved invariant-loop decreases-loop
+loop-again : tie.Need-loop-first-preserved-then-less invariant-loop decreases-loop
 loop-again c =
     let t = turn c.before.before.before in
-    narrows_up t.before.loop.inv (ascends (start t.before)) (omega arith) (name t) c.before.less.ensures c.if2.true
+    narrows_up t.loop-first.invariant (ascends (start t.before)) (omega arith) (name t) c.less.ensures c.if-less.true
 
-loop-again-2 : tie.Need-loop-preserved-2 invariant-loop decreases-loop
+loop-again-2 : tie.Need-loop-first-preserved invariant-loop decreases-loop
 loop-again-2 c =
     let t = turn c.before.before.before in
-    narrows_down t.before.loop.inv (ascends (start t.before)) (omega arith) (name t) c.before.less.ensures c.if2.false
-    c.before.before.before.equal.ensures c.before.before.if1.false
+    narrows_down t.loop-first.invariant (ascends (start t.before)) (omega arith) (name t) c.less.ensures c.if-less.false
+    c.equal.ensures c.if-equal.false
 
-returns-2 : tie.Need-returns-2 invariant-loop decreases-loop
+returns-2 : tie.Need-returns invariant-loop decreases-loop
 returns-2 c =
     let s = start c.before in
-    let l = c.before.loop in
+    let l = c.loop-first in
     index_none (names s) (sequence_number s.args.s) l.first l.invariant.before (λ k p q. l.invariant.after k (omega arith) (omega (arith, size s)))
 
 pub index_of_spec : {M : Type 1} → statement M
@@ -79,10 +78,10 @@ index_of_spec =
     (λ c. omega arith)
     (λ c. omega arith)
     (λ c. omega arith)
-    (λ c. omega (arith, (start c.before.before).pre.few))
-    (λ c. omega (arith, (start c.before.before.before).pre.paired))
+    (λ c. omega (arith, (start c.before.before).requires.few))
+    (λ c. omega (arith, (start c.before.before.before).requires.paired))
     (λ c κs. search rules)
-    (λ c. omega (arith, (start (turn c.before).before).pre.few))
+    (λ c. omega (arith, (start (turn c.before).before).requires.few))
     returns
     (λ c κs. search rules)
     (λ c. omega arith)

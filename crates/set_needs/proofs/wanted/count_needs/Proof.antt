@@ -9,32 +9,30 @@ use Rattle.set_needs.proofs.wanted.count_needs.Statement.{statement}
 use Rattle.set_needs.proofs.wanted.count_needs.Tie as tie
 
 -- the start, and the call that counted the dependencies
-abbrev start : tie.After-byte → tie.Start
+abbrev start : tie.After-byte-dependencies → tie.Start
 start c = c.before.before
 
-abbrev counted : tie.After-predecessor-of → tie.After-byte
+abbrev counted : tie.After-predecessor_of-before → tie.After-byte-dependencies
 counted c = c.before.before
 
-before_is : (c : tie.After-predecessor-of) → predecessor_list c.predecessor-of.result ≡ predecessor_of (sequence_of (start (counted c)).args.m.now)
-before_is c = c.predecessor-of.ensures ∙ ap predecessor_of c.before.read-sequence.ensures
+before_is : (c : tie.After-predecessor_of-before) → predecessor_list c.predecessor_of-before.result ≡ predecessor_of (sequence_of (start (counted c)).args.m.now)
+before_is c = c.predecessor_of-before.ensures ∙ ap predecessor_of c.read_sequence.ensures
 
-byte-requires : tie.Need-byte-requires
-byte-requires c κs = omega (arith, dependencies_lie c.before.args.m.now c.before.requires)
+byte-requires : tie.Need-byte-dependencies-requires
+byte-requires c κs = omega (arith, dependencies_lie c.args.m.now c.requires)
 
-read-sequence-requires : tie.Need-read-sequence-requires
+read-sequence-requires : tie.Need-read_sequence-requires
 read-sequence-requires c κs = omega (arith, dependencies_lie (start c).args.m.now (start c).requires)
 
-returns : tie.Need-returns
+returns : tie.Need-returns-in_default
 returns c =
-    let p = c.before.before in
-    let none = ap predecessor_list (sym c.enum-told2.given.1) ∙ before_is p in
-    omega (arith, length_needs (start (counted p)).args.m.now none, (counted p).byte.ensures)
+    let none = ap predecessor_list (sym c.in_default.is) ∙ before_is c.before in
+    omega (arith, length_needs (start (counted c.before)).args.m.now none, (counted c.before).byte-dependencies.ensures)
 
-returns-2 : tie.Need-returns-2
+returns-2 : tie.Need-returns
 returns-2 c =
-    let p = c.before.before in
-    let one = ap predecessor_list (sym c.enum_told.given.1) ∙ before_is p in
-    omega (arith, length_needs (start (counted p)).args.m.now one, (counted p).byte.ensures)
+    let one = ap predecessor_list (sym c.in-Of.is) ∙ before_is c.before in
+    omega (arith, length_needs (start (counted c.before)).args.m.now one, (counted c.before).byte-dependencies.ensures)
 
 pub count_needs_spec : {M : Type 1} → statement M
 count_needs_spec =
