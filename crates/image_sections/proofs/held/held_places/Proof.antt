@@ -13,6 +13,7 @@ use Rattle.model.specs.Layout.{capacity}
 use Rattle.image_sections.specs.LogPlaces.{others_below}
 use Rattle.image_sections.specs.HeldLaws.{others_skip, others_take, others_length}
 use Rattle.image_sections.proofs.held.held_places.Statement.{statement}
+use Rattle.image_sections.proofs.held.held_places.Lts.{then-not-is_among, else-not-is_among}
 use Rattle.image_sections.proofs.held.held_places.Tie as tie
 
 abbrev invariant-loop : tie.invariant-loop-i
@@ -42,28 +43,26 @@ loop-again c =
     let n = c.loop-i.n in
     let h = c.loop-i-test.true in
     let inv = c.loop-i.invariant in
-    ⊎_elim
-    (λ w.
-    let new = others_take i places (sym c.is_among.ensures ∙ w.0.taken) in (
+    elim c.if-not-is_among.branch [ then-not-is_among w ↦
+    let new = others_take i places (sym c.is_among.ensures ∙ w.if-not-is_among.true) in (
       omega arith,
       (
-        w.2 ∙ ap (λ (x : ℕ). x + 1) inv.1.0 ∙ sym (ap length new ∙ length-append (others_below i places) (i ∷ [])),
+        w.n-is ∙ ap (λ (x : ℕ). x + 1) inv.1.0 ∙ sym (ap length new ∙ length-append (others_below i places) (i ∷ [])),
         (
-          ap₂ take (w.2 ∙ add-one n) w.1 ∙ take-suc-set c.loop-i.held n i (let f = free c.before.before.before h in omega arith)
+          ap₂ take (w.n-is ∙ add-one n) w.held-is ∙ take-suc-set c.loop-i.held n i (let f = free c.before.before.before h in omega arith)
               ∙ ap (λ (x : List ℕ). x ++ (i ∷ [])) inv.1.1.0 ∙ sym new,
-          ap length w.1 ∙ length-set c.loop-i.held n i ∙ inv.1.1.1,
+          ap length w.held-is ∙ length-set c.loop-i.held n i ∙ inv.1.1.1,
         ),
       ),
-    ))
-    (λ w.
-    let old = others_skip i places (sym c.is_among.ensures ∙ w.0.left) in (
+    )
+    | else-not-is_among w ↦
+    let old = others_skip i places (sym c.is_among.ensures ∙ w.if-not-is_among.false) in (
       omega arith,
       (
-        w.2 ∙ inv.1.0 ∙ sym (ap length old),
-        (ap₂ take w.2 w.1 ∙ inv.1.1.0 ∙ sym old, ap length w.1 ∙ inv.1.1.1),
+        w.n-is ∙ inv.1.0 ∙ sym (ap length old),
+        (ap₂ take w.n-is w.held-is ∙ inv.1.1.0 ∙ sym old, ap length w.held-is ∙ inv.1.1.1),
       ),
-    ))
-    c.if-not-is_among.branch
+    ) ]
 
 returns : tie.Need-returns invariant-loop decreases-loop
 returns c =
