@@ -11,17 +11,17 @@ use Rattle.compose_checks.proofs.check_content.Statement.{statement}
 use Rattle.compose_checks.proofs.check_content.Tie as tie
 
 -- the test, by what was told of flag and priority
-told : (c : tie.After-check-given) {k : Check} → c.check-given.result ≡ k → let a = c.before.before.args in
+told : (c : tie.After-check_given-given) {k : Check} → c.check_given-given.result ≡ k → let a = c.args in
     compose_content a.commands.now a.flag a.priority ≡ right k && commands_right a.commands.now
 told c e =
-    let a = c.before.before.args in
-    content_parts a.flag a.priority a.commands.now ∙ ap (λ (b : Bool). b && commands_right a.commands.now) (sym c.check-given.ensures ∙ ap right e)
+    let a = c.args in
+    content_parts a.flag a.priority a.commands.now ∙ ap (λ (b : Bool). b && commands_right a.commands.now) (sym c.check_given-given.ensures ∙ ap right e)
 
-returns : tie.Need-returns
-returns c = sym (told c.before.before c.enum-told2.given.1)
+returns : tie.Need-returns-in_default
+returns c = sym (told c.before c.in_default.is)
 
-returns-2 : tie.Need-returns-2
-returns-2 c = c.check-commands.ensures ∙ sym (told c.before.before.before c.before.enum_told.given.1)
+returns-2 : tie.Need-returns
+returns-2 c = c.check_commands.ensures ∙ sym (told c.before.before c.in-Right.is)
 
 pub check_content_spec : {M : Type 1} → statement M
 check_content_spec =

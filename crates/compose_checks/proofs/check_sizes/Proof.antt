@@ -11,26 +11,26 @@ use Rattle.compose_checks.proofs.check_sizes.Statement.{statement}
 use Rattle.compose_checks.proofs.check_sizes.Tie as tie
 
 -- the test, by what was told of the image; and of the buffer too
-by_image : (c : tie.After-check-image-size) {k : Check} → c.check-image-size.result ≡ k → let a = c.before.args in
+by_image : (c : tie.After-check_image_size-size) {k : Check} → c.check_image_size-size.result ≡ k → let a = c.args in
     sizes_right a.image a.room a.line ≡ right k && not (ltb a.room message_room) && eqb a.line line_size
 by_image c e =
-    let a = c.before.args in
-    ap (λ (b : Bool). b && not (ltb a.room message_room) && eqb a.line line_size) (sym c.check-image-size.ensures ∙ ap right e)
+    let a = c.args in
+    ap (λ (b : Bool). b && not (ltb a.room message_room) && eqb a.line line_size) (sym c.check_image_size-size.ensures ∙ ap right e)
 
-by_room : (c : tie.After-check-message-room) {k : Check} → c.check-message-room.result ≡ k → let a = c.before.before.before.before.args in
+by_room : (c : tie.After-check_message_room-enough) {k : Check} → c.check_message_room-enough.result ≡ k → let a = c.args in
     sizes_right a.image a.room a.line ≡ right k && eqb a.line line_size
 by_room c e =
-    let a = c.before.before.before.before.args in
-    by_image c.before.before.before c.before.enum_told.given.1 ∙ ap (λ (b : Bool). b && eqb a.line line_size) (sym c.check-message-room.ensures ∙ ap right e)
+    let a = c.args in
+    by_image c.before.before c.in-Right.is ∙ ap (λ (b : Bool). b && eqb a.line line_size) (sym c.check_message_room-enough.ensures ∙ ap right e)
 
-returns : tie.Need-returns
-returns c = sym (by_image c.before.before c.enum-told2.given.1)
+returns : tie.Need-returns-in_default
+returns c = sym (by_image c.before c.in_default.is)
 
-returns-2 : tie.Need-returns-2
-returns-2 c = sym (by_room c.before.before c.enum-told4.given.1)
+returns-2 : tie.Need-returns-in_default-enough
+returns-2 c = sym (by_room c.before c.in_default-enough.is)
 
-returns-3 : tie.Need-returns-3
-returns-3 c = c.check-line-size.ensures ∙ sym (by_room c.before.before.before c.before.enum-told3.given.1)
+returns-3 : tie.Need-returns
+returns-3 c = c.check_line_size.ensures ∙ sym (by_room c.before.before c.in-Right-enough.is)
 
 pub check_sizes_spec : {M : Type 1} → statement M
 check_sizes_spec =

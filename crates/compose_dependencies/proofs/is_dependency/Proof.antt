@@ -7,7 +7,7 @@ use lib.ListN.{length, length-map}
 use borrow.Author.Tests.{eq-eqb, ne_eqb}
 use Rattle.model.specs.Lists.{has, some?}
 use Rattle.model.specs.Message.{predecessor_of}
-use Rattle.model.specs.Order.{State, sequences_of, rules as needed, log_of}
+use Rattle.model.specs.Order.{State, sequences_of, needs as needed, log_of}
 use Rattle.message_sequence.specs.Sequence.{sequence_number}
 use Rattle.set_table.specs.Table.{message_from, set_in}
 use Rattle.set_table.specs.Places.{sequence_in}
@@ -19,7 +19,7 @@ use Rattle.compose_dependencies.proofs.is_dependency.Statement.{statement}
 use Rattle.compose_dependencies.proofs.is_dependency.Tie as tie
 
 -- where the call began
-abbrev began : tie.After-logged → tie.Start
+abbrev began : tie.After-logged-1 → tie.Start
 began c = c.before.before.before
 
 abbrev set : tie.Start → State
@@ -43,32 +43,28 @@ in_use s e =
     ap (λ (n : ℕ). some? (λ m. has n (needed (set s) m)) (log_of (set s))) (sym (sequence_at (set s).deltas s.args.i))
     ∙ sym (s.requires.1.needed s.args.i (inside s)) ∙ e
 
-logged : (c : tie.Else1) → has (own (began c.before)) (sequences_of (log_of (set (began c.before)))) ≡ true
-logged c = in-log (began c.before) (ap not (ne_eqb _ 0 c.if1.false))
+logged : (c : tie.Else-logged-i-eq0) → has (own (began c.before)) (sequences_of (log_of (set (began c.before)))) ≡ true
+logged c = in-log (began c.before) (ap not (ne_eqb _ 0 c.if-logged-i-eq0.false))
 
-array-read-if1 : tie.Need-array-read-if1
-array-read-if1 c = let s = began c in omega (arith, inside s, s.pre.0.fits)
+array-read-if1 : tie.Need-bounds-logged-i
+array-read-if1 c = let s = c.before.before.before in omega (arith, inside s, s.requires.0.fits)
 
-returns : tie.Need-returns
-returns c = let s = began c.before in not_logged (set s) (new s) (own s) (in-log s (ap not (eq-eqb _ 0 c.if1.true)))
+returns : tie.Need-returns-then-logged-i-eq0
+returns c = let s = began c.before in not_logged (set s) (new s) (own s) (in-log s (ap not (eq-eqb _ 0 c.if-logged-i-eq0.true)))
 
-array-read-if2 : tie.Need-array-read-if2
-array-read-if2 c = let s = began c.before.before in omega (arith, inside s, s.pre.0.fits)
+array-read-if2 : tie.Need-bounds-needed-i
+array-read-if2 c = let s = began c.before.before in omega (arith, inside s, s.requires.0.fits)
 
-returns-2 : tie.Need-returns-2
+returns-2 : tie.Need-returns-then-needed-i-ne0
 returns-2 c =
-    let e = c.before.before in
-    let s = began e.before in
-    is_needed (set s) (new s) (own s) (logged e) (in_use s (ap not (ne_eqb _ 0 c.if2.true)))
+    let s = began c.before.before.before in
+    is_needed (set s) (new s) (own s) (logged c.before.before) (in_use s (ap not (ne_eqb _ 0 c.if-needed-i-ne0.true)))
 
-returns-3 : tie.Need-returns-3
+returns-3 : tie.Need-returns
 returns-3 c =
-    let read = c.before in
-    let free = read.before in
-    let e = free.before.before in
-    let s = began e.before in
-    ap not (c.is-predecessor.ensures ∙ ap (λ (n : ℕ). has n (predecessor_of (new s))) read.sequence_at.ensures)
-    ∙ not_needed (set s) (new s) (own s) (logged e) (in_use s (ap not (eq-eqb _ 0 free.if2.false)))
+    let s = began c.before.before.before.before.before in
+    ap not (c.is_predecessor.ensures ∙ ap (λ (n : ℕ). has n (predecessor_of (new s))) c.sequence_at.ensures)
+    ∙ not_needed (set s) (new s) (own s) (logged c.before.before.before.before) (in_use s (ap not (eq-eqb _ 0 c.if-needed-i-ne0.false)))
 
 pub is_dependency_spec : {M : Type 1} → statement M
 is_dependency_spec =

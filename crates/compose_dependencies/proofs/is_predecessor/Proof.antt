@@ -8,18 +8,15 @@ use borrow.Author.Rules.{rules}
 use Rattle.compose_dependencies.proofs.is_predecessor.Statement.{statement}
 use Rattle.compose_dependencies.proofs.is_predecessor.Tie as tie
 
-returns : tie.Need-returns
+returns : tie.Need-returns-in_default
 returns c =
-    let p = c.before.before in
-    ap (has (sequence_number p.before.args.x)) (sym (ap predecessor_list c.enum_told.given.1) ∙ p.predecessor-of.ensures)
+    ap (has (sequence_number c.args.x)) (sym (ap predecessor_list c.in_default.is) ∙ c.predecessor_of-before.ensures)
 
-returns-2 : tie.Need-returns-2
+returns-2 : tie.Need-returns
 returns-2 c =
-    let known = c.before.before in
-    let p = known.before.before in
-    let x = sequence_number p.before.args.x in
-    c.equal.ensures ∙ sym (or-false (eqb x (sequence_number known.before2.given.0.0)))
-    ∙ ap (has x) (sym (ap predecessor_list known.before2.given.1) ∙ p.predecessor-of.ensures)
+    let x = sequence_number c.args.x in
+    c.equal.ensures ∙ sym (or-false (eqb x (sequence_number c.in-Of.p)))
+    ∙ ap (has x) (sym (ap predecessor_list c.in-Of.is) ∙ c.predecessor_of-before.ensures)
 
 pub is_predecessor_spec : {M : Type 1} → statement M
 is_predecessor_spec =

@@ -19,10 +19,10 @@ use Rattle.compose_dependencies.proofs.mark_uses.Statement.{statement}
 use Rattle.compose_dependencies.proofs.mark_uses.Tie as tie
 
 -- where the call began, from where the rows are there; and that from where the log is marked
-abbrev began : tie.After-fill-rows → tie.Start
+abbrev began : tie.After-fill_rows → tie.Start
 began c = c.before.before.before.before.before.before
 
-abbrev filled : tie.After-mark → tie.After-fill-rows
+abbrev filled : tie.After-mark → tie.After-fill_rows
 filled c = c.before.before.before.before
 
 abbrev set : tie.Start → State
@@ -32,36 +32,34 @@ set s = set_in s.args.pool.now s.args.starts.now
 below : (s : tie.Start) → AllBelow (length (set s).deltas) s.args.places.now
 below s i k = omega (arith, length-map s.args.starts.now (message_from s.args.pool.now), (log_inside s.args.pool.now s.args.starts.now s.args.places.now s.requires).inside i k)
 
-slice-aggregate-fill-rows : tie.Need-slice-aggregate-fill-rows
+slice-aggregate-fill-rows : tie.Need-slice_bounds-fill_rows-end
 slice-aggregate-fill-rows c = refl
 
-slice-aggregate-fill-rows-2 : tie.Need-slice-aggregate-fill-rows-2
+slice-aggregate-fill-rows-2 : tie.Need-slice_bounds-fill_rows-end-2
 slice-aggregate-fill-rows-2 c = refl
 
 mark-requires : tie.Need-mark-requires
-mark-requires c κs i k = let s = began c.before.before.before in omega (arith, below s i k, s.pre.holds.fits)
+mark-requires c κs i k = let s = began c.before.before.before in omega (arith, below s i k, s.requires.holds.fits)
 
-mark-needs-requires : tie.Need-mark-needs-requires
+mark-needs-requires : tie.Need-mark_needs-requires
 mark-needs-requires c κs =
     let f = filled c.before.before.before.before in
     let s = began f in
-    (refl, λ i k. rows_fit (set s) s.pre.holds f.fill-rows.ensures i (below s i k))
+    (refl, λ i k. rows_fit (set s) s.requires.holds f.fill_rows.ensures i (below s i k))
 
 returns : tie.Need-returns
 returns c =
-    let needed = c.before in
-    let logged = needed.before.before.before.before.before in
-    let f = filled logged in
+    let f = filled c.before.before.before.before.before.before in
     let s = began f in
     let a = s.args in
-    let small : (i : ℕ) → i < length (set s).deltas → i < 65 = λ i h. omega (arith, s.pre.holds.fits) in
+    let small : (i : ℕ) → i < length (set s).deltas → i < 65 = λ i h. omega (arith, s.requires.holds.fits) in
     record {
       logged = λ i h.
-          ap (λ (m : List ℕ). is_placed m i) logged.mark.ensures ∙ fresh_marked a.places.now i (small i h)
-          ∙ logged_is (set s) s.pre.holds i h a.places.now (below s) s.pre.log;
+          ap (λ (m : List ℕ). is_placed m i) c.mark.ensures ∙ fresh_marked a.places.now i (small i h)
+          ∙ logged_is (set s) s.requires.holds i h a.places.now (below s) s.requires.log;
       needed = λ i h.
-          ap (λ (m : List ℕ). is_placed m i) needed.mark-needs.ensures ∙ fresh_marked (join (map (row_in f.fill-rows.last.0 f.fill-rows.last.1.0) a.places.now)) i (small i h)
-          ∙ needed_is (set s) s.pre.holds i h f.fill-rows.last.0 f.fill-rows.last.1.0 f.fill-rows.ensures a.places.now (below s) s.pre.log;
+          ap (λ (m : List ℕ). is_placed m i) c.mark_needs.ensures ∙ fresh_marked (join (map (row_in f.fill_rows.new.rows f.fill_rows.new.counts) a.places.now)) i (small i h)
+          ∙ needed_is (set s) s.requires.holds i h f.fill_rows.new.rows f.fill_rows.new.counts f.fill_rows.ensures a.places.now (below s) s.requires.log;
     }
 
 pub mark_uses_spec : {M : Type 1} → statement M

@@ -11,18 +11,13 @@ use Rattle.compose_header.proofs.put_counts.Tie as tie
 
 returns : tie.Need-returns
 returns c =
-    let commands = c.before.before in
-    let dependencies = commands.before.before.before.before in
-    let flag = dependencies.before.before.before.before in
-    let kind = flag.before.before.before.before in
-    let s = kind.before.before.before in
-    let a = s.args in
-    commands.put-byte4.ensures
+    let a = c.args in
+    c.put_byte-4.ensures
     ∙ ap (λ (b : List ℕ). pasted b command_count_at (a.commands ∷ []))
-    (dependencies.put-byte3.ensures
+    (c.put_byte-3.ensures
     ∙ ap (λ (b : List ℕ). pasted b dependency_count_at (a.dependencies ∷ []))
-    (flag.put-byte2.ensures ∙ ap (λ (b : List ℕ). pasted b priority_flag_at (a.flag ∷ [])) kind.put_byte.ensures))
-    ∙ counts_pasted a.message.now s.requires.0 a.flag a.dependencies a.commands
+    (c.put_byte-2.ensures ∙ ap (λ (b : List ℕ). pasted b priority_flag_at (a.flag ∷ [])) c.put_byte.ensures))
+    ∙ counts_pasted a.message.now c.requires.0 a.flag a.dependencies a.commands
 
 pub put_counts_spec : {M : Type 1} → statement M
 put_counts_spec =

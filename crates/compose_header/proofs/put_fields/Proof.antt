@@ -12,18 +12,13 @@ use Rattle.compose_header.proofs.put_fields.Tie as tie
 
 returns : tie.Need-returns
 returns c =
-    let zeros = c.before.before in
-    let priority = zeros.before.before.before.before in
-    let block = priority.before.before.before.before in
-    let group = block.before.before.before.before in
-    let s = group.before.before.before in
-    let a = s.args in
-    zeros.put-u324.ensures
+    let a = c.args in
+    c.put_u32-4.ensures
     ∙ ap (λ (b : List ℕ). paste b last_zeros_at (bytes 4 0) 4)
-    (priority.put-u323.ensures
+    (c.put_u32-3.ensures
     ∙ ap (λ (b : List ℕ). paste b priority_at (bytes 4 a.priority) 4)
-    (block.put-u322.ensures ∙ ap (λ (b : List ℕ). paste b block_at (bytes 4 a.block) 4) group.put-u32.ensures))
-    ∙ fields_pasted a.message.now s.requires a.group a.block a.priority
+    (c.put_u32-2.ensures ∙ ap (λ (b : List ℕ). paste b block_at (bytes 4 a.block) 4) c.put_u32.ensures))
+    ∙ fields_pasted a.message.now c.requires a.group a.block a.priority
 
 pub put_fields_spec : {M : Type 1} → statement M
 put_fields_spec =

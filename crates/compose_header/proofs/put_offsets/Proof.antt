@@ -13,18 +13,13 @@ use Rattle.compose_header.proofs.put_offsets.Tie as tie
 
 returns : tie.Need-returns
 returns c =
-    let zeros = c.before.before in
-    let commands = zeros.before.before.before.before in
-    let dependencies = commands.before.before.before.before in
-    let total = dependencies.before.before.before.before in
-    let s = total.before.before.before in
-    let a = s.args in
-    zeros.put-u164.ensures
+    let a = c.args in
+    c.put_u16-4.ensures
     ∙ ap (λ (b : List ℕ). paste b first_zeros_at (bytes 2 0) 2)
-    (commands.put-u163.ensures
+    (c.put_u16-3.ensures
     ∙ ap (λ (b : List ℕ). paste b commands_offset_at (bytes 2 (commands_start a.dependencies)) 2)
-    (dependencies.put-u162.ensures ∙ ap (λ (b : List ℕ). paste b dependencies_offset_at (bytes 2 header_size) 2) total.put-u16.ensures))
-    ∙ offsets_pasted a.message.now s.requires.0 a.dependencies a.commands
+    (c.put_u16-2.ensures ∙ ap (λ (b : List ℕ). paste b dependencies_offset_at (bytes 2 header_size) 2) c.put_u16.ensures))
+    ∙ offsets_pasted a.message.now c.requires.0 a.dependencies a.commands
 
 pub put_offsets_spec : {M : Type 1} → statement M
 put_offsets_spec =

@@ -9,8 +9,7 @@ use Rattle.compose_line.proofs.read_line.Tie as tie
 
 returns : tie.Need-returns
 returns c =
-    let s = c.before.before.before in
-    ap₂ (λ (x y : ℕ). x * 4294967296 + y * numbers_of_line) c.before.get-u64.ensures c.get-u16.ensures.0 ∙ line_number s.args.line.now s.requires
+    ap₂ (λ (x y : ℕ). x * 4294967296 + y * numbers_of_line) c.get_u64-high.ensures c.get_u16-low.ensures.0 ∙ line_number c.args.line.now c.requires
 
 pub read_line_spec : {M : Type 1} → statement M
 read_line_spec = tie.close (tie.spec (λ c κs. search rules) (λ c κs. search rules) (λ c. search rules) returns)

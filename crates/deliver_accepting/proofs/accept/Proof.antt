@@ -18,65 +18,59 @@ places_size : (s : tie.Start) → length s.args.station.places ≡ capacity
 places_size s = search rules
 
 -- the call as it began, the message copied, from where the places are shifted
-abbrev start : tie.After-copy-at → tie.Start
+abbrev start : tie.After-copy_at → tie.Start
 start f = f.before.before.before.before.before.before
 
-abbrev filled : tie.After-shift-places → tie.After-copy-at
-filled c = c.before.before.before.before.before.before
+abbrev filled : tie.After-shift_places-old → tie.After-copy_at
+filled c = c.before.before.before.before.before.before.before
 
 -- the message in the table, from where the order is begun
-abbrev inserted : tie.After-begin → tie.After-insert
+abbrev inserted : tie.After-begin-begun → tie.After-insert-next
 inserted c = c.before.before.before.before
 
-next_size : (c : tie.After-insert) → length c.insert.result.starts ≡ capacity
+next_size : (c : tie.After-insert-next) → length c.insert-next.result.starts ≡ capacity
 next_size c = search rules
 
-next_inside : (c : tie.After-insert) → c.insert.result.count ≤ length c.insert.result.starts
-next_inside c = omega (arith, next_size c, c.insert.ensures.count, (start c.before.before.before).requires.few)
+next_inside : (c : tie.After-insert-next) → c.insert-next.result.count ≤ length c.insert-next.result.starts
+next_inside c = omega (arith, next_size c, c.insert-next.ensures.count, (start c.before.before.before.before).requires.few)
 
-copy-at-requires : tie.Need-copy-at-requires
+copy-at-requires : tie.Need-copy_at-requires
 copy-at-requires c κs =
-    let s = c.before.before.before.before.before in
-    let a = s.args in
-    (omega arith, message_fits a.image.now a.message.now (length a.steps.now) a.pool.now a.station a.p s.requires (starts_size s) (places_size s))
+    let a = c.args in
+    (omega arith, message_fits a.image.now a.message.now (length a.steps.now) a.pool.now a.station a.p c.requires (starts_size c.before.before.before.before.before) (places_size c.before.before.before.before.before))
 
-insert-requires : tie.Need-insert-requires
+insert-requires : tie.Need-insert-next-requires
 insert-requires c κs =
-    let s = start c.before.before in
+    let s = start c.before.before.before in
     let a = s.args in
-    (s.pre.few, place_fits a.image.now a.message.now (length a.steps.now) a.pool.now a.station a.p s.pre (starts_size s) (places_size s))
+    (s.requires.few, place_fits a.image.now a.message.now (length a.steps.now) a.pool.now a.station a.p s.requires (starts_size s) (places_size s))
 
-shift-places-requires : tie.Need-shift-places-requires
+shift-places-requires : tie.Need-shift_places-old-requires
 shift-places-requires c κs =
-    let s = start c.before.before.before.before.before in
+    let s = start c.before.before.before.before.before.before in
     let a = s.args in
-    (s.pre.judged.fits, places_within a.image.now a.message.now (length a.steps.now) a.pool.now a.station a.p s.pre (starts_size s) (places_size s))
+    (s.requires.judged.fits, places_within a.image.now a.message.now (length a.steps.now) a.pool.now a.station a.p s.requires (starts_size s) (places_size s))
 
-begin-requires : tie.Need-begin-requires
+begin-requires : tie.Need-begin-begun-requires
 begin-requires c κs = (start (filled c)).requires.judged.fits
 
-array-share-prefix-starts : tie.Need-array-share-prefix-starts
-array-share-prefix-starts c = next_inside (inserted c.before.before.before)
+array-share-prefix-starts : tie.Need-slice_bounds-starts-end
+array-share-prefix-starts c = next_inside (inserted c.before.before)
 
-slice-aggregate-update : tie.Need-slice-aggregate-update
-slice-aggregate-update c = sym (length-take-le _ _ (next_inside (inserted c.before.before.before.before)))
+slice-aggregate-update : tie.Need-slice_bounds-update-end
+slice-aggregate-update c = sym (length-take-le _ _ (next_inside (inserted c.before.before.before)))
 
 update-requires : tie.Need-update-requires
 update-requires c κs =
-    let begun = c.before.before.before.before in
-    let shifted = begun.before in
-    let s = start (filled shifted) in
+    let s = start (filled c.before.before.before.before) in
     let a = s.args in
-    updatable a.image.now a.message.now (length a.steps.now) a.pool.now a.station a.p s.pre (starts_size s) (places_size s) _ (filled shifted).copy_at.ensures _ (inserted begun).insert.ensures.starts _ shifted.shift-places.ensures begun.begin.result begun.begin.ensures
+    updatable a.image.now a.message.now (length a.steps.now) a.pool.now a.station a.p s.requires (starts_size s) (places_size s) _ (filled c.before.before.before.before).copy_at.ensures _ (inserted c.before.before.before).insert-next.ensures.starts _ c.shift_places-old.ensures c.begin-begun.result c.begin-begun.ensures
 
 returns : tie.Need-returns
 returns c =
-    let updated = c.before.before.before.before in
-    let begun = updated.before.before.before.before.before in
-    let shifted = begun.before in
-    let s = start (filled shifted) in
+    let s = start (filled c.before.before.before.before.before.before.before.before.before) in
     let a = s.args in
-    accepted_answer_lem a.image.now a.message.now (length a.steps.now) a.pool.now a.station a.p s.pre (starts_size s) (places_size s) _ (filled shifted).copy_at.ensures _ (inserted begun).insert.ensures.starts _ shifted.shift-places.ensures begun.begin.result begun.begin.ensures _ _ updated.update.ensures
+    accepted_answer_lem a.image.now a.message.now (length a.steps.now) a.pool.now a.station a.p s.requires (starts_size s) (places_size s) _ (filled c.before.before.before.before.before.before.before.before.before).copy_at.ensures _ (inserted c.before.before.before.before.before.before.before.before).insert-next.ensures.starts _ c.shift_places-old.ensures c.begin-begun.result c.begin-begun.ensures _ _ c.update.ensures
 
 pub accept_spec : {M : Type 1} → statement M
 accept_spec =

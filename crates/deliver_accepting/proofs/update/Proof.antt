@@ -11,52 +11,50 @@ use Rattle.deliver_accepting.proofs.update.Statement.{statement}
 use Rattle.deliver_accepting.proofs.update.Tie as tie
 
 -- where the call began, from where the order has grown; and where that is, from where the old log is lent
-abbrev began : tie.After-order-table → tie.Start
+abbrev began : tie.After-order_table-order → tie.Start
 began c = c.before.before.before.before.before
 
-abbrev ordered : tie.After-old2 → tie.After-order-table
+abbrev ordered : tie.After-old-2-1 → tie.After-order_table-order
 ordered c = c.before.before.before.before.before
 
 -- the old log and the new one lie in their arrays
-olds_size : (c : tie.After-order-table) → length c.order-table.result.old ≡ capacity
+olds_size : (c : tie.After-order_table-order) → length c.order_table-order.result.old ≡ capacity
 olds_size c = search rules
 
-olds_inside : (c : tie.After-order-table) → c.order-table.result.old_count ≤ length c.order-table.result.old
-olds_inside c = omega (arith, olds_size c, c.order-table.ensures.right.olds)
+olds_inside : (c : tie.After-order_table-order) → c.order_table-order.result.old_count ≤ length c.order_table-order.result.old
+olds_inside c = omega (arith, olds_size c, c.order_table-order.ensures.right.olds)
 
-places_size : (c : tie.After-order-table) → length c.order-table.result.places ≡ capacity
+places_size : (c : tie.After-order_table-order) → length c.order_table-order.result.places ≡ capacity
 places_size c = search rules
 
-places_inside : (c : tie.After-order-table) → c.order-table.result.count ≤ length c.order-table.result.places
-places_inside c = omega (arith, places_size c, c.order-table.ensures.right.news)
+places_inside : (c : tie.After-order_table-order) → c.order_table-order.result.count ≤ length c.order_table-order.result.places
+places_inside c = omega (arith, places_size c, c.order_table-order.ensures.right.news)
 
-array-share-prefix-old : tie.Need-array-share-prefix-old
+array-share-prefix-old : tie.Need-slice_bounds-old-end
 array-share-prefix-old c = olds_inside c.before.before.before.before
 
-slice-aggregate-write-change : tie.Need-slice-aggregate-write-change
+slice-aggregate-write-change : tie.Need-slice_bounds-write_change-end
 slice-aggregate-write-change c = sym (length-take-le _ _ (olds_inside (ordered c)))
 
-array-share-prefix-places : tie.Need-array-share-prefix-places
+array-share-prefix-places : tie.Need-slice_bounds-places-end
 array-share-prefix-places c = places_inside (ordered c)
 
-slice-aggregate-write-change-2 : tie.Need-slice-aggregate-write-change-2
+slice-aggregate-write-change-2 : tie.Need-slice_bounds-write_change-end-2
 slice-aggregate-write-change-2 c = sym (length-take-le _ _ (places_inside (ordered c.before)))
 
-write-change-requires : tie.Need-write-change-requires
+write-change-requires : tie.Need-write_change-requires
 write-change-requires c κs =
     let at = ordered c.before in
     let s = began at in
     let a = s.args in
-    writable a.image.now (length a.steps.now) a.pool.now a.starts.now a.begun s.pre at.order-table.result at.order-table.ensures
+    writable a.image.now (length a.steps.now) a.pool.now a.starts.now a.begun s.requires at.order_table-order.result at.order_table-order.ensures
 
 returns : tie.Need-returns
 returns c =
-    let counted = c.before in
-    let written = counted.before.before.before.before.before in
-    let at = ordered written.before.before in
+    let at = ordered c.before.before.before.before.before.before.before.before in
     let s = began at in
     let a = s.args in
-    updates a.image.now (length a.steps.now) a.pool.now a.starts.now a.begun s.pre at.order-table.result at.order-table.ensures _ _ _ _ _ counted.undos.ensures c.executions.ensures written.write-change.ensures
+    updates a.image.now (length a.steps.now) a.pool.now a.starts.now a.begun s.requires at.order_table-order.result at.order_table-order.ensures _ _ _ _ _ c.undos.ensures c.executions.ensures c.write_change.ensures
 
 pub update_spec : {M : Type 1} → statement M
 update_spec =

@@ -14,36 +14,34 @@ use Rattle.deliver_checks.proofs.check_repeat.Statement.{statement}
 use Rattle.deliver_checks.proofs.check_repeat.Tie as tie
 
 -- the call as it began, from where the place is known
-abbrev start : tie.After-known-told → tie.Start
-start k = k.before.before.before.before.before.before
+abbrev start : tie.In-Present → tie.Start
+start k = k.before.before.before.before
 
-here : (k : tie.After-known-told) → IsPresent (start k).args.pool.now (start k).args.starts.now (sequence_of (start k).args.message.now) k.before.place.given.0.0
+here : (k : tie.In-Present) → IsPresent (start k).args.pool.now (start k).args.starts.now (sequence_of (start k).args.message.now) k.in-Present.i
 here k =
     let a = (start k).args in
-    subst (Finds a.pool.now a.starts.now (sequence_of a.message.now)) k.before.place.given.1 (start k).requires.1
+    subst (Finds a.pool.now a.starts.now (sequence_of a.message.now)) k.in-Present.is (start k).requires.1
 
 -- what the comparison told
 agrees : (c : tie.After-same) {t : Bool} → not c.same.result ≡ t → let a = (start c.before.before).args in t ≡ conflicts (set_in a.pool.now a.starts.now) a.message.now
 agrees c e =
-    let k = c.before.before in
-    let a = (start k).args in
-    sym e ∙ ap not (c.same.ensures ∙ ap (λ (x : List ℕ). same x a.message.now) c.before.message-at.ensures)
-    ∙ sym (present_conflicts a.pool.now a.starts.now a.message.now _ (here k) (start k).requires.0)
+    let a = (start c.before.before).args in
+    sym e ∙ ap not (c.same.ensures ∙ ap (λ (x : List ℕ). same x a.message.now) c.message_at.ensures)
+    ∙ sym (present_conflicts a.pool.now a.starts.now a.message.now _ (here c.before.before) (start c.before.before).requires.0)
 
-returns : tie.Need-returns
+returns : tie.Need-returns-in_default
 returns c =
-    let s = c.before.before.before.before.before in
-    let a = s.args in
-    sym (ap not (absent_conflicts a.pool.now a.starts.now a.message.now _ (subst (Finds a.pool.now a.starts.now (sequence_of a.message.now)) c.enum_told.given.1 s.requires.1)))
+    let a = c.args in
+    sym (ap not (absent_conflicts a.pool.now a.starts.now a.message.now _ (subst (Finds a.pool.now a.starts.now (sequence_of a.message.now)) c.in_default.is c.requires.1)))
 
-message-at-requires : tie.Need-message-at-requires
+message-at-requires : tie.Need-message_at-requires
 message-at-requires c κs = ((start c).requires.0, (here c).inside)
 
-returns-2 : tie.Need-returns-2
-returns-2 c = ap not (agrees c.before c.if1.true)
+returns-2 : tie.Need-returns-then-not-same
+returns-2 c = ap not (agrees c.before (ap not c.if-not-same.true))
 
-returns-3 : tie.Need-returns-3
-returns-3 c = ap not (agrees c.before c.if1.false)
+returns-3 : tie.Need-returns
+returns-3 c = ap not (agrees c.before (ap not c.if-not-same.false))
 
 pub check_repeat_spec : {M : Type 1} → statement M
 check_repeat_spec =

@@ -14,91 +14,87 @@ use Rattle.deliver_steps.specs.PuttingLaws.{putting_none, putting_room, putting_
 use Rattle.deliver_steps.proofs.put_records.Statement.{statement}
 use Rattle.deliver_steps.proofs.put_records.Tie as tie
 
-abbrev invariant-loop : tie.invariant-loop
+abbrev invariant-loop : tie.invariant-loop-i
 invariant-loop steps₀ at kind pool starts log kept current₀ i₀ steps current i = Putting kind pool starts log kept at current₀ steps₀ i current steps
 
-abbrev decreases-loop : tie.decreases-loop
+abbrev decreases-loop : tie.decreases-loop-i
 decreases-loop steps₀ at kind pool starts log kept current₀ i₀ steps current i = length log - i
 
 -- the call as it began; where a turn's place is known, where its delta is, and where that turn begins
-abbrev start : tie.At-loop invariant-loop decreases-loop → tie.Start invariant-loop decreases-loop
+abbrev start : tie.At-loop-i invariant-loop decreases-loop → tie.Start invariant-loop decreases-loop
 start h = h.before.before.before.before.before
 
-abbrev placed : tie.After-put-record invariant-loop decreases-loop → tie.After-place-of invariant-loop decreases-loop
+abbrev placed : tie.After-put_record-next invariant-loop decreases-loop → tie.After-place_of-place invariant-loop decreases-loop
 placed put = put.before.before
 
-abbrev read : tie.After-place-of invariant-loop decreases-loop → tie.After-delta-at invariant-loop decreases-loop
+abbrev read : tie.After-place_of-place invariant-loop decreases-loop → tie.After-delta_at-m invariant-loop decreases-loop
 read p = p.before
 
-abbrev turn : tie.After-delta-at invariant-loop decreases-loop → tie.At-loop invariant-loop decreases-loop
+abbrev turn : tie.After-delta_at-m invariant-loop decreases-loop → tie.At-loop-i invariant-loop decreases-loop
 turn m = m.before.before
 
 -- there is a delta at i
-more : (m : tie.After-delta-at invariant-loop decreases-loop) → (turn m).loop.i < length (start (turn m)).args.log.now
-more m = omega (arith, m.before.loop-test.true, (start (turn m)).pre.start)
+more : (m : tie.After-delta_at-m invariant-loop decreases-loop) → (turn m).loop-i.i < length (start (turn m)).args.log.now
+more m = omega (arith, m.loop-i-test.true, (start (turn m)).requires.start)
 
 -- its record has room
-room : (p : tie.After-place-of invariant-loop decreases-loop) → let h = turn (read p) in (start h).args.at + step_size * p.place_of.result + step_size ≤ length h.loop.steps
+room : (p : tie.After-place_of-place invariant-loop decreases-loop) → let h = turn (read p) in (start h).args.at + step_size * p.place_of-place.result + step_size ≤ length h.loop-i.steps
 room p =
     let h = turn (read p) in
     let s = start h in
     let a = s.args in
-    omega (arith, p.place_of.ensures, h.loop.inv.size, putting_room a.kind a.pool.now a.starts.now a.log.now a.kept a.at a.values a.steps.now s.pre h.loop.i h.loop.inv.behind (more (read p)))
+    omega (arith, p.place_of-place.ensures, h.loop-i.invariant.size, putting_room a.kind a.pool.now a.starts.now a.log.now a.kept a.at a.values a.steps.now s.requires h.loop-i.i h.loop-i.invariant.behind (more (read p)))
 
-loop-holds : tie.Need-loop-init invariant-loop decreases-loop
+loop-holds : tie.Need-loop-i-init invariant-loop decreases-loop
 loop-holds c =
-    let s = c.before.before.before.before in
-    let a = s.args in
-    putting_none a.kind a.pool.now a.starts.now a.log.now a.kept a.at a.values a.steps.now s.requires
+    let a = c.args in
+    putting_none a.kind a.pool.now a.starts.now a.log.now a.kept a.at a.values a.steps.now c.requires
 
-delta-at-requires : tie.Need-delta-at-requires invariant-loop decreases-loop
-delta-at-requires c κs = ((start c.before).pre.inside, omega (arith, c.before.loop.invariant.behind))
+delta-at-requires : tie.Need-delta_at-m-requires invariant-loop decreases-loop
+delta-at-requires c κs = ((start c.before).requires.inside, omega (arith, c.loop-i.invariant.behind))
 
-sub-place-of : tie.Need-overflow-sub-place-of invariant-loop decreases-loop
-sub-place-of c = (start (turn c)).pre.start
+sub-place-of : tie.Need-overflow_sub-log invariant-loop decreases-loop
+sub-place-of c = (start (turn c)).requires.start
 
-sub-place-of-2 : tie.Need-overflow-sub-place-of-2 invariant-loop decreases-loop
-sub-place-of-2 c = (turn c).loop.invariant.behind
+sub-place-of-2 : tie.Need-overflow_sub-i invariant-loop decreases-loop
+sub-place-of-2 c = (turn c).loop-i.invariant.behind
 
-place-of-requires : tie.Need-place-of-requires invariant-loop decreases-loop
-place-of-requires c κs = omega (arith, (turn c).loop.invariant.behind, more c)
+place-of-requires : tie.Need-place_of-place-requires invariant-loop decreases-loop
+place-of-requires c κs = omega (arith, (turn c).loop-i.invariant.behind, more c)
 
-mul-put-record : tie.Need-overflow-mul-put-record invariant-loop decreases-loop
+mul-put-record : tie.Need-overflow_mul-place invariant-loop decreases-loop
 mul-put-record c = let r = room c.before in search rules
 
-add-put-record : tie.Need-overflow-add-put-record invariant-loop decreases-loop
+add-put-record : tie.Need-overflow_add-at invariant-loop decreases-loop
 add-put-record c = let r = room c.before in search rules
 
-put-record-requires : tie.Need-put-record-requires invariant-loop decreases-loop
+put-record-requires : tie.Need-put_record-next-requires invariant-loop decreases-loop
 put-record-requires c κs =
-    let p = c.before in
-    let m = read p in
+    let m = read c.before in
     let s = start (turn m) in
-    (omega (arith, room p), delta_passes s.args.pool.now s.args.starts.now s.args.log.now s.pre.inside m.delta_at.ensures (omega (arith, more m, (turn m).loop.inv.behind)))
+    (omega (arith, room c.before), delta_passes s.args.pool.now s.args.starts.now s.args.log.now s.requires.inside m.delta_at-m.ensures (omega (arith, more m, (turn m).loop-i.invariant.behind)))
 
-loop-again : tie.Need-loop-preserved invariant-loop decreases-loop
+loop-again : tie.Need-loop-i-preserved invariant-loop decreases-loop
 loop-again c =
-    let put = c.before.before in
-    let p = placed put in
+    let p = placed c.before.before in
     let m = read p in
     let h = turn m in
-    let l = h.loop in
+    let l = h.loop-i in
     let s = start h in
     let a = s.args in
-    putting_more a.kind a.pool.now a.starts.now a.log.now a.kept a.at a.values a.steps.now s.pre l.inv (more m) m.delta_at.ensures
-    (put.put_record.ensures.1
-    ∙ ap (λ (n : ℕ). paste l.steps (a.at + step_size * n) (record_bytes (record_by a.kind m.delta_at.result.now l.current)) step_size) p.place_of.ensures)
-    put.put_record.ensures.0 (search rules)
+    putting_more a.kind a.pool.now a.starts.now a.log.now a.kept a.at a.values a.steps.now s.requires l.invariant (more m) m.delta_at-m.ensures
+    (c.put_record-next.ensures.1
+    ∙ ap (λ (n : ℕ). paste l.steps (a.at + step_size * n) (record_bytes (record_by a.kind m.delta_at-m.result.now l.current)) step_size) p.place_of-place.ensures)
+    c.put_record-next.ensures.0 (search rules)
 
-same_length : tie.Need-same-length invariant-loop decreases-loop
-same_length c = c.before.loop.invariant.size
+same_length : tie.Need-shape_of-steps invariant-loop decreases-loop
+same_length c = c.loop-i.invariant.size
 
 returns : tie.Need-returns invariant-loop decreases-loop
 returns c =
-    let h = c.before in
-    let s = start h in
+    let s = start c.before in
     let a = s.args in
-    putting_all a.kind a.pool.now a.starts.now a.log.now a.kept a.at a.values a.steps.now s.pre h.loop.invariant (omega arith)
+    putting_all a.kind a.pool.now a.starts.now a.log.now a.kept a.at a.values a.steps.now s.requires c.loop-i.invariant (omega arith)
 
 pub put_records_spec : {M : Type 1} → statement M
 put_records_spec =

@@ -15,42 +15,39 @@ use Rattle.deliver_steps.proofs.write_steps.Statement.{statement}
 use Rattle.deliver_steps.proofs.write_steps.Tie as tie
 
 -- the call as it began, from where the kept log is run; and from where the undos are written
-abbrev began : tie.After-run-log-arg → tie.Start
-began c = c.before.before.before.before.before.before
+abbrev began : tie.After-shared_slice_known-4-1 → tie.Start
+began c = c.before.before.before.before.before
 
-abbrev run : tie.After-put-records → tie.After-run-log
+abbrev run : tie.After-put_records → tie.After-run_log-values
 run u = u.before.before
 
-abbrev start : tie.After-put-records → tie.Start
+abbrev start : tie.After-put_records → tie.Start
 start u = began (run u).before
 
-slice-aggregate-run-log : tie.Need-slice-aggregate-run-log
-slice-aggregate-run-log c = let s = began c in sym (length-take-le s.args.kept s.args.old.now (kept_old s.pre))
+slice-aggregate-run-log : tie.Need-slice_bounds-run_log-end
+slice-aggregate-run-log c = let s = began c in sym (length-take-le s.args.kept s.args.old.now (kept_old s.requires))
 
-run-log-requires : tie.Need-run-log-requires
+run-log-requires : tie.Need-run_log-values-requires
 run-log-requires c κs = kept_inside (began c).requires
 
-put-records-requires : tie.Need-put-records-requires
+put-records-requires : tie.Need-put_records-requires
 put-records-requires c κs = undos_fit (began c.before.before).requires
 
-sub-undone : tie.Need-overflow-sub-undone
+sub-undone : tie.Need-overflow_sub-undone
 sub-undone c = kept_old (start c.before.before).requires
 
-put-records-requires-2 : tie.Need-put-records-requires-2
+put-records-requires-2 : tie.Need-put_records-requires-2
 put-records-requires-2 c κs =
-    let undone = c.before.before.before in
-    let s = start undone in
-    let same : length undone.put-records.new.0 ≡ length s.args.steps.now = search rules in
-    subst (RestFits s.args.pool.now s.args.starts.now s.args.new.now s.args.kept (step_size * (length s.args.old.now - s.args.kept))) (sym same) (executions_fit s.pre)
+    let s = start c.before.before.before in
+    let same : length c.put_records.new.steps ≡ length s.args.steps.now = search rules in
+    subst (RestFits s.args.pool.now s.args.starts.now s.args.new.now s.args.kept (step_size * (length s.args.old.now - s.args.kept))) (sym same) (executions_fit s.requires)
 
 returns : tie.Need-returns
 returns c =
-    let executed = c.before.before in
-    let undone = executed.before.before.before.before in
-    let s = start undone in
+    let s = start c.before.before.before.before.before.before in
     let a = s.args in
-    steps_written a.pool.now a.starts.now a.old.now a.new.now a.kept a.steps.now s.pre (start_values (set_in a.pool.now a.starts.now)) (run undone).run-log.result (run undone).run-log.ensures
-    undone.put-records.ensures executed.put-records2.ensures
+    steps_written a.pool.now a.starts.now a.old.now a.new.now a.kept a.steps.now s.requires (start_values (set_in a.pool.now a.starts.now)) (run c.before.before.before.before.before.before).run_log-values.result (run c.before.before.before.before.before.before).run_log-values.ensures
+    c.put_records.ensures c.put_records-2.ensures
 
 pub write_steps_spec : {M : Type 1} → statement M
 write_steps_spec =

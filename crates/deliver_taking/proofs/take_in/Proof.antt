@@ -12,33 +12,30 @@ use Rattle.deliver_taking.specs.PlaceCases.{below}
 use Rattle.deliver_taking.proofs.take_in.Statement.{statement}
 use Rattle.deliver_taking.proofs.take_in.Tie as tie
 
-read-sequence-requires : tie.Need-read-sequence-requires
+read-sequence-requires : tie.Need-read_sequence-s-requires
 read-sequence-requires c κs =
-    let s = c.before.before.before.before in
-    let m = s.args.message.now in
-    omega (arith, sized_range m (passes_sized m s.requires.right))
+    let m = c.args.message.now in
+    omega (arith, sized_range m (passes_sized m c.requires.right))
 
 -- where the sequence was read, and the call as it began
-abbrev read : tie.After-is-purged → tie.After-read-sequence
-read c = c.before.before
+abbrev read : tie.After-is_purged → tie.After-read_sequence-s
+read c = c.before
 
-abbrev start : tie.After-is-purged → tie.Start
+abbrev start : tie.After-is_purged → tie.Start
 start c = (read c).before.before.before.before.before
 
-told : (c : tie.After-is-purged) → c.is-purged.result ≡ purged (state_in (start c).args.image.now) (sequence_of (start c).args.message.now)
-told c = c.is-purged.ensures ∙ ap (purged (state_in (start c).args.image.now)) (read c).read-sequence.ensures
+told : (c : tie.After-is_purged) → c.is_purged.result ≡ purged (state_in (start c).args.image.now) (sequence_of (start c).args.message.now)
+told c = c.is_purged.ensures ∙ ap (purged (state_in (start c).args.image.now)) (read c).read_sequence-s.ensures
 
-returns : tie.Need-returns
+returns : tie.Need-returns-then-is_purged
 returns c =
     let s = start c.before in
     let a = s.args in
-    below a.image.now a.message.now a.steps.now a.pool.now a.station s.pre (true_T _ (sym (told c.before) ∙ c.if1.true))
+    below a.image.now a.message.now a.steps.now a.pool.now a.station s.requires (true_T _ (sym (told c.before) ∙ c.if-is_purged.true))
 
-take-above-requires : tie.Need-take-above-requires
+take-above-requires : tie.Need-take_above-requires
 take-above-requires c κs =
-    let left = c.before.before.before in
-    let asked = left.before in
-    ((start asked).requires, (read asked).read-sequence.ensures, true_T _ (ap not (sym (told asked) ∙ left.if1.false)))
+    ((start c.before.before.before.before).requires, (read c.before.before.before.before).read_sequence-s.ensures, true_T _ (ap not (sym (told c.before.before.before.before) ∙ c.if-is_purged.false)))
 
 pub take_in_spec : {M : Type 1} → statement M
 take_in_spec =

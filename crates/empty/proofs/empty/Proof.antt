@@ -15,26 +15,23 @@ use Rattle.empty.proofs.empty.Statement.{statement}
 use Rattle.empty.proofs.empty.Tie as tie
 
 -- where the call began, from where the size is checked
-abbrev began : tie.After-check-image-size → tie.Start
+abbrev began : tie.After-check_image_size-size → tie.Start
 began c = c.before.before
 
 -- what the check told
-sized : (c : tie.After-enum-told) → true ≡ eqb (length (began c.before.before).args.image.now) image_size
-sized c = tells right c.enum_told.given.1 c.before.before.check-image-size.ensures
+sized : (c : tie.In-Right) → true ≡ eqb (length (began c.before).args.image.now) image_size
+sized c = tells right c.in-Right.is c.check_image_size-size.ensures
 
-returns : tie.Need-returns
+returns : tie.Need-returns-in_default
 returns c =
-    let m = c.before.before in
-    answered (began m).args.image.now (fails (tells right c.enum-told2.given.1 m.check-image-size.ensures))
+    answered (began c.before).args.image.now (fails (tells right c.in_default.is c.check_image_size-size.ensures))
 
-put-empty-requires : tie.Need-put-empty-requires
-put-empty-requires c κs = eqb-true (length (began c.before.before.before).args.image.now) image_size (sym (sized c.before))
+put-empty-requires : tie.Need-put_empty-requires
+put-empty-requires c κs = eqb-true (length (began c.before.before).args.image.now) image_size (sym (sized c.before))
 
-returns-2 : tie.Need-returns-2
+returns-2 : tie.Need-returns
 returns-2 c =
-    let put = c.before.before in
-    let t = put.before.before in
-    ap (λ (i : List ℕ). record { code = 0; image = i }) put.put-empty.ensures ∙ answered (began t.before.before).args.image.now (passes (sized t) none)
+    ap (λ (i : List ℕ). record { code = 0; image = i }) c.put_empty.ensures ∙ answered (began c.before.before.before.before.before).args.image.now (passes (sized c.before.before.before.before) none)
 
 pub empty_spec : {M : Type 1} → statement M
 empty_spec =

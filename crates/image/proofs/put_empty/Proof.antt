@@ -42,25 +42,22 @@ fits : length (used_of none) ≤ image_size
 fits = used_fits none none_logged.holds
 
 -- where the call began, from where the used bytes are written
-abbrev begun : tie.After-write-used → tie.Start
-begun w = w.before.before.before.before.before.before.before.before
+abbrev begun : tie.After-write_used-used → tie.Start
+begun w = w.before.before.before.before.before.before
 
-write-used-requires : tie.Need-write-used-requires
+write-used-requires : tie.Need-write_used-used-requires
 unfolding zeros
 write-used-requires c κs = record { room = search rules; logged = none_logged }
 
-clear-from-requires : tie.Need-clear-from-requires
+clear-from-requires : tie.Need-clear_from-requires
 unfolding zeros
 clear-from-requires c κs =
-    let w = c.before.before.before in
-    omega (arith, w.write-used.ensures.end, fits, w.write-used.auto.0, (begun w).requires)
+    omega (arith, c.write_used-used.ensures.end, fits, c.write_used-used.auto.out, (begun c.before.before.before).requires)
 
 returns : tie.Need-returns
 unfolding zeros
 returns c =
-    let cleared = c.before.before in
-    let w = cleared.before.before.before.before in
-    used_cleared none (begun w).requires w.write-used.ensures cleared.clear-from.ensures fits ∙ ap image_of is_empty
+    used_cleared none (begun c.before.before.before.before.before.before).requires c.write_used-used.ensures c.clear_from.ensures fits ∙ ap image_of is_empty
 
 pub put_empty_spec : {M : Type 1} → statement M
 put_empty_spec =

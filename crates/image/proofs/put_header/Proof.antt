@@ -17,16 +17,12 @@ long s = header_room s.args.pool.now s.requires.0
 
 returns : tie.Need-returns
 returns c =
-    let g = c.before.before.before.before in
-    let b = g.before in
-    let f = b.before in
-    let s = f.before.before.before in
-    let a = s.args in
+    let a = c.args in
     let pool = a.pool.now in
-    c.before.before.put-image-header.ensures
+    c.put_image_header.ensures
     ∙ ap (pasted a.out.now 0)
-    (ap₂ (λ (x y : ℕ). header_bytes a.log a.held a.start a.used x y g.get-u322.result) (f.count_floors.ensures.0 ∙ sym (floors_in_lem pool)) (b.get-u32.ensures ∙ sym (block_in pool))
-    ∙ ap (header_bytes a.log a.held a.start a.used (length (origin_in pool).floors) (origin_in pool).block) (g.get-u322.ensures ∙ sym (group_in pool)))
+    (ap₂ (λ (x y : ℕ). header_bytes a.log a.held a.start a.used x y c.get_u32-group.result) (c.count_floors-floors.ensures.0 ∙ sym (floors_in_lem pool)) (c.get_u32-block.ensures ∙ sym (block_in pool))
+    ∙ ap (header_bytes a.log a.held a.start a.used (length (origin_in pool).floors) (origin_in pool).block) (c.get_u32-group.ensures ∙ sym (group_in pool)))
 
 pub put_header_spec : {M : Type 1} → statement M
 put_header_spec =

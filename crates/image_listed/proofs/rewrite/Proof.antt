@@ -15,32 +15,32 @@ places_size : (s : tie.Start) → length s.args.listed.places ≡ capacity
 places_size s = search rules
 
 -- where table and places are taken from what is listed
-abbrev taken : tie.After-write-used-arg → tie.Start
+abbrev taken : tie.After-write_used-arg-1 → tie.Start
 taken c = c.before.before.before.before.before.before
 
-array-share-prefix-starts : tie.Need-array-share-prefix-starts
-array-share-prefix-starts c = let s = taken c in omega (arith, starts_size s, s.pre.counted)
+array-share-prefix-starts : tie.Need-slice_bounds-starts-end
+array-share-prefix-starts c = let s = taken c in omega (arith, starts_size s, s.requires.counted)
 
-slice-aggregate-write-used : tie.Need-slice-aggregate-write-used
+slice-aggregate-write-used : tie.Need-slice_bounds-write_used-end
 slice-aggregate-write-used c =
     let s = taken c.before in
     let t = s.args.listed.table in
-    sym (length-take-le t.count t.starts (omega (arith, starts_size s, s.pre.counted)))
+    sym (length-take-le t.count t.starts (omega (arith, starts_size s, s.requires.counted)))
 
-array-share-prefix-places : tie.Need-array-share-prefix-places
-array-share-prefix-places c = let s = taken c.before in omega (arith, places_size s, s.pre.fits)
+array-share-prefix-places : tie.Need-slice_bounds-places-end
+array-share-prefix-places c = let s = taken c.before in omega (arith, places_size s, s.requires.fits)
 
-slice-aggregate-write-used-2 : tie.Need-slice-aggregate-write-used-2
+slice-aggregate-write-used-2 : tie.Need-slice_bounds-write_used-end-2
 slice-aggregate-write-used-2 c =
     let s = taken c.before.before in
     let l = s.args.listed in
-    sym (length-take-le l.logged l.places (omega (arith, places_size s, s.pre.fits)))
+    sym (length-take-le l.logged l.places (omega (arith, places_size s, s.requires.fits)))
 
-write-used-requires : tie.Need-write-used-requires
+write-used-requires : tie.Need-write_used-requires
 write-used-requires c κs = let h = (taken c.before.before).requires in record { room = h.room; logged = record { holds = h.holds; log = h.log } }
 
 returns : tie.Need-returns
-returns c = c.before.before.write-used.ensures
+returns c = c.write_used.ensures
 
 pub rewrite_spec : {M : Type 1} → statement M
 rewrite_spec =

@@ -6,30 +6,30 @@ use Rattle.listing_cut.proofs.read_cut.Statement.{statement}
 use Rattle.listing_cut.proofs.read_cut.Tie as tie
 
 -- where the call began, from where the size is read
-abbrev start : tie.After-get-u16 → tie.Start
+abbrev start : tie.After-get_u16-size → tie.Start
 start c = c.before.before.before
 
-returns : tie.Need-returns
-returns c = cut_no_length c.before.before.args.rest.now (omega arith)
+returns : tie.Need-returns-then-rest
+returns c = cut_no_length c.args.rest.now (omega arith)
 
-returns-2 : tie.Need-returns-2
+returns-2 : tie.Need-returns-then-size-lt-SHORTEST_CUT
 returns-2 c =
-    let size = c.before.get-u16.ensures.0 in
+    let size = c.get_u16-size.ensures.0 in
     cut_small (start c.before).args.rest.now (omega arith) (omega (arith, size))
 
-returns-3 : tie.Need-returns-3
+returns-3 : tie.Need-returns-then-size-gt-LONGEST_CUT
 returns-3 c =
-    let size = c.before.before.get-u16.ensures.0 in
+    let size = c.get_u16-size.ensures.0 in
     cut_large (start c.before.before).args.rest.now (omega arith) (omega (arith, size)) (omega (arith, size))
 
-returns-4 : tie.Need-returns-4
+returns-4 : tie.Need-returns-then-rest-size
 returns-4 c =
-    let size = c.before.before.before.get-u16.ensures.0 in
+    let size = c.get_u16-size.ensures.0 in
     cut_past (start c.before.before.before).args.rest.now (omega arith) (omega (arith, size)) (omega (arith, size)) (omega (arith, size))
 
-returns-5 : tie.Need-returns-5
+returns-5 : tie.Need-returns
 returns-5 c =
-    let size = c.before.before.before.get-u16.ensures.0 in
+    let size = c.get_u16-size.ensures.0 in
     record {
       named = size;
       right = cut_right (start c.before.before.before).args.rest.now (omega arith) (omega (arith, size)) (omega (arith, size)) (omega (arith, size));

@@ -6,16 +6,10 @@ use Rattle.print_log_commands.proofs.put_command.Tie as tie
 
 returns : tie.Need-returns
 returns c =
-    let valued = c.before.before in
-    let spaced = valued.before.before.before.before in
-    let named = spaced.before.before.before.before.before in
-    let word = named.before.before.before in
-    let tag = word.before in
-    let start = tag.before.before.before in
-    command_puts start.args.commands.now start.args.from tag.byte.ensures.0 word.get-u32.ensures start.requires.0 named.put-after.auto.0
-    named.put-after.ensures
-    spaced.put-text.ensures
-    valued.put-value.ensures
+    command_puts c.args.commands.now c.args.from c.byte-tag.ensures.0 c.get_u32-word.ensures c.requires.0 c.put_after-named.auto.out
+    c.put_after-named.ensures
+    c.put_text-spaced.ensures
+    c.put_value.ensures
 
 pub put_command_spec : {M : Type 1} → statement M
 put_command_spec =
@@ -26,9 +20,7 @@ put_command_spec =
     (λ c. search rules)
     (λ c. search rules)
     (λ c κs. search rules)
-    (λ c. search rules)
     (λ c κs. search rules)
-    (λ c. search rules)
     (λ c κs. search rules)
     (λ c κs. search rules)
     (λ c. search rules)

@@ -13,32 +13,29 @@ use Rattle.purge_floors.specs.FloorsLaws.{floors_few, floors_room, tops_copied}
 use Rattle.purge_floors.proofs.copy_floors.Statement.{statement}
 use Rattle.purge_floors.proofs.copy_floors.Tie as tie
 
-abbrev start : tie.After-count-floors → tie.Start
+abbrev start : tie.After-count_floors-count → tie.Start
 start c = c.before.before.before
 
 header : (s : tie.Start) → floors_start ≤ length s.args.pool.now
 header s = header_room s.args.pool.now s.requires.0
 
-few : (c : tie.After-count-floors) → c.count_floors.result ≤ most_floors
-few c = omega (arith, c.count_floors.ensures.0, floors_few (start c).args.pool.now (start c).requires.0)
+few : (c : tie.After-count_floors-count) → c.count_floors-count.result ≤ most_floors
+few c = omega (arith, c.count_floors-count.ensures.0, floors_few (start c).args.pool.now (start c).requires.0)
 
-copy-at-requires : tie.Need-copy-at-requires
+copy-at-requires : tie.Need-copy_at-requires
 copy-at-requires c κs =
-    let d = c.before.before in
-    let pool : List ℕ = (start d).args.pool.now in
+    let pool : List ℕ = (start c.before.before).args.pool.now in
     let left : ℕ = length pool - floors_start in (
-      omega (arith, d.count_floors.ensures.0, floors_room pool (start d).requires.0, length-take-le left (drop floors_start pool) (omega (arith, length-drop floors_start pool))),
-      omega (arith, few d),
+      omega (arith, c.count_floors-count.ensures.0, floors_room pool (start c.before.before).requires.0, length-take-le left (drop floors_start pool) (omega (arith, length-drop floors_start pool))),
+      omega (arith, few c.before.before),
     )
 
 returns : tie.Need-returns
 returns c =
-    let copied = c.before.before in
-    let d = copied.before.before.before in
-    let s = start d in (
-      ap (λ (l : List ℕ). tops_in l d.count_floors.result) copied.copy_at.ensures
-          ∙ tops_copied s.args.pool.now s.pre.0 s.args.tops.now d.count_floors.result d.count_floors.ensures.0,
-      few d,
+    let s = start c.before.before.before.before.before in (
+      ap (λ (l : List ℕ). tops_in l c.count_floors-count.result) c.copy_at.ensures
+          ∙ tops_copied s.args.pool.now s.requires.0 s.args.tops.now c.count_floors-count.result c.count_floors-count.ensures.0,
+      few c.before.before.before.before.before,
     )
 
 pub copy_floors_spec : {M : Type 1} → statement M

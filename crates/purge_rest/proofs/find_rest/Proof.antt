@@ -17,41 +17,40 @@ use Rattle.purge_rest.proofs.find_rest.Statement.{statement}
 use Rattle.purge_rest.proofs.find_rest.Tie as tie
 
 -- where the call began, from where the values are known; and that from where the start of the messages is
-abbrev began : tie.After-run-log → tie.Start
+abbrev began : tie.After-run_log-base → tie.Start
 began c = c.before.before.before.before
 
-abbrev ran : tie.After-messages-start → tie.After-run-log
+abbrev ran : tie.After-messages_start-start → tie.After-run_log-base
 ran c = c.before.before.before
 
 abbrev gone : tie.Start → List Message
 gone s = deltas_at (deltas_of s.args.pool.now s.args.starts.now) s.args.gone.now
 
-start_is : (c : tie.After-messages-start) → let a = (began (ran c)).args in c.messages_start_lem.result ≡ messages_start (set_in a.pool.now a.starts.now)
-start_is c = let a = (began (ran c)).args in c.messages_start_lem.ensures ∙ start_in a.pool.now a.starts.now
+start_is : (c : tie.After-messages_start-start) → let a = (began (ran c)).args in c.messages_start-start.result ≡ messages_start (set_in a.pool.now a.starts.now)
+start_is c = let a = (began (ran c)).args in c.messages_start-start.ensures ∙ start_in a.pool.now a.starts.now
 
-run-log-requires : tie.Need-run-log-requires
-run-log-requires c κs = let s = c.before.before.before in first_inside s.args.pool.now s.args.starts.now s.args.gone.now s.requires
+run-log-requires : tie.Need-run_log-base-requires
+run-log-requires c κs = first_inside c.args.pool.now c.args.starts.now c.args.gone.now c.requires
 
-messages-start-requires : tie.Need-messages-start-requires
-messages-start-requires c κs = let s = began c.before.before in header_room s.args.pool.now s.pre.log.holds.right
+messages-start-requires : tie.Need-messages_start-start-requires
+messages-start-requires c κs = let s = began c.before.before in header_room s.args.pool.now s.requires.log.holds.right
 
-end-of-requires : tie.Need-end-of-requires
+end-of-requires : tie.Need-end_of-from-requires
 end-of-requires c κs =
     let s = began (ran c) in
     let a = s.args in
-    (first_inside a.pool.now a.starts.now a.gone.now s.pre, omega (arith, start_is c, first_room a.pool.now a.starts.now a.gone.now s.pre))
+    (first_inside a.pool.now a.starts.now a.gone.now s.requires, omega (arith, start_is c, first_room a.pool.now a.starts.now a.gone.now s.requires))
 
 returns : tie.Need-returns
 returns c =
-    let m = c.before in
-    let r = ran m in
+    let r = ran c.before in
     let s = began r in
     let S : State = set_in s.args.pool.now s.args.starts.now in
     record {
-      base = r.run-log.ensures ∙ sym (base_past S (gone s));
-      block = m.before.before.purged-block.ensures;
-      group = m.before.purged-group.ensures;
-      from = c.end_of.ensures ∙ ap (λ (n : ℕ). n + length (join (gone s))) (start_is m);
+      base = r.run_log-base.ensures ∙ sym (base_past S (gone s));
+      block = c.purged_block-block.ensures;
+      group = c.purged_group-group.ensures;
+      from = c.end_of-from.ensures ∙ ap (λ (n : ℕ). n + length (join (gone s))) (start_is c.before);
     }
 
 pub find_rest_spec : {M : Type 1} → statement M

@@ -10,21 +10,19 @@ use Rattle.purge_rest.proofs.purged_block.Statement.{statement}
 use Rattle.purge_rest.proofs.purged_block.Tie as tie
 
 -- where the call began, from where the pool's number is read
-abbrev began : tie.After-get-u32 → tie.Start
+abbrev began : tie.After-get_u32-purged → tie.Start
 began c = c.before.before.before.before
 
-get-u32-requires : tie.Need-get-u32-requires
-get-u32-requires c κs = let s = c.before.before.before in omega (arith, header_room s.args.pool.now s.requires.log.holds.right)
+get-u32-requires : tie.Need-get_u32-purged-requires
+get-u32-requires c κs = omega (arith, header_room c.args.pool.now c.requires.log.holds.right)
 
-highest-block-requires : tie.Need-highest-block-requires
-highest-block-requires c κs = let s = began c in first_logged s.args.pool.now s.args.starts.now s.args.gone.now s.pre
+highest-block-requires : tie.Need-highest_block-requires
+highest-block-requires c κs = let s = began c in first_logged s.args.pool.now s.args.starts.now s.args.gone.now s.requires
 
 returns : tie.Need-returns
 returns c =
-    let h = c.before in
-    let p = h.before in
-    let a = (began p).args in
-    c.greater.ensures ∙ ap₂ max (p.get-u32.ensures ∙ sym (block_in a.pool.now)) h.highest-block.ensures.0
+    let a = (began c.before.before).args in
+    c.greater.ensures ∙ ap₂ max (c.get_u32-purged.ensures ∙ sym (block_in a.pool.now)) c.highest_block.ensures.0
     ∙ sym (block_past (set_in a.pool.now a.starts.now) (deltas_at (deltas_of a.pool.now a.starts.now) a.gone.now))
 
 pub purged_block_spec : {M : Type 1} → statement M

@@ -6,17 +6,15 @@ use Rattle.model.specs.Image.{log_count}
 use Rattle.read_checks.proofs.check_place.Statement.{statement}
 use Rattle.read_checks.proofs.check_place.Tie as tie
 
-returns : tie.Need-returns
+returns : tie.Need-returns-then-logged-place
 returns c =
-    let g = c.before in
-    let a = g.before.before.args in
-    simp (le-leb (log_count a.image.now) a.place (omega (arith, g.get-u16.ensures.0, c.if1.true)))
+    let a = c.args in
+    simp (le-leb (log_count a.image.now) a.place (omega (arith, c.get_u16-logged.ensures.0, c.if-logged-place.true)))
 
-returns-2 : tie.Need-returns-2
+returns-2 : tie.Need-returns
 returns-2 c =
-    let g = c.before in
-    let a = g.before.before.args in
-    simp (lt-leb (log_count a.image.now) a.place (omega (arith, g.get-u16.ensures.0, c.if1.false)))
+    let a = c.args in
+    simp (lt-leb (log_count a.image.now) a.place (omega (arith, c.get_u16-logged.ensures.0, c.if-logged-place.false)))
 
 pub check_place_spec : {M : Type 1} → statement M
 check_place_spec = tie.close (tie.spec (λ c κs. search rules) (λ c. search rules) returns returns-2)

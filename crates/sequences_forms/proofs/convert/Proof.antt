@@ -16,40 +16,35 @@ use Rattle.sequences_forms.specs.FormCases.{sequences_printed, form_is}
 use Rattle.sequences_forms.proofs.convert.Statement.{statement}
 use Rattle.sequences_forms.proofs.convert.Tie as tie
 
-abbrev began : tie.After-line-size → tie.Start
+abbrev began : tie.After-line_size-size → tie.Start
 began c = c.before.before
 
 -- what was told of the line
-abbrev measured : tie.After-is-printable → tie.After-line-size
-measured c = c.before.before
+abbrev measured : tie.After-is_printable → tie.After-line_size-size
+measured c = c.before
 
-told : (c : tie.After-is-printable) {t : Bool} → c.is-printable.result ≡ t → every printable (without_line_feed (began (measured c)).args.input.now) ≡ t
-told c e = ap (every printable) (sym (measured c).line_size_lem.ensures.line) ∙ sym c.is-printable.ensures ∙ e
+told : (c : tie.After-is_printable) {t : Bool} → c.is_printable.result ≡ t → every printable (without_line_feed (began (measured c)).args.input.now) ≡ t
+told c e = ap (every printable) (sym (measured c).line_size-size.ensures.line) ∙ sym c.is_printable.ensures ∙ e
 
-slice-aggregate-is-printable : tie.Need-slice-aggregate-is-printable
-slice-aggregate-is-printable c = let m = c.before in sym (length-take-le m.line_size_lem.result (began m).args.input.now m.line_size_lem.ensures.inside)
+slice-aggregate-is-printable : tie.Need-slice_bounds-is_printable-end
+slice-aggregate-is-printable c = sym (length-take-le c.line_size-size.result (began c).args.input.now c.line_size-size.ensures.inside)
 
-slice-aggregate-read-sequences : tie.Need-slice-aggregate-read-sequences
+slice-aggregate-read-sequences : tie.Need-slice_bounds-read_sequences-end
 slice-aggregate-read-sequences c =
-    let m = c.before.before.before.before in
-    sym (length-take-le m.line_size_lem.result (began m).args.input.now m.line_size_lem.ensures.inside)
+    sym (length-take-le c.line_size-size.result (began c.before.before).args.input.now c.line_size-size.ensures.inside)
 
-returns : tie.Need-returns
+returns : tie.Need-returns-then-is_printable
 returns c =
-    let t = c.before.before.before in
-    let p = t.before in
-    let a = (began (measured p)).args in
-    let room : sequences_room ≤ length a.output.now = omega (arith, (began (measured p)).well-formed) in
-    c.read-sequences.ensures ∙ ap (λ (l : List ℕ). read_sequences l a.output.now) (measured p).line_size_lem.ensures.line
+    let a = (began (measured c.before.before.before)).args in
+    let room : sequences_room ≤ length a.output.now = omega (arith, (began (measured c.before.before.before)).well_formed) in
+    c.read_sequences.ensures ∙ ap (λ (l : List ℕ). read_sequences l a.output.now) (measured c.before.before.before).line_size-size.ensures.line
     ∙ sequences_printed (without_line_feed a.input.now) a.output.now room
-    ∙ ap (λ (f : Printed). put_at_front f a.output.now) (form_is a.input.now (told p t.if1.true))
+    ∙ ap (λ (f : Printed). put_at_front f a.output.now) (form_is a.input.now (told c.before.before.before c.if-is_printable.true))
 
-returns-2 : tie.Need-returns-2
+returns-2 : tie.Need-returns
 returns-2 c =
-    let t = c.before.before in
-    let p = t.before in
-    let a = (began (measured p)).args in
-    c.put-line.ensures ∙ ap (λ (f : Printed). put_at_front f a.output.now) (form_is a.input.now (told p t.if1.false))
+    let a = (began (measured c.before.before.before)).args in
+    c.put_line.ensures ∙ ap (λ (f : Printed). put_at_front f a.output.now) (form_is a.input.now (told c.before.before.before c.if-is_printable.false))
 
 pub convert_spec : {M : Type 1} → statement M
 convert_spec =

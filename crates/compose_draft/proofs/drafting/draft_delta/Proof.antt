@@ -17,13 +17,13 @@ use Rattle.compose_draft.proofs.drafting.draft_delta.Statement.{statement}
 use Rattle.compose_draft.proofs.drafting.draft_delta.Tie as tie
 
 -- where the call began, from where the number is known; and that from where the block and the group are
-abbrev began : tie.After-new-number → tie.Start
+abbrev began : tie.After-new_number-number → tie.Start
 began c = c.before.before.before.before
 
-abbrev counted : tie.After-new-block → tie.After-new-number
+abbrev counted : tie.After-new_block-block → tie.After-new_number-number
 counted c = c.before.before
 
-abbrev blocked : tie.After-new-group → tie.After-new-block
+abbrev blocked : tie.After-new_group-group → tie.After-new_block-block
 blocked c = c.before.before.before
 
 abbrev set : tie.Start → State
@@ -36,42 +36,39 @@ abbrev flag : tie.Start → Bool
 flag s = eqb s.args.flag 1
 
 -- the sequence and the group are the state's
-own_is : (c : tie.After-new-number) → let s = began c in
-    sequence_number (record { high = s.args.line.high; low = s.args.line.low + c.new-number.result }) ≡ new_sequence (set s) (line s)
-own_is c = let s = began c in numbered s.args.line c.new-number.result s.pre.1 ∙ ap (λ (n : ℕ). line s * numbers_of_line + n) c.new-number.ensures.0
+own_is : (c : tie.After-new_number-number) → let s = began c in
+    sequence_number (record { high = s.args.line.high; low = s.args.line.low + c.new_number-number.result }) ≡ new_sequence (set s) (line s)
+own_is c = let s = began c in numbered s.args.line c.new_number-number.result s.requires.1 ∙ ap (λ (n : ℕ). line s * numbers_of_line + n) c.new_number-number.ensures.0
 
-group_is : (c : tie.After-new-group) → let s = began (counted (blocked c)) in c.new-group.result ≡ new_group (set s) (new_sequence (set s) (line s))
-group_is c = let n = counted (blocked c) in c.new-group.ensures ∙ ap (new_group (set (began n))) (own_is n)
+group_is : (c : tie.After-new_group-group) → let s = began (counted (blocked c)) in c.new_group-group.result ≡ new_group (set s) (new_sequence (set s) (line s))
+group_is c = let n = counted (blocked c) in c.new_group-group.ensures ∙ ap (new_group (set (began n))) (own_is n)
 
-returns : tie.Need-returns
-returns c = let n = c.before in let s = began n in past_number (set s) (line s) (flag s) n.new-number.ensures.0 refl refl c.if1.true
+returns : tie.Need-returns-then-number-ge-NUMBERS_OF_LINE
+returns c = let s = began c.before in past_number (set s) (line s) (flag s) c.new_number-number.ensures.0 refl refl c.if-number-ge-NUMBERS_OF_LINE.true
 
-returns-2 : tie.Need-returns-2
+returns-2 : tie.Need-returns-then-block-gt-FIELD_LIMIT
 returns-2 c =
-    let b = c.before in
-    let n = counted b in
+    let n = counted c.before in
     let s = began n in
-    past_block (set s) (line s) (flag s) n.new-number.ensures.0 b.new-block.ensures refl c.if2.true
+    past_block (set s) (line s) (flag s) n.new_number-number.ensures.0 c.new_block-block.ensures refl c.if-block-gt-FIELD_LIMIT.true
 
-returns-3 : tie.Need-returns-3
+returns-3 : tie.Need-returns-then-group-gt-FIELD_LIMIT
 returns-3 c =
-    let g = c.before in
-    let b = blocked g in
+    let b = blocked c.before in
     let n = counted b in
     let s = began n in
-    past_group (set s) (line s) (flag s) n.new-number.ensures.0 b.new-block.ensures (group_is g) c.if3.true
+    past_group (set s) (line s) (flag s) n.new_number-number.ensures.0 b.new_block-block.ensures (group_is c.before) c.if-group-gt-FIELD_LIMIT.true
 
-returns-4 : tie.Need-returns-4
+returns-4 : tie.Need-returns
 returns-4 c =
-    let g = c.before.before in
-    let b = blocked g in
+    let b = blocked c.before.before in
     let n = counted b in
     let s = began n in
     record {
-      within = past_none (set s) (line s) (flag s) n.new-number.ensures.0 b.new-block.ensures (group_is g) (omega arith) (omega arith) (omega arith);
+      within = past_none (set s) (line s) (flag s) n.new_number-number.ensures.0 b.new_block-block.ensures (group_is c.before.before) (omega arith) (omega arith) (omega arith);
       sequence = own_is n;
-      group = group_is g;
-      priority_is = c.priority-of.ensures ∙ ap (λ (x : ℕ). priority_by (flag s) x s.args.priority) b.new-block.ensures;
+      group = group_is c.before.before;
+      priority_is = c.priority_of-given.ensures ∙ ap (λ (x : ℕ). priority_by (flag s) x s.args.priority) b.new_block-block.ensures;
     }
 
 pub draft_delta_spec : {M : Type 1} → statement M

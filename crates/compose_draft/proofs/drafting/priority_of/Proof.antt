@@ -6,11 +6,11 @@ use Rattle.compose_draft.specs.Drafting.{priority_by}
 use Rattle.compose_draft.proofs.drafting.priority_of.Statement.{statement}
 use Rattle.compose_draft.proofs.drafting.priority_of.Tie as tie
 
-returns : tie.Need-returns
-returns c = let a = c.before.args in sym (ap (λ (b : Bool). priority_by b a.block a.priority) (ne_eqb a.flag 1 c.if1.true))
+returns : tie.Need-returns-then-flag-ne1
+returns c = let a = c.args in sym (ap (λ (b : Bool). priority_by b a.block a.priority) (ne_eqb a.flag 1 c.if-flag-ne1.true))
 
-returns-2 : tie.Need-returns-2
-returns-2 c = let a = c.before.args in sym (ap (λ (b : Bool). priority_by b a.block a.priority) (eq-eqb a.flag 1 c.if1.false))
+returns-2 : tie.Need-returns
+returns-2 c = let a = c.args in sym (ap (λ (b : Bool). priority_by b a.block a.priority) (eq-eqb a.flag 1 c.if-flag-ne1.false))
 
 pub priority_of_spec : {M : Type 1} → statement M
 priority_of_spec = tie.close (tie.spec returns returns-2)

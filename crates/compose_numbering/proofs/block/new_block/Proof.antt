@@ -18,35 +18,30 @@ abbrev set : tie.Start → State
 set s = set_in s.args.pool.now s.args.starts.now
 
 -- where the call began, from where the flag is set
-abbrev flagged : tie.Else1 → tie.Start
+abbrev flagged : tie.Else-flag-ne1 → tie.Start
 flagged e = e.before.before.before.before
 
-returns : tie.Need-returns
-returns c = let s = c.before.before.before.before in sym (ap (new_block (set s)) (ne_eqb s.args.flag 1 c.if1.true))
+returns : tie.Need-returns-then-flag-ne1
+returns c = sym (ap (new_block (set c.before.before.before.before)) (ne_eqb c.args.flag 1 c.if-flag-ne1.true))
 
-get-u32-requires : tie.Need-get-u32-requires
-get-u32-requires c κs = let s = flagged c in omega (arith, header_room s.args.pool.now s.pre.holds.right)
+get-u32-requires : tie.Need-get_u32-purged-requires
+get-u32-requires c κs = let s = flagged c in omega (arith, header_room s.args.pool.now s.requires.holds.right)
 
-highest-block-requires : tie.Need-highest-block-requires
-highest-block-requires c κs = let s = flagged c.before in all_logged s.args.pool.now s.args.starts.now s.args.places.now s.pre
+highest-block-requires : tie.Need-highest_block-requires
+highest-block-requires c κs = let s = flagged c.before in all_logged s.args.pool.now s.args.starts.now s.args.places.now s.requires
 
-add-result : tie.Need-overflow-add-result
+add-result : tie.Need-overflow_add-result
 add-result c =
-    let h = c.before in
-    let p = h.before in
-    let s = flagged p.before in
+    let s = flagged c.before.before.before in
     let pool = s.args.pool.now in
-    omega (arith, c.greater.ensures, h.highest-block.ensures.1, p.get-u32.ensures, block_in pool, block_limit (origin_in pool) s.pre.holds.right)
+    omega (arith, c.greater.ensures, c.highest_block.ensures.1, c.get_u32-purged.ensures, block_in pool, block_limit (origin_in pool) s.requires.holds.right)
 
-returns-2 : tie.Need-returns-2
+returns-2 : tie.Need-returns
 returns-2 c =
-    let h = c.before in
-    let p = h.before in
-    let e = p.before in
-    let s = flagged e in
+    let s = flagged c.before.before.before in
     add-one c.greater.result
-    ∙ ap suc (c.greater.ensures ∙ ap₂ max (p.get-u32.ensures ∙ sym (block_in s.args.pool.now)) (h.highest-block.ensures.0 ∙ ap (highest_block (set s)) s.pre.log))
-    ∙ sym (ap (new_block (set s)) (eq-eqb s.args.flag 1 e.if1.false))
+    ∙ ap suc (c.greater.ensures ∙ ap₂ max (c.get_u32-purged.ensures ∙ sym (block_in s.args.pool.now)) (c.highest_block.ensures.0 ∙ ap (highest_block (set s)) s.requires.log))
+    ∙ sym (ap (new_block (set s)) (eq-eqb s.args.flag 1 c.if-flag-ne1.false))
 
 pub new_block_spec : {M : Type 1} → statement M
 new_block_spec = tie.close (tie.spec returns get-u32-requires highest-block-requires (λ c κs. search rules) add-result returns-2)

@@ -26,65 +26,62 @@ use Rattle.compose_numbering.proofs.number.new_number.Tie as tie
 abbrev on : List ℕ → List ℕ → ℕ → ℕ → ℕ
 on pool starts line i = number_on line (sequence_in pool starts i)
 
-abbrev invariant-loop : tie.invariant-loop
+abbrev invariant-loop : tie.invariant-loop-k
 invariant-loop pool starts places line greatest₀ k₀ so k =
     let f : ℕ → ℕ = on pool starts (line_of (sequence_number line)) in
     (k ≤ length places) × (max greatest₀ (greatest f places) ≡ max so (greatest f (drop k places))) × (so < numbers_of_line)
 
-abbrev decreases-loop : tie.decreases-loop
+abbrev decreases-loop : tie.decreases-loop-k
 decreases-loop pool starts places line greatest₀ k₀ so k = length places - k
 
 -- where the call began, and the head of the loop from where the place was read
-abbrev start : tie.At-loop invariant-loop decreases-loop → tie.Start invariant-loop decreases-loop
+abbrev start : tie.At-loop-k invariant-loop decreases-loop → tie.Start invariant-loop decreases-loop
 start h = h.before.before.before.before.before
 
-abbrev turn : tie.After-shared-slice-known4 invariant-loop decreases-loop → tie.At-loop invariant-loop decreases-loop
+abbrev turn : tie.After-shared_slice_known-in-loop-k-1 invariant-loop decreases-loop → tie.At-loop-k invariant-loop decreases-loop
 turn c = c.before.before
 
 abbrev line : tie.Start invariant-loop decreases-loop → ℕ
 line s = line_of (sequence_number s.args.line)
 
-loop-holds : tie.Need-loop-init invariant-loop decreases-loop
+loop-holds : tie.Need-loop-k-init invariant-loop decreases-loop
 loop-holds c =
-    let s = c.before.before.before.before in
-    (omega arith, refl, omega (arith, c.floor-number.ensures, greatest_≤ (number_on (line s)) (origin_in s.args.pool.now).floors 65535 (λ f k. omega (arith, number_small (line s) f))))
+    (omega arith, refl, omega (arith, c.floor_number-greatest.ensures, greatest_≤ (number_on (line c.before.before.before.before)) (origin_in c.args.pool.now).floors 65535 (λ f k. omega (arith, number_small (line c.before.before.before.before) f))))
 
-cast-sequence-at : tie.Need-overflow-cast-sequence-at invariant-loop decreases-loop
-cast-sequence-at c = omega (arith, c.shared-slice-known4.given (turn c).loop.k)
+cast-sequence-at : tie.Need-overflow_cast-places invariant-loop decreases-loop
+cast-sequence-at c = omega (arith, c.shared_slice_known-in-loop-k-1.given (turn c).loop-k.k)
 
-sequence-at-requires : tie.Need-sequence-at-requires invariant-loop decreases-loop
+sequence-at-requires : tie.Need-sequence_at-s-requires invariant-loop decreases-loop
 sequence-at-requires c κs =
     let s = start (turn c) in
     let a = s.args in
-    (s.pre.0.holds, place_inside a.pool.now a.starts.now a.places.now (log_inside a.pool.now a.starts.now a.places.now s.pre.0) (turn c).loop.k (omega arith))
+    (s.requires.0.holds, place_inside a.pool.now a.starts.now a.places.now (log_inside a.pool.now a.starts.now a.places.now s.requires.0) (turn c).loop-k.k (omega arith))
 
-loop-again : tie.Need-loop-preserved invariant-loop decreases-loop
+loop-again : tie.Need-loop-k-preserved invariant-loop decreases-loop
 loop-again c =
-    let read = c.before.before in
-    let h = turn read.before in
-    let l = h.loop in
+    let h = turn c.before.before.before in
+    let l = h.loop-k in
     let s = start h in
     let a = s.args in
-    let new = c.greater.ensures ∙ ap (max l.greatest) (c.before.number_on_lem.ensures ∙ ap (number_on (line s)) read.sequence_at.ensures) in (
+    let new = c.greater-greatest.ensures ∙ ap (max l.greatest) (c.number_on.ensures ∙ ap (number_on (line s)) c.sequence_at-s.ensures) in (
       omega arith,
-      greatest_next (on a.pool.now a.starts.now (line s)) a.places.now l.k l.greatest l.inv.1 0 (omega arith) new,
-      omega (arith, c.greater.ensures, c.before.number_on_lem.ensures, number_small (line s) (sequence_number read.sequence_at.result), l.inv.2),
+      greatest_next (on a.pool.now a.starts.now (line s)) a.places.now l.k l.greatest l.invariant.1 0 (omega arith) new,
+      omega (arith, c.greater-greatest.ensures, c.number_on.ensures, number_small (line s) (sequence_number c.sequence_at-s.result), l.invariant.2),
     )
 
-add-result : tie.Need-overflow-add-result invariant-loop decreases-loop
-add-result c = omega (arith, c.before.loop.invariant.2)
+add-result : tie.Need-overflow_add-result invariant-loop decreases-loop
+add-result c = omega (arith, c.loop-k.invariant.2)
 
 returns : tie.Need-returns invariant-loop decreases-loop
 returns c =
-    let h = c.before in
-    let l = h.loop in
-    let s = start h in
+    let l = c.loop-k in
+    let s = start c.before in
     let a = s.args in
     let f : Message → ℕ = λ m. number_on (line s) (sequence_of m) in (
       add-one l.greatest
           ∙ ap suc (greatest_last (on a.pool.now a.starts.now (line s)) a.places.now l.k l.greatest l.invariant.1 (omega arith)
-          ∙ ap₂ max h.before.floor-number.ensures
-          (greatest_map f (λ (i : ℕ). get_or (deltas_of a.pool.now a.starts.now) i []) a.places.now ∙ ap (highest_number (line s)) s.pre.0.log)),
+          ∙ ap₂ max c.floor_number-greatest.ensures
+          (greatest_map f (λ (i : ℕ). get_or (deltas_of a.pool.now a.starts.now) i []) a.places.now ∙ ap (highest_number (line s)) s.requires.0.log)),
       omega (arith, l.invariant.2),
     )
 
@@ -94,7 +91,7 @@ new_number_spec =
     (tie.spec
     invariant-loop
     decreases-loop
-    (λ c κs. let s = c.before.before.before in (s.requires.0.holds.right, s.requires.1))
+    (λ c κs. (c.requires.0.holds.right, c.requires.1))
     loop-holds
     (λ c. omega arith)
     cast-sequence-at

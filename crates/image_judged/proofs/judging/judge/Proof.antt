@@ -29,122 +29,116 @@ use Rattle.image_judged.proofs.judging.judge.Statement.{statement}
 use Rattle.image_judged.proofs.judging.judge.Tie as tie
 
 -- what was listed: the table is the one that was read, and so is the log
-abbrev start : tie.After-list → tie.Start
+abbrev start : tie.After-list-listed → tie.Start
 start c = c.before.before.before
 
-is_table : (c : tie.After-list) → IsTable (start c).args.b.now c.list.result.table
-is_table c = subst (IsTable (start c).args.b.now) (sym c.list.ensures.table) (start c).requires.2
+is_table : (c : tie.After-list-listed) → IsTable (start c).args.b.now c.list-listed.result.table
+is_table c = subst (IsTable (start c).args.b.now) (sym c.list-listed.ensures.table) (start c).requires.2
 
-is_read : (c : tie.After-list) → ReadsLog (start c).args.b.now (starts_of c.list.result.table) c.list.result.logged c.list.result.places
+is_read : (c : tie.After-list-listed) → ReadsLog (start c).args.b.now (starts_of c.list-listed.result.table) c.list-listed.result.logged c.list-listed.result.places
 is_read c =
-    let r = c.list.result in
-    subst (λ (t : Table). ReadsLog (start c).args.b.now (starts_of t) r.logged r.places) (sym c.list.ensures.table) c.list.ensures.log
+    let r = c.list-listed.result in
+    subst (λ (t : Table). ReadsLog (start c).args.b.now (starts_of t) r.logged r.places) (sym c.list-listed.ensures.table) c.list-listed.ensures.log
 
-check-listed-requires : tie.Need-check-listed-requires
+check-listed-requires : tie.Need-check_listed-checked-requires
 check-listed-requires c κs =
-    ((start c).requires.0, is_table c, record { unjudged = c.list.ensures.unjudged; table = refl; count = c.list.ensures.count; fits = c.list.ensures.fits; log = is_read c; offsets = c.list.ensures.offsets })
+    ((start c).requires.0, is_table c, record { unjudged = c.list-listed.ensures.unjudged; table = refl; count = c.list-listed.ensures.count; fits = c.list-listed.ensures.fits; log = is_read c; offsets = c.list-listed.ensures.offsets })
 
-returns : tie.Need-returns
+returns : tie.Need-returns-in_default
 returns c =
-    let k = c.before.before in
-    let l = k.before in
-    let r = l.list.result in
-    let b = (start l).args.b.now in
-    refused b _ r l.list.ensures.unjudged (other_log b r.table (is_table l) r.logged r.places (is_read l) (subst (ChecksLog (set_in b (starts_of r.table)) (places_in r)) c.enum-told2.given.1 k.check-listed.ensures))
+    let r = c.list-listed.result in
+    let b = (start c.before.before).args.b.now in
+    refused b _ r c.list-listed.ensures.unjudged (other_log b r.table (is_table c.before.before) r.logged r.places (is_read c.before.before) (subst (ChecksLog (set_in b (starts_of r.table)) (places_in r)) c.in_default.is c.check_listed-checked.ensures))
 
 -- the listed log is that of the set
-abbrev listed : tie.After-enum-told → tie.After-list
-listed c = c.before.before.before
+abbrev listed : tie.In-Right → tie.After-list-listed
+listed c = c.before.before
 
-log_is : (c : tie.After-enum-told) → let l = listed c in let r = l.list.result in ChecksLog (set_in (start l).args.b.now (starts_of r.table)) (places_in r) Right
+log_is : (c : tie.In-Right) → let l = listed c in let r = l.list-listed.result in ChecksLog (set_in (start l).args.b.now (starts_of r.table)) (places_in r) Right
 log_is c =
     let l = listed c in
-    let r = l.list.result in
-    subst (ChecksLog (set_in (start l).args.b.now (starts_of r.table)) (places_in r)) c.enum_told.given.1 c.before.before.check-listed.ensures
+    let r = l.list-listed.result in
+    subst (ChecksLog (set_in (start l).args.b.now (starts_of r.table)) (places_in r)) c.in-Right.is c.check_listed-checked.ensures
 
 -- the copy has room for an image
-large : (l : tie.After-list) → image_size ≤ length (start l).args.copy.now
+large : (l : tie.After-list-listed) → image_size ≤ length (start l).args.copy.now
 large l = let blank = (start l).requires.3 in omega (arith, blank.room, ap length blank.zeros, length-replicate {A = ℕ} blank.count 0)
 
-rewrite-requires : tie.Need-rewrite-requires
+rewrite-requires : tie.Need-rewrite-used-requires
 rewrite-requires c κs =
-    let e = c.before in
-    let l = listed e in
-    record { room = large l; holds = (is_table l).holds; counted = (is_table l).fits; fits = l.list.ensures.fits; log = log_is e }
+    let l = listed c.before in
+    record { room = large l; holds = (is_table l).holds; counted = (is_table l).fits; fits = l.list-listed.ensures.fits; log = log_is c.before }
 
 -- where the list is, from where the used bytes are written; these, in zeros, are the image of the set
-abbrev known : tie.After-rewrite → tie.After-enum-told
+abbrev known : tie.After-rewrite-used → tie.In-Right
 known w = w.before.before
 
-still_large : (w : tie.After-rewrite) → image_size ≤ length w.rewrite.new.0
-still_large w = let l = listed (known w) in omega (arith, w.rewrite.auto.0, large l)
+still_large : (w : tie.After-rewrite-used) → image_size ≤ length w.rewrite-used.new.out
+still_large w = let l = listed (known w) in omega (arith, w.rewrite-used.auto.out, large l)
 
-image_is : (w : tie.After-rewrite) → let l = listed (known w) in take image_size w.rewrite.new.0 ≡ image_of (set_in (start l).args.b.now (starts_of l.list.result.table))
+image_is : (w : tie.After-rewrite-used) → let l = listed (known w) in take image_size w.rewrite-used.new.out ≡ image_of (set_in (start l).args.b.now (starts_of l.list-listed.result.table))
 image_is w =
     let l = listed (known w) in
-    let blank = (start l).pre.3 in
-    let S = set_in (start l).args.b.now (starts_of l.list.result.table) in
-    ap (take image_size) (w.rewrite.ensures.bytes ∙ ap (λ (x : List ℕ). used_of S ++ drop (length (used_of S)) x) blank.zeros)
+    let blank = (start l).requires.3 in
+    let S = set_in (start l).args.b.now (starts_of l.list-listed.result.table) in
+    ap (take image_size) (w.rewrite-used.ensures.bytes ∙ ap (λ (x : List ℕ). used_of S ++ drop (length (used_of S)) x) blank.zeros)
     ∙ over_zeros S blank.count blank.room (used_fits S (is_table l).holds)
 
-slice-reshare-prefix-equals-copy : tie.Need-slice-reshare-prefix-equals-copy
+slice-reshare-prefix-equals-copy : tie.Need-slice_bounds-equals_copy-end
 slice-reshare-prefix-equals-copy c = still_large c.before.before
 
-slice-aggregate-equals-copy : tie.Need-slice-aggregate-equals-copy
-slice-aggregate-equals-copy c = let w = c.before.before.before in sym (length-take-le image_size w.rewrite.new.0 (still_large w))
+slice-aggregate-equals-copy : tie.Need-slice_bounds-equals_copy-end-2
+slice-aggregate-equals-copy c = sym (length-take-le image_size c.rewrite-used.new.out (still_large c.before.before))
 
-equals-copy-requires : tie.Need-equals-copy-requires
+equals-copy-requires : tie.Need-equals_copy-requires
 equals-copy-requires c κs =
-    let w = c.before.before.before in
-    let l = listed (known w) in
-    let S = set_in (start l).args.b.now (starts_of l.list.result.table) in
-    let used = w.rewrite.result in (
-      length-take-le image_size w.rewrite.new.0 (still_large w) ∙ sym (start l).pre.0,
-      omega (arith, w.rewrite.ensures.end, used_fits S (is_table l).holds, (start l).pre.0),
-      ap (drop used) (image_is w) ∙ past_used S used w.rewrite.ensures.end ∙ ap (λ (n : ℕ). replicate (n - used) 0) (sym (start l).pre.0),
+    let l = listed (known c.before.before) in
+    let S = set_in (start l).args.b.now (starts_of l.list-listed.result.table) in
+    let used = c.rewrite-used.result in (
+      length-take-le image_size c.rewrite-used.new.out (still_large c.before.before) ∙ sym (start l).requires.0,
+      omega (arith, c.rewrite-used.ensures.end, used_fits S (is_table l).holds, (start l).requires.0),
+      ap (drop used) (image_is c.before.before) ∙ past_used S used c.rewrite-used.ensures.end ∙ ap (λ (n : ℕ). replicate (n - used) 0) (sym (start l).requires.0),
     )
 
 -- where the image of the set was compared, and where it was written
-abbrev written : tie.After-equals-copy → tie.After-rewrite
-written c = c.before.before.before.before
+abbrev written : tie.After-equals_copy → tie.After-rewrite-used
+written c = c.before.before.before
 
 -- whether the buffer is an image is what the comparison says
-compared : (c : tie.After-equals-copy) (t : Bool) → c.equals-copy.result ≡ t → is_image (start (listed (known (written c)))).args.b.now ≡ t
+compared : (c : tie.After-equals_copy) (t : Bool) → c.equals_copy.result ≡ t → is_image (start (listed (known (written c)))).args.b.now ≡ t
 compared c t e =
     let l = listed (known (written c)) in
     let b = (start l).args.b.now in
-    judged b l.list.result.table (is_table l) ∙ ap (λ (i : List ℕ). same i b) (sym (image_is (written c))) ∙ sym c.equals-copy.ensures ∙ e
+    judged b l.list-listed.result.table (is_table l) ∙ ap (λ (i : List ℕ). same i b) (sym (image_is (written c))) ∙ sym c.equals_copy.ensures ∙ e
 
-same_length : tie.Need-same-length
-same_length c = (written c.before).rewrite.auto.0
+same_length : tie.Need-shape_of-copy-then-not-equals_copy
+same_length c = (written c.before).rewrite-used.auto.out
 
-returns-2 : tie.Need-returns-2
+returns-2 : tie.Need-returns-then-not-equals_copy
 returns-2 c =
-    let a = c.before in
-    let l = listed (known (written a)) in
-    refused (start l).args.b.now _ l.list.result l.list.ensures.unjudged (compared a _ (c.if1.true))
+    let l = listed (known (written c.before)) in
+    refused (start l).args.b.now _ l.list-listed.result l.list-listed.ensures.unjudged (compared c.before _ (c.if-not-equals_copy.true))
 
-same-length-2 : tie.Need-same-length-2
-same-length-2 c = (written c.before.before).rewrite.auto.0
+same-length-2 : tie.Need-shape_of-copy
+same-length-2 c = (written c.before.before).rewrite-used.auto.out
 
-returns-3 : tie.Need-returns-3
+returns-3 : tie.Need-returns
 returns-3 c =
-    let a = c.before.before in
-    let w = written a in
+    let w = written c.before.before in
     let e = known w in
     let l = listed e in
     let b = (start l).args.b.now in
-    let equal = c.before.if1.false in (
+    let equal = c.if-not-equals_copy.false in (
       record {
-        image = subst T (sym (compared a _ equal)) tt;
-        table = (start l).pre.2;
-        log = subst (λ (t : Table). deltas_at (deltas_of b (starts_of t)) (places_in l.list.result) ≡ log_of (set_in b (starts_of t))) l.list.ensures.table (log_is e);
-        inside = l.list.ensures.log.inside;
-        count = l.list.ensures.count;
-        fits = l.list.ensures.fits;
-        offsets = subst (λ (n : ℕ). LogOffsets b (take n (start l).args.offsets)) (sym l.list.ensures.count) (start l).pre.1;
+        image = subst T (sym (compared c.before.before _ equal)) tt;
+        table = (start l).requires.2;
+        log = subst (λ (t : Table). deltas_at (deltas_of b (starts_of t)) (places_in l.list-listed.result) ≡ log_of (set_in b (starts_of t))) l.list-listed.ensures.table (log_is e);
+        inside = l.list-listed.ensures.log.inside;
+        count = l.list-listed.ensures.count;
+        fits = l.list-listed.ensures.fits;
+        offsets = subst (λ (n : ℕ). LogOffsets b (take n (start l).args.offsets)) (sym l.list-listed.ensures.count) (start l).requires.1;
       },
-      same→eq (take image_size w.rewrite.last.0) b (subst T (sym equal ∙ a.equals-copy.ensures) tt),
+      same→eq (take image_size w.rewrite-used.new.out) b (subst T (sym equal ∙ c.equals_copy.ensures) tt),
     )
 
 pub judge_spec : {M : Type 1} → statement M

@@ -6,11 +6,11 @@ use Rattle.model.specs.Layout.{image_size}
 use Rattle.image_judged.proofs.judging.read_station.Statement.{statement}
 use Rattle.image_judged.proofs.judging.read_station.Tie as tie
 
-read-and-copy-requires : tie.Need-read-and-copy-requires
-read-and-copy-requires c κs = (c.before.before.requires, record { count = image_size; zeros = refl; room = omega arith })
+read-and-copy-requires : tie.Need-read_and_copy-requires
+read-and-copy-requires c κs = (c.requires, record { count = image_size; zeros = refl; room = omega arith })
 
 returns : tie.Need-returns
-returns c = c.before.read-and-copy.ensures.0
+returns c = c.read_and_copy.ensures.0
 
 pub read_station_spec : {M : Type 1} → statement M
 read_station_spec =

@@ -34,25 +34,23 @@ step true b i h =
     let one_less : length b - i ≡ suc (length b - (i + 1)) = omega arith in
     rw (one_less, add-one, drop-cons b i 0, zero_first (get_or b i 0))
 
-abbrev invariant-loop : tie.invariant-loop
+abbrev invariant-loop : tie.invariant-loop-i
 invariant-loop copy used b clear₀ i₀ clear i = (i ≤ length b) × (same (drop used copy) (drop used b) ≡ clear && same (replicate (length b - i) 0) (drop i b))
 
-abbrev decreases-loop : tie.decreases-loop
+abbrev decreases-loop : tie.decreases-loop-i
 decreases-loop copy used b clear₀ i₀ clear i = length b - i
 
-slice-aggregate-same : tie.Need-slice-aggregate-same invariant-loop decreases-loop
+slice-aggregate-same : tie.Need-slice_bounds-same-end invariant-loop decreases-loop
 slice-aggregate-same c =
-    let s = c.before.before.before in
-    sym (length-take-le s.args.used s.args.copy.now (omega (arith, s.requires.0, s.requires.1)))
+    sym (length-take-le c.args.used c.args.copy.now (omega (arith, c.requires.0, c.requires.1)))
 
-slice-aggregate-same-2 : tie.Need-slice-aggregate-same-2 invariant-loop decreases-loop
+slice-aggregate-same-2 : tie.Need-slice_bounds-same-end-2 invariant-loop decreases-loop
 slice-aggregate-same-2 c =
-    let s = c.before.before.before.before in
-    sym (length-take-le s.args.used s.args.b.now s.requires.1)
+    sym (length-take-le c.args.used c.args.b.now c.requires.1)
 
 -- where the used bytes were compared
 abbrev start : tie.After-same invariant-loop decreases-loop → tie.Start invariant-loop decreases-loop
-start c = c.before.before.before.before.before
+start c = c.before.before.before
 
 -- the answer, from that of the used bytes
 whole : (c : tie.After-same invariant-loop decreases-loop) (t : Bool) → c.same.result ≡ t
@@ -61,28 +59,27 @@ whole c t e =
     let a = (start c).args in
     parted a.used a.copy.now a.b.now ∙ ap (λ (x : Bool). x && same (drop a.used a.copy.now) (drop a.used a.b.now)) (sym c.same.ensures ∙ e)
 
-returns : tie.Need-returns invariant-loop decreases-loop
-returns c = sym (whole c.before false (c.if1.true))
+returns : tie.Need-returns-then-not-same invariant-loop decreases-loop
+returns c = sym (whole c.before false (c.if-not-same.true))
 
-loop-holds : tie.Need-loop-init invariant-loop decreases-loop
+loop-holds : tie.Need-loop-i-init invariant-loop decreases-loop
 loop-holds c =
     let s = start c.before in
-    (s.pre.1, ap (λ (x : List ℕ). same x (drop s.args.used s.args.b.now)) s.pre.2)
+    (s.requires.1, ap (λ (x : List ℕ). same x (drop s.args.used s.args.b.now)) s.requires.2)
 
-loop-again : tie.Need-loop-preserved invariant-loop decreases-loop
+loop-again : tie.Need-loop-i-preserved invariant-loop decreases-loop
 loop-again c =
-    let l = c.before.before.loop in
-    let a = c.before.before.before.before.before.before.before.before.before.args in
+    let l = c.loop-i in
+    let a = c.args in
     (omega arith, l.invariant.1 ∙ step l.zero a.b.now l.i (omega arith))
 
-returns-2 : tie.Need-returns-2 invariant-loop decreases-loop
+returns-2 : tie.Need-returns invariant-loop decreases-loop
 returns-2 c =
-    let l = c.before.loop in
-    let compared = c.before.before.before in
-    let a = (start compared).args in
+    let l = c.loop-i in
+    let a = (start c.before.before.before).args in
     let past : length a.b.now ≤ l.i = omega arith in
     let none_left : length a.b.now - l.i ≡ 0 = omega arith in
-    sym (whole compared true (c.before.before.if1.false) ∙ rw (none_left, drop_of_length-le a.b.now past, and-true l.zero) at l.invariant.1)
+    sym (whole c.before.before.before true (c.if-not-same.false) ∙ rw (none_left, drop_of_length-le a.b.now past, and-true l.zero) at l.invariant.1)
 
 pub equals_copy_spec : {M : Type 1} → statement M
 equals_copy_spec =

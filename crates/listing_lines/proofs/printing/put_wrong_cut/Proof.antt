@@ -7,9 +7,7 @@ use Rattle.listing_lines.proofs.printing.put_wrong_cut.Tie as tie
 
 returns : tie.Need-returns
 returns c =
-    let last = c.before.before in
-    let line = last.before.before.before.before in
-    puts_puts (omega arith) line.put-line.ensures last.put_last.ensures
+    puts_puts (omega arith) c.put_line-next.ensures c.put_last.ensures
 
 pub put_wrong_cut_spec : {M : Type 1} → statement M
 put_wrong_cut_spec = tie.close (tie.spec (λ c κs. search rules) (λ c κs. search rules) (λ c. search rules) returns)

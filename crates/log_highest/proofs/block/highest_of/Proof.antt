@@ -10,48 +10,47 @@ use Rattle.log_highest.specs.GreatestLaws.{greatest_next, greatest_last}
 use Rattle.log_highest.proofs.block.highest_of.Statement.{statement}
 use Rattle.log_highest.proofs.block.highest_of.Tie as tie
 
-abbrev invariant-loop : tie.invariant-loop
+abbrev invariant-loop : tie.invariant-loop-k
 invariant-loop blocks places highest₀ k₀ highest k =
     (k ≤ length places) × (greatest (λ i. get_or blocks i 0) places ≡ max highest (greatest (λ i. get_or blocks i 0) (drop k places)))
 
-abbrev decreases-loop : tie.decreases-loop
+abbrev decreases-loop : tie.decreases-loop-k
 decreases-loop blocks places highest₀ k₀ highest k = length places - k
 
 -- where the call began, and the head of the loop from where the place was read
-abbrev start : tie.At-loop invariant-loop decreases-loop → tie.Start invariant-loop decreases-loop
+abbrev start : tie.At-loop-k invariant-loop decreases-loop → tie.Start invariant-loop decreases-loop
 start h = h.before.before.before
 
-abbrev turn : tie.After-shared-slice-known3 invariant-loop decreases-loop → tie.At-loop invariant-loop decreases-loop
+abbrev turn : tie.After-shared_slice_known-in-loop-k-1 invariant-loop decreases-loop → tie.At-loop-k invariant-loop decreases-loop
 turn c = c.before.before
 
 -- the place of a turn has a block
-below : (c : tie.After-shared-slice-known3 invariant-loop decreases-loop) → get_or (start (turn c)).args.places.now (turn c).loop.k 0 < length (start (turn c)).args.blocks.now
-below c = let s = start (turn c) in below_at (length s.args.blocks.now) s.args.places.now s.pre (turn c).loop.k (omega arith)
+below : (c : tie.After-shared_slice_known-in-loop-k-1 invariant-loop decreases-loop) → get_or (start (turn c)).args.places.now (turn c).loop-k.k 0 < length (start (turn c)).args.blocks.now
+below c = let s = start (turn c) in below_at (length s.args.blocks.now) s.args.places.now s.requires (turn c).loop-k.k (omega arith)
 
-loop-holds : tie.Need-loop-init invariant-loop decreases-loop
+loop-holds : tie.Need-loop-k-init invariant-loop decreases-loop
 loop-holds c = (omega arith, omega arith)
 
-cast-i : tie.Need-overflow-cast-i invariant-loop decreases-loop
-cast-i c = omega (arith, c.shared-slice-known3.given (turn c).loop.k)
+cast-i : tie.Need-overflow_cast-i invariant-loop decreases-loop
+cast-i c = omega (arith, c.shared_slice_known-in-loop-k-1.given (turn c).loop-k.k)
 
-mul-greater : tie.Need-overflow-mul-greater invariant-loop decreases-loop
-mul-greater c = omega (arith, c.shared-slice-known3.given (turn c).loop.k)
+mul-greater : tie.Need-offset_bounds-blocks-i invariant-loop decreases-loop
+mul-greater c = omega (arith, c.shared_slice_known-in-loop-k-1.given (turn c).loop-k.k)
 
-shared-slice-read-greater : tie.Need-shared-slice-read-greater invariant-loop decreases-loop
+shared-slice-read-greater : tie.Need-bounds-blocks-i invariant-loop decreases-loop
 shared-slice-read-greater c = omega (arith, below c.before)
 
-loop-again : tie.Need-loop-preserved invariant-loop decreases-loop
+loop-again : tie.Need-loop-k-preserved invariant-loop decreases-loop
 loop-again c =
     let h = turn c.before.before in
-    let l = h.loop in
+    let l = h.loop-k in
     let a = (start h).args in
-    (omega arith, greatest_next (λ (i : ℕ). get_or a.blocks.now i 0) a.places.now l.k l.highest l.inv.1 0 (omega arith) c.greater.ensures)
+    (omega arith, greatest_next (λ (i : ℕ). get_or a.blocks.now i 0) a.places.now l.k l.highest l.invariant.1 0 (omega arith) c.greater-highest.ensures)
 
 returns : tie.Need-returns invariant-loop decreases-loop
 returns c =
-    let h = c.before in
-    let a = (start h).args in
-    greatest_last (λ (i : ℕ). get_or a.blocks.now i 0) a.places.now h.loop.k h.loop.highest h.loop.invariant.1 (omega arith)
+    let a = (start c.before).args in
+    greatest_last (λ (i : ℕ). get_or a.blocks.now i 0) a.places.now c.loop-k.k c.loop-k.highest c.loop-k.invariant.1 (omega arith)
 
 pub highest_of_spec : {M : Type 1} → statement M
 highest_of_spec =

@@ -23,61 +23,59 @@ message pool starts i = get_or (deltas_of pool starts) i []
 abbrev group : List ℕ → List ℕ → ℕ → ℕ
 group pool starts i = group_of (message pool starts i)
 
-abbrev invariant-loop : tie.invariant-loop
+abbrev invariant-loop : tie.invariant-loop-k
 invariant-loop pool starts places highest₀ k₀ highest k =
     (k ≤ length places) × (greatest (group pool starts) places ≡ max highest (greatest (group pool starts) (drop k places))) × (highest ≤ field_limit)
 
-abbrev decreases-loop : tie.decreases-loop
+abbrev decreases-loop : tie.decreases-loop-k
 decreases-loop pool starts places highest₀ k₀ highest k = length places - k
 
 -- where the call began, and the head of the loop from where the place was read
-abbrev start : tie.At-loop invariant-loop decreases-loop → tie.Start invariant-loop decreases-loop
+abbrev start : tie.At-loop-k invariant-loop decreases-loop → tie.Start invariant-loop decreases-loop
 start h = h.before.before.before.before
 
-abbrev turn : tie.After-shared-slice-known4 invariant-loop decreases-loop → tie.At-loop invariant-loop decreases-loop
+abbrev turn : tie.After-shared_slice_known-in-loop-k-1 invariant-loop decreases-loop → tie.At-loop-k invariant-loop decreases-loop
 turn c = c.before.before
 
-loop-holds : tie.Need-loop-init invariant-loop decreases-loop
+loop-holds : tie.Need-loop-k-init invariant-loop decreases-loop
 loop-holds c = (omega arith, omega arith, omega arith)
 
-cast-message-at : tie.Need-overflow-cast-message-at invariant-loop decreases-loop
-cast-message-at c = omega (arith, c.shared-slice-known4.given (turn c).loop.k)
+cast-message-at : tie.Need-overflow_cast-places invariant-loop decreases-loop
+cast-message-at c = omega (arith, c.shared_slice_known-in-loop-k-1.given (turn c).loop-k.k)
 
-message-at-requires : tie.Need-message-at-requires invariant-loop decreases-loop
+message-at-requires : tie.Need-message_at-m-requires invariant-loop decreases-loop
 message-at-requires c κs =
     let s = start (turn c) in
-    (s.pre.holds, place_inside s.args.pool.now s.args.starts.now s.args.places.now s.pre (turn c).loop.k (omega arith))
+    (s.requires.holds, place_inside s.args.pool.now s.args.starts.now s.args.places.now s.requires (turn c).loop-k.k (omega arith))
 
-get-u32-requires : tie.Need-get-u32-requires invariant-loop decreases-loop
+get-u32-requires : tie.Need-get_u32-requires invariant-loop decreases-loop
 get-u32-requires c κs =
     let h = turn c.before in
     let s = start h in
     let a = s.args in
     omega (
       arith,
-      ap length c.message-at.ensures,
-      entry_long a.pool.now a.starts.now s.pre.holds (get_or a.places.now h.loop.k 0) (place_inside a.pool.now a.starts.now a.places.now s.pre h.loop.k (omega arith)),
+      ap length c.message_at-m.ensures,
+      entry_long a.pool.now a.starts.now s.requires.holds (get_or a.places.now h.loop-k.k 0) (place_inside a.pool.now a.starts.now a.places.now s.requires h.loop-k.k (omega arith)),
     )
 
-loop-again : tie.Need-loop-preserved invariant-loop decreases-loop
+loop-again : tie.Need-loop-k-preserved invariant-loop decreases-loop
 loop-again c =
-    let read = c.before.before in
-    let h = turn read.before in
-    let l = h.loop in
+    let h = turn c.before.before.before in
+    let l = h.loop-k in
     let s = start h in
     let a = s.args in
     let m : Message = message a.pool.now a.starts.now (get_or a.places.now l.k 0) in
-    let here : c.before.get-u32.result ≡ group_of m = c.before.get-u32.ensures ∙ ap group_of read.message-at.ensures in (
+    let here : c.get_u32.result ≡ group_of m = c.get_u32.ensures ∙ ap group_of c.message_at-m.ensures in (
       omega arith,
-      greatest_next (group a.pool.now a.starts.now) a.places.now l.k l.highest l.inv.1 0 (omega arith) (c.greater.ensures ∙ ap (max l.highest) here),
-      omega (arith, c.greater.ensures, here, group_small m (place_passes a.pool.now a.starts.now a.places.now s.pre l.k (omega arith)), l.inv.2),
+      greatest_next (group a.pool.now a.starts.now) a.places.now l.k l.highest l.invariant.1 0 (omega arith) (c.greater-highest.ensures ∙ ap (max l.highest) here),
+      omega (arith, c.greater-highest.ensures, here, group_small m (place_passes a.pool.now a.starts.now a.places.now s.requires l.k (omega arith)), l.invariant.2),
     )
 
 returns : tie.Need-returns invariant-loop decreases-loop
 returns c =
-    let h = c.before in
-    let l = h.loop in
-    let a = (start h).args in (
+    let l = c.loop-k in
+    let a = (start c.before).args in (
       greatest_last (group a.pool.now a.starts.now) a.places.now l.k l.highest l.invariant.1 (omega arith) ∙ greatest_map group_of (message a.pool.now a.starts.now) a.places.now,
       l.invariant.2,
     )

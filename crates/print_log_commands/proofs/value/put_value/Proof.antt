@@ -6,15 +6,13 @@ use borrow.Author.Rules.{rules}
 use Rattle.print_log_commands.proofs.value.put_value.Statement.{statement}
 use Rattle.print_log_commands.proofs.value.put_value.Tie as tie
 
-returns : tie.Need-returns
+returns : tie.Need-returns-then-word-lt2147483648
 returns c =
-    let put = c.before.before in
-    puts_within (value_positive put.before.before.before.before.args.word (omega arith)) (omega arith) put.put-decimal.ensures
+    puts_within (value_positive c.args.word (omega arith)) (omega arith) c.put_decimal.ensures
 
-returns-2 : tie.Need-returns-2
+returns-2 : tie.Need-returns
 returns-2 c =
-    let put = c.before.before in
-    puts_within (value_negative _ (omega arith) (omega arith)) (omega arith) put.put-after.ensures
+    puts_within (value_negative _ (omega arith) (omega arith)) (omega arith) c.put_after.ensures
 
 pub put_value_spec : {M : Type 1} → statement M
 put_value_spec =
@@ -23,7 +21,6 @@ put_value_spec =
     (λ c κs. search rules)
     (λ c. search rules)
     returns
-    (λ c. search rules)
     (λ c. search rules)
     (λ c κs. search rules)
     (λ c. search rules)

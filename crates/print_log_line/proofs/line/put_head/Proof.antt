@@ -7,20 +7,14 @@ use Rattle.print_log_line.proofs.line.put_head.Tie as tie
 
 returns : tie.Need-returns
 returns c =
-    let sequenced = c.before.before in
-    let sized = sequenced.before.before.before.before in
-    let located = sized.before.before.before.before.before in
-    let placed = located.before.before.before.before.before in
-    puts_puts (omega arith) (puts_puts (omega arith) (puts_puts (omega arith) placed.put-decimal.ensures located.put-after.ensures) sized.put-after2.ensures) sequenced.put-sequence.ensures
+    puts_puts (omega arith) (puts_puts (omega arith) (puts_puts (omega arith) c.put_decimal-placed.ensures c.put_after-located.ensures) c.put_after-sized.ensures) c.put_sequence.ensures
 
 pub put_head_spec : {M : Type 1} → statement M
 put_head_spec =
     tie.close
     (tie.spec
     (λ c κs. search rules)
-    (λ c. search rules)
     (λ c κs. search rules)
-    (λ c. search rules)
     (λ c κs. search rules)
     (λ c κs. search rules)
     (λ c. search rules)

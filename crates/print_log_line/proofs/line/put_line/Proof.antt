@@ -26,36 +26,30 @@ begins b = omega (arith, b.byte.ensures.0, (lengths (began b)).total)
 byte-requires : tie.Need-byte-requires
 byte-requires c κs = omega (arith, long c.before.before)
 
-put-head-requires : tie.Need-put-head-requires
+put-head-requires : tie.Need-put_head-headed-requires
 put-head-requires c κs = (omega arith, omega (arith, long c.before.before.before.before))
 
-sub-put-commands : tie.Need-overflow-sub-put-commands
+sub-put-commands : tie.Need-slice_bounds-put_commands-count
 sub-put-commands c = begins c.before.before.before.before.before
 
-part-put-commands-start : tie.Need-slice-bounds-put-commands-start
+part-put-commands-start : tie.Need-slice_bounds-put_commands-start
 part-put-commands-start c = begins c.before.before.before.before.before
 
-put-commands-requires : tie.Need-put-commands-requires
+put-commands-requires : tie.Need-put_commands-commanded-requires
 put-commands-requires c κs =
-    let headed = c.before.before.before.before in
-    let b = headed.before.before in
-    let m = (began b).args.message.now in
-    let start = header_size + 12 * b.byte.result in (
-      omega (arith, headed.put-head.ensures.end, headed.put-head.ensures.few, headed.put-head.auto.0),
-      omega (arith, length-take (length m - start) (drop start m), length-drop start m, b.byte.ensures.0, (lengths (began b)).total, (lengths (began b)).commands),
+    let m = (began c.before.before.before.before.before.before).args.message.now in
+    let start = header_size + 12 * c.byte.result in (
+      omega (arith, c.put_head-headed.ensures.end, c.put_head-headed.ensures.few, c.put_head-headed.auto.out),
+      omega (arith, length-take (length m - start) (drop start m), length-drop start m, c.byte.ensures.0, (lengths (began c.before.before.before.before.before.before)).total, (lengths (began c.before.before.before.before.before.before)).commands),
     )
 
 returns : tie.Need-returns
 returns c =
-    let ended = c.before.before in
-    let commanded = ended.before.before.before.before.before in
-    let headed = commanded.before.before.before.before.before in
-    let b = headed.before.before in
-    let s = began b in
-    line_puts s.args.message.now s.pre.1 s.args.place s.args.offset (omega (arith, b.byte.ensures.0)) s.pre.0
-    headed.put-head.ensures
-    commanded.put-commands.ensures
-    ended.put-text.ensures
+    let s = began c.before.before.before.before.before.before.before.before.before.before.before.before.before.before.before in
+    line_puts s.args.message.now s.requires.1 s.args.place s.args.offset (omega (arith, c.byte.ensures.0)) s.requires.0
+    c.put_head-headed.ensures
+    c.put_commands-commanded.ensures
+    c.put_text.ensures
 
 pub put_line_spec : {M : Type 1} → statement M
 put_line_spec =
@@ -70,7 +64,6 @@ put_line_spec =
     part-put-commands-start
     (λ c. search rules)
     put-commands-requires
-    (λ c. search rules)
     (λ c κs. search rules)
     (λ c. search rules)
     returns)

@@ -6,16 +6,12 @@ use Rattle.print_log_line.proofs.line.put_sequence.Tie as tie
 
 returns : tie.Need-returns
 returns c =
-    let put = c.before.before in
-    let spaced = put.before.before.before.before in
-    let start = spaced.before.before.before.before.before in
-    sequence_puts start.args.message.now start.requires.1 start.requires.0 spaced.put-text.ensures put.put-characters.ensures
+    sequence_puts c.args.message.now c.requires.1 c.requires.0 c.put_text-next.ensures c.put_characters.ensures
 
 pub put_sequence_spec : {M : Type 1} → statement M
 put_sequence_spec =
     tie.close
     (tie.spec
-    (λ c. search rules)
     (λ c κs. search rules)
     (λ c κs. search rules)
     (λ c. search rules)

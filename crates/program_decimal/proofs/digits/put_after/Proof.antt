@@ -7,9 +7,7 @@ use Rattle.program_decimal.proofs.digits.put_after.Tie as tie
 
 returns : tie.Need-returns
 returns c =
-    let number = c.before.before in
-    let text = number.before.before.before.before in
-    puts_puts (omega arith) text.put-text.ensures number.put-decimal.ensures
+    puts_puts (omega arith) c.put_text-next.ensures c.put_decimal.ensures
 
 pub put_after_spec : {M : Type 1} → statement M
 put_after_spec = tie.close (tie.spec (λ c κs. search rules) (λ c κs. search rules) (λ c. search rules) returns)

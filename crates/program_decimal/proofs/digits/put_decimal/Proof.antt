@@ -14,12 +14,10 @@ use Rattle.program_decimal.proofs.digits.put_decimal.Tie as tie
 
 returns : tie.Need-returns
 returns c =
-    let put = c.before.before in
-    let s = put.before.before.before.before.before in
-    let text : List ℕ = s.spell.new.0 in
-    let first : ℕ = s.spell.result in
-    let all : length (drop first text) ≤ digits_room - first = omega (arith, length-drop first text, s.spell.auto.0) in
-    puts_as (take_all (digits_room - first) (drop first text) all ∙ s.spell.ensures.1) (numeral_few _) put.put-text.ensures
+    let text : List ℕ = c.spell-first.new.text in
+    let first : ℕ = c.spell-first.result in
+    let all : length (drop first text) ≤ digits_room - first = omega (arith, length-drop first text, c.spell-first.auto.text) in
+    puts_as (take_all (digits_room - first) (drop first text) all ∙ c.spell-first.ensures.1) (numeral_few _) c.put_text.ensures
 
 pub put_decimal_spec : {M : Type 1} → statement M
 put_decimal_spec =

@@ -11,31 +11,31 @@ use Rattle.program_decimal.specs.DigitLaws.{spelled_none, spelled_first, spelled
 use Rattle.program_decimal.proofs.digits.spell.Statement.{statement}
 use Rattle.program_decimal.proofs.digits.spell.Tie as tie
 
-abbrev invariant-loop : tie.invariant-loop
+abbrev invariant-loop : tie.invariant-loop-first
 invariant-loop text₀ x first₀ rest₀ text first rest = (first ≤ digits_room) × ((length text ≡ digits_room) × (digits first rest ++ drop first text ≡ numeral x))
 
-abbrev decreases-loop : tie.decreases-loop
+abbrev decreases-loop : tie.decreases-loop-first
 decreases-loop text₀ x first₀ rest₀ text first rest = first
 
-loop-holds : tie.Need-loop-init invariant-loop decreases-loop
+loop-holds : tie.Need-loop-first-init invariant-loop decreases-loop
 loop-holds c = (omega arith, (search rules, spelled_none c.args.text.now c.args.x c.requires))
 
-same_length : tie.Need-same-length invariant-loop decreases-loop
+same_length : tie.Need-shape_of-text-then-rest-lt10 invariant-loop decreases-loop
 same_length c = simp length-set (omega arith)
 
-returns : tie.Need-returns invariant-loop decreases-loop
+returns : tie.Need-returns-then-rest-lt10 invariant-loop decreases-loop
 returns c =
-    let l = c.before.before.loop in
+    let l = c.loop-first in
     (omega arith, spelled_first l.text _ l.first l.rest (omega arith) (omega arith) (omega arith) l.invariant.1.1)
 
-loop-again : tie.Need-loop-preserved invariant-loop decreases-loop
+loop-again : tie.Need-loop-first-preserved invariant-loop decreases-loop
 loop-again c =
-    let l = c.before.before.loop in
+    let l = c.loop-first in
     (omega arith, (simp length-set (omega arith), spelled_next l.text _ l.first l.rest (omega arith) (omega arith) (omega arith) l.invariant.1.1))
 
-returns-2 : tie.Need-returns-2 invariant-loop decreases-loop
+returns-2 : tie.Need-returns invariant-loop decreases-loop
 returns-2 c =
-    let l = c.before.loop in
+    let l = c.loop-first in
     (omega arith, spelled_all l.text _ l.first l.rest (omega arith) l.invariant.1.1)
 
 pub spell_spec : {M : Type 1} → statement M

@@ -18,103 +18,98 @@ use Rattle.read_calls.proofs.locating.locate.Statement.{statement}
 use Rattle.read_calls.proofs.locating.locate.Tie as tie
 
 -- where the call began, from where the size is checked; and each check's state from the next one's
-abbrev began : tie.After-check-image-size → tie.Start
+abbrev began : tie.After-check_image_size-sized → tie.Start
 began c = c.before.before
 
-abbrev measured : tie.After-read-station → tie.After-check-image-size
-measured c = c.before.before.before
+abbrev measured : tie.After-read_station-station → tie.After-check_image_size-sized
+measured c = c.before.before
 
-abbrev judged : tie.After-check-place → tie.After-read-station
-judged c = c.before.before.before
+abbrev judged : tie.After-check_place-placed → tie.After-read_station-station
+judged c = c.before.before
 
 -- what the checks told
-sized : (c : tie.After-enum-told) → true ≡ eqb (length (began c.before.before).args.image.now) image_size
-sized c = tells right c.enum_told.given.1 c.before.before.check-image-size.ensures
+sized : (c : tie.In-Right) → true ≡ eqb (length (began c.before).args.image.now) image_size
+sized c = tells right c.in-Right.is c.check_image_size-sized.ensures
 
-judgement_is : (c : tie.After-read-station) → right c.read-station.result.check ≡ is_image (began (measured c)).args.image.now
-judgement_is c = judgement (began (measured c)).args.image.now c.read-station.result c.read-station.ensures
+judgement_is : (c : tie.After-read_station-station) → right c.read_station-station.result.check ≡ is_image (began (measured c)).args.image.now
+judgement_is c = judgement (began (measured c)).args.image.now c.read_station-station.result c.read_station-station.ensures
 
-image : (c : tie.After-enum-told3) → true ≡ is_image (began (measured c.before.before)).args.image.now
-image c = tells right c.enum-told3.given.1 (judgement_is c.before.before)
+image : (c : tie.In-Right-judged) → true ≡ is_image (began (measured c.before)).args.image.now
+image c = tells right c.in-Right-judged.is (judgement_is c.before)
 
-placed : (c : tie.After-enum-told5) → true ≡ not (let a = (began (measured (judged c.before.before))).args in leb (log_count a.image.now) a.place)
-placed c = tells right c.enum-told5.given.1 c.before.before.check-place.ensures
+placed : (c : tie.In-Right-placed) → true ≡ not (let a = (began (measured (judged c.before))).args in leb (log_count a.image.now) a.place)
+placed c = tells right c.in-Right-placed.is c.check_place-placed.ensures
 
-returns : tie.Need-returns
+returns : tie.Need-returns-in_default
 returns c =
-    let m = c.before.before in
-    part_told (began m).args.image.now (began m).args.place (fails (tells right c.enum-told2.given.1 m.check-image-size.ensures))
+    part_told (began c.before).args.image.now (began c.before).args.place (fails (tells right c.in_default.is c.check_image_size-sized.ensures))
 
-read-station-requires : tie.Need-read-station-requires
-read-station-requires c κs = eqb-true (length (began c.before.before).args.image.now) image_size (sym (sized c))
+read-station-requires : tie.Need-read_station-station-requires
+read-station-requires c κs = eqb-true (length (began c.before).args.image.now) image_size (sym (sized c))
 
-returns-2 : tie.Need-returns-2
+returns-2 : tie.Need-returns-in_default-judged
 returns-2 c =
-    let j = c.before.before in
-    let a = (began (measured j)).args in
-    part_told a.image.now a.place (passes (sized j.before) (fails (tells right c.enum-told4.given.1 (judgement_is j))))
+    let a = (began (measured c.before)).args in
+    part_told a.image.now a.place (passes (sized c.before.before) (fails (tells right c.in_default-judged.is (judgement_is c.before))))
 
-check-place-requires : tie.Need-check-place-requires
+check-place-requires : tie.Need-check_place-placed-requires
 check-place-requires c κs =
-    let j = c.before.before in
-    eqb-true (length (began (measured j)).args.image.now) image_size (sym (sized j.before))
+    eqb-true (length (began (measured c.before)).args.image.now) image_size (sym (sized c.before.before))
 
-returns-3 : tie.Need-returns-3
+returns-3 : tie.Need-returns-in_default-placed
 returns-3 c =
-    let t = c.before.before in
-    let j = judged t in
+    let j = judged c.before in
     let a = (began (measured j)).args in
-    part_told a.image.now a.place (passes (sized j.before) (passes (image t.before) (met (not-false _ (sym (tells right c.enum-told6.given.1 t.check-place.ensures))))))
+    part_told a.image.now a.place (passes (sized j.before) (passes (image c.before.before) (met (not-false _ (sym (tells right c.in_default-placed.is c.check_place-placed.ensures))))))
 
 -- where all three are right
-abbrev told : tie.After-enum-told5 → tie.Start
-told c = began (measured (judged c.before.before))
+abbrev told : tie.In-Right-placed → tie.Start
+told c = began (measured (judged c.before))
 
 -- the place is one of the log, whose offsets the station has
-within : (c : tie.After-enum-told5) → let a = (told c).args in a.place < log_count a.image.now
+within : (c : tie.In-Right-placed) → let a = (told c).args in a.place < log_count a.image.now
 within c =
     let a = (told c).args in
-    let j = judged c.before.before in
-    below a.image.now a.place (sized j.before) (image c.before.before.before) (placed c)
+    let j = judged c.before in
+    below a.image.now a.place (sized j.before) (image c.before.before) (placed c)
 
-station : (c : tie.After-enum-told5) → IsStation (told c).args.image.now (judged c.before.before).read-station.result
+station : (c : tie.In-Right-placed) → IsStation (told c).args.image.now (judged c.before).read_station-station.result
 station c =
-    let j = judged c.before.before in
-    judges_right (told c).args.image.now j.read-station.result j.read-station.ensures c.before.before.before.enum-told3.given.1
+    let j = judged c.before in
+    judges_right (told c).args.image.now j.read_station-station.result j.read_station-station.ensures c.in-Right-judged.is
 
-offsets_size : (j : tie.After-read-station) → length j.read-station.result.offsets ≡ capacity
+offsets_size : (j : tie.After-read_station-station) → length j.read_station-station.result.offsets ≡ capacity
 offsets_size j = search rules
 
-small : (c : tie.After-enum-told5) → (told c).args.place < capacity
-small c = omega (arith, within c, (station c).count, (station c).ranges)
+small : (c : tie.In-Right-placed) → (told c).args.place < capacity
+small c = omega (arith, within c, (station c).count, (station c).fits)
 
-mul-offset : tie.Need-overflow-mul-offset
+mul-offset : tie.Need-offset_bounds-offsets-place
 mul-offset c = omega (arith, small c.before)
 
-array-read-offset : tie.Need-array-read-offset
-array-read-offset c = let t = c.before in omega (arith, small t, offsets_size (judged t.before.before))
+array-read-offset : tie.Need-bounds-offsets-place
+array-read-offset c = omega (arith, small c.before, offsets_size (judged c.before.before))
 
-offset_is : (c : tie.After-enum-told5) → let a = (told c).args in get_or (judged c.before.before).read-station.result.offsets a.place 0 ≡ message_offset a.image.now a.place
-offset_is c = let a = (told c).args in place_offset a.image.now (judged c.before.before).read-station.result (station c) a.place (within c)
+offset_is : (c : tie.In-Right-placed) → let a = (told c).args in get_or (judged c.before).read_station-station.result.offsets a.place 0 ≡ message_offset a.image.now a.place
+offset_is c = let a = (told c).args in place_offset a.image.now (judged c.before).read_station-station.result (station c) a.place (within c)
 
-inside : (c : tie.After-enum-told5) → let a = (told c).args in message_offset a.image.now a.place + header_size ≤ length a.image.now
+inside : (c : tie.In-Right-placed) → let a = (told c).args in message_offset a.image.now a.place + header_size ≤ length a.image.now
 inside c =
     let a = (told c).args in
-    let j = judged c.before.before in
-    place_inside a.image.now a.place (sized j.before) (image c.before.before.before) (placed c)
+    let j = judged c.before in
+    place_inside a.image.now a.place (sized j.before) (image c.before.before) (placed c)
 
-add-get-u16 : tie.Need-overflow-add-get-u16
+add-get-u16 : tie.Need-overflow_add-offset
 add-get-u16 c = omega (arith, inside c.before, offset_is c.before)
 
-get-u16-requires : tie.Need-get-u16-requires
+get-u16-requires : tie.Need-get_u16-size-requires
 get-u16-requires c κs = omega (arith, inside c.before, offset_is c.before)
 
-returns-4 : tie.Need-returns-4
+returns-4 : tie.Need-returns
 returns-4 c =
-    let t = c.before.before in
-    let a = (told t).args in
-    let j = judged t.before.before in
-    part_at a.image.now a.place (sized j.before) (image t.before.before.before) (placed t) (offset_is t) c.get-u16.ensures.0
+    let a = (told c.before.before).args in
+    let j = judged c.before.before.before in
+    part_at a.image.now a.place (sized j.before) (image c.before.before.before.before) (placed c.before.before) (offset_is c.before.before) c.get_u16-size.ensures.0
 
 pub locate_spec : {M : Type 1} → statement M
 locate_spec =

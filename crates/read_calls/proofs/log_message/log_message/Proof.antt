@@ -12,33 +12,30 @@ use Rattle.read_calls.proofs.LocatedTags.{no_message}
 use Rattle.read_calls.proofs.log_message.log_message.Statement.{statement}
 use Rattle.read_calls.proofs.log_message.log_message.Tie as tie
 
-returns : tie.Need-returns
+returns : tie.Need-returns-in_default
 returns c =
-    let l = c.before.before in
-    let a = l.before.before.args in
-    no_part a.image.now a.place l.locate.ensures (no_message l.locate.result c.before.match.keys2)
+    let a = c.args in
+    no_part a.image.now a.place c.locate-located.ensures (no_message c.locate-located.result c.in_default.in_default-own.keys2)
 
 -- where the part is known, and where the call began from there
-abbrev start : tie.After-located → tie.Start
-start c = c.before.before.before.before
+abbrev start : tie.In-At → tie.Start
+start c = c.before.before.before
 
-found : (c : tie.After-located) → let a = (start c).args in IsPart a.image.now a.place (record { code = 0; offset = c.located.given.0.0; size = c.located.given.0.1.0 })
+found : (c : tie.In-At) → let a = (start c).args in IsPart a.image.now a.place (record { code = 0; offset = c.in-At.offset; size = c.in-At.size })
 found c =
-    let l = c.before.before in
     let a = (start c).args in
-    subst (IsPart a.image.now a.place) (sym l.locate.ensures ∙ ap part_by c.located.given.1) (is_part a.image.now a.place)
+    subst (IsPart a.image.now a.place) (sym c.locate-located.ensures ∙ ap part_by c.in-At.is) (is_part a.image.now a.place)
 
-add-end : tie.Need-overflow-add-end
-add-end c = let p = found c.before in omega (arith, p.small)
+add-end : tie.Need-overflow_add-end
+add-end c = let p = found c in omega (arith, p.small)
 
-part-result-end-2 : tie.Need-slice-bounds-result-end-2
-part-result-end-2 c = let p = found c.before in omega (arith, p.inside)
+part-result-end-2 : tie.Need-slice_bounds-result-end-2
+part-result-end-2 c = let p = found c in omega (arith, p.inside)
 
-returns-2 : tie.Need-returns-2
+returns-2 : tie.Need-returns
 returns-2 c =
-    let k = c.before.before in
-    let p = found k in
-    ap (λ (n : ℕ). take n (drop k.located.given.0.0 (start k).args.image.now)) (add-sub_cancel_left k.located.given.0.0 k.located.given.0.1.0) ∙ p.bytes
+    let p = found c.before in
+    ap (λ (n : ℕ). take n (drop c.in-At.offset (start c.before).args.image.now)) (add-sub_cancel_left c.in-At.offset c.in-At.size) ∙ p.bytes
 
 pub log_message_spec : {M : Type 1} → statement M
 log_message_spec =

@@ -10,22 +10,22 @@ use Rattle.read_calls.proofs.log_message.log_message_code.Statement.{statement}
 use Rattle.read_calls.proofs.log_message.log_message_code.Tie as tie
 
 -- the code is that of what was located
-code : (c : tie.After-locate) (r : Located) → c.locate.result ≡ r → let a = c.before.before.args in (part_by r).code ≡ log_message_code a.image.now a.place
+code : (c : tie.After-locate-located) (r : Located) → c.locate-located.result ≡ r → let a = c.args in (part_by r).code ≡ log_message_code a.image.now a.place
 code c r e =
-    let a = c.before.before.args in
-    ap (λ (x : Located). (part_by x).code) (sym e) ∙ ap (λ (p : Part). p.code) c.locate.ensures ∙ part_code a.image.now a.place
+    let a = c.args in
+    ap (λ (x : Located). (part_by x).code) (sym e) ∙ ap (λ (p : Part). p.code) c.locate-located.ensures ∙ part_code a.image.now a.place
 
-returns : tie.Need-returns
-returns c = code c.before.before _ c.enum_told.given.1
+returns : tie.Need-returns-in-At
+returns c = code c.before _ c.in-At.is
 
-returns-2 : tie.Need-returns-2
-returns-2 c = code c.before.before _ c.enum-told2.given.1
+returns-2 : tie.Need-returns-in-WrongSize
+returns-2 c = code c.before _ c.in-WrongSize.is
 
-returns-3 : tie.Need-returns-3
-returns-3 c = code c.before.before _ c.enum-told3.given.1
+returns-3 : tie.Need-returns-in-NoImage
+returns-3 c = code c.before _ c.in-NoImage.is
 
-returns-4 : tie.Need-returns-4
-returns-4 c = code c.before.before _ c.enum-told4.given.1
+returns-4 : tie.Need-returns-in-NoPlace
+returns-4 c = code c.before _ c.in-NoPlace.is
 
 pub log_message_code_spec : {M : Type 1} → statement M
 log_message_code_spec =

@@ -19,24 +19,22 @@ step : (ok : Bool) (l : List ℕ) (i : ℕ) → i < length l
 step true l i h = every_step printable l i 0 h
 step false l i h = refl
 
-abbrev invariant-loop : tie.invariant-loop
+abbrev invariant-loop : tie.invariant-loop-i
 invariant-loop line ok₀ i₀ ok i = (i ≤ length line) × (every printable line ≡ ok && every printable (drop i line))
 
-abbrev decreases-loop : tie.decreases-loop
+abbrev decreases-loop : tie.decreases-loop-i
 decreases-loop line ok₀ i₀ ok i = length line - i
 
-loop-holds : tie.Need-loop-init invariant-loop decreases-loop
+loop-holds : tie.Need-loop-i-init invariant-loop decreases-loop
 loop-holds c = (search rules, refl)
 
-loop-again : tie.Need-loop-preserved invariant-loop decreases-loop
+loop-again : tie.Need-loop-i-preserved invariant-loop decreases-loop
 loop-again c =
-    let l = c.before.before.before in
-    (omega arith, l.loop.invariant.1 ∙ step l.loop.ok l.before.args.line.now l.loop.i (omega arith))
+    (omega arith, c.loop-i.invariant.1 ∙ step c.loop-i.ok c.args.line.now c.loop-i.i (omega arith))
 
 returns : tie.Need-returns invariant-loop decreases-loop
 returns c =
-    let l = c.before in
-    sym (l.loop.invariant.1 ∙ ap (λ (t : Bool). l.loop.ok && t) (every_end printable l.before.args.line.now l.loop.i (omega arith)) ∙ and-true l.loop.ok)
+    sym (c.loop-i.invariant.1 ∙ ap (λ (t : Bool). c.loop-i.ok && t) (every_end printable c.args.line.now c.loop-i.i (omega arith)) ∙ and-true c.loop-i.ok)
 
 pub is_printable_spec : {M : Type 1} → statement M
 is_printable_spec =
