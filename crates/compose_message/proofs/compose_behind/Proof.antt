@@ -20,80 +20,75 @@ use Rattle.compose_message.proofs.compose_behind.Statement.{statement}
 use Rattle.compose_message.proofs.compose_behind.Tie as tie
 
 -- where the call began, from where the line is read; and that from where it is checked and drafted on
-abbrev began : tie.After-read-line → tie.Start
+abbrev began : tie.After-read_line-first → tie.Start
 began c = c.before.before.before.before.before.before.before
 
-abbrev read : tie.After-draft-delta → tie.After-read-line
-read c = c.before.before.before.before
+abbrev read : tie.After-draft_delta-drafting → tie.After-read_line-first
+read c = c.before.before.before
 
 abbrev set : tie.Start → State
 set s = set_in s.args.pool.now s.args.starts.now
 
-line_is : (c : tie.After-read-line) → line_of (sequence_number c.read-line.result) ≡ number (began c).args.line.now
-line_is c = line_back c.read-line.result (number (began c).args.line.now) c.read-line.ensures
+line_is : (c : tie.After-read_line-first) → line_of (sequence_number c.read_line-first.result) ≡ number (began c).args.line.now
+line_is c = line_back c.read_line-first.result (number (began c).args.line.now) c.read_line-first.ensures
 
 -- what was told of the line
-held_is : (c : tie.After-check-line) {k : Check} → c.check-line.result ≡ k → let s = began c.before in not (held_on (set s) (number s.args.line.now)) ≡ right k
+held_is : (c : tie.After-check_line-free) {k : Check} → c.check_line-free.result ≡ k → let s = began c.before in not (held_on (set s) (number s.args.line.now)) ≡ right k
 held_is c e =
     let s = began c.before in
-    ap (λ (n : ℕ). not (held_on (set s) n)) (sym (line_is c.before)) ∙ sym c.check-line.ensures ∙ ap right e
+    ap (λ (n : ℕ). not (held_on (set s) n)) (sym (line_is c.before)) ∙ sym c.check_line-free.ensures ∙ ap right e
 
-free : (c : tie.After-enum-told) → let s = began c.before.before.before in held_on (set s) (number s.args.line.now) ≡ false
-free c = not-true _ (held_is c.before.before c.enum_told.given.1)
+free : (c : tie.In-Right) → let s = began c.before.before in held_on (set s) (number s.args.line.now) ≡ false
+free c = not-true _ (held_is c.before c.in-Right.is)
 
 -- what was drafted, on the line's number
-drafts : (c : tie.After-draft-delta) {r : Drafting} → c.draft-delta.result ≡ r → let s = began (read c) in Drafts (set s) (number s.args.line.now) s.args.flag s.args.priority r
+drafts : (c : tie.After-draft_delta-drafting) {r : Drafting} → c.draft_delta-drafting.result ≡ r → let s = began (read c) in Drafts (set s) (number s.args.line.now) s.args.flag s.args.priority r
 drafts c {r} e =
     let s = began (read c) in
-    subst (λ (n : ℕ). Drafts (set s) n s.args.flag s.args.priority r) (line_is (read c)) (subst (Drafts (set s) (line_of (sequence_number (read c).read-line.result)) s.args.flag s.args.priority) e c.draft-delta.ensures)
+    subst (λ (n : ℕ). Drafts (set s) n s.args.flag s.args.priority r) (line_is (read c)) (subst (Drafts (set s) (line_of (sequence_number (read c).read_line-first.result)) s.args.flag s.args.priority) e c.draft_delta-drafting.ensures)
 
-read-line-requires : tie.Need-read-line-requires
-read-line-requires c κs = c.before.before.before.before.before.before.requires.1.ten
+read-line-requires : tie.Need-read_line-first-requires
+read-line-requires c κs = c.requires.1.ten
 
-check-line-requires : tie.Need-check-line-requires
+check-line-requires : tie.Need-check_line-free-requires
 check-line-requires c κs = (began c).requires.0
 
-enum_told : tie.Need-enum-told
-enum_told c = c.match.keys1
+enum_told : tie.Need-enum_told-1
+enum_told c = c.in-Right-1.keys1
 
-enum-told-2 : tie.Need-enum-told-2
-enum-told-2 c = c.match.keys2
+enum-told-2 : tie.Need-enum_told-in_default
+enum-told-2 c = c.in_default-1.keys2
 
-returns : tie.Need-returns
+returns : tie.Need-returns-in_default
 returns c =
-    let k = c.before.before in
-    let s = began k.before in
+    let s = began c.before.before in
     let a = s.args in
-    held_case (set s) (number a.line.now) a.flag a.priority a.commands.now a.message.now (not-false _ (held_is k c.enum-told2.given.1))
+    held_case (set s) (number a.line.now) a.flag a.priority a.commands.now a.message.now (not-false _ (held_is c.before c.in_default.is))
 
-draft-delta-requires : tie.Need-draft-delta-requires
-draft-delta-requires c κs = let r = c.before.before.before in ((began r).requires.0, omega (arith, r.read-line.ensures))
+draft-delta-requires : tie.Need-draft_delta-drafting-requires
+draft-delta-requires c κs = ((began c.before.before).requires.0, omega (arith, c.read_line-first.ensures))
 
-enum-known-drafting : tie.Need-enum-known-drafting
-enum-known-drafting c = c.match2.keys1
+enum-known-drafting : tie.Need-enum_known-drafting
+enum-known-drafting c = c.in-Fits-1.keys1
 
-enum-told-3 : tie.Need-enum-told-3
-enum-told-3 c = c.match2.keys2
+enum-told-3 : tie.Need-enum_told-in_default-drafting
+enum-told-3 c = c.in_default-drafting-1.keys2
 
-returns-2 : tie.Need-returns-2
+returns-2 : tie.Need-returns-in_default-drafting
 returns-2 c =
-    let d = c.before.before in
-    let s = began (read d) in
+    let s = began (read c.before) in
     let a = s.args in
-    past_case (set s) (number a.line.now) a.flag a.priority a.commands.now a.message.now (free d.before) (drafts d c.enum-told3.given.1)
+    past_case (set s) (number a.line.now) a.flag a.priority a.commands.now a.message.now (free c.before.before) (drafts c.before c.in_default-drafting.is)
 
-write-draft-requires : tie.Need-write-draft-requires
-write-draft-requires c κs = let s = began (read c.before.before.before.before) in record { log = s.pre.0; sized = s.pre.1.sized; room = s.pre.1.room }
+write-draft-requires : tie.Need-write_draft-requires
+write-draft-requires c κs = let s = began (read c.before.before) in record { log = s.requires.0; sized = s.requires.1.sized; room = s.requires.1.room }
 
-returns-3 : tie.Need-returns-3
+returns-3 : tie.Need-returns
 returns-3 c =
-    let w = c.before.before in
-    let known = w.before.before.before in
-    let d = known.before.before in
-    let s = began (read d) in
+    let s = began (read c.before.before.before.before.before) in
     let a = s.args in
-    w.write-draft.ensures
-    ∙ draft_case (set s) (number a.line.now) a.flag a.priority a.commands.now a.message.now known.drafting.given.0.0 (drafts d known.drafting.given.1) s.pre.1.given (free d.before)
+    c.write_draft.ensures
+    ∙ draft_case (set s) (number a.line.now) a.flag a.priority a.commands.now a.message.now c.in-Fits.draft (drafts c.before.before.before.before.before c.in-Fits.is) s.requires.1.given (free c.before.before.before.before.before.before)
 
 pub compose_behind_spec : {M : Type 1} → statement M
 compose_behind_spec =

@@ -15,22 +15,18 @@ use Rattle.compose_writing.proofs.write_message.Tie as tie
 
 returns : tie.Need-returns
 returns c =
-    let copied = c.before.before in
-    let listed = copied.before.before.before.before in
-    let headed = listed.before.before.before.before in
-    let s = headed.before.before.before.before.before.before.before in
-    let a = s.args in
+    let a = c.args in
     let names : List ℕ = names_at a.pool.now a.starts.now a.places.now in
     let start : ℕ = header_size + sequence_size * length a.places.now in
     let count : length names ≡ length a.places.now = length-map a.places.now (sequence_in a.pool.now a.starts.now) in
-    let counted : a.h.dependencies ≡ length names = s.requires.dependencies_counted ∙ sym count in
+    let counted : a.h.dependencies ≡ length names = c.requires.dependencies_counted ∙ sym count in
     record {
-      message = copied.copy_at.ensures
+      message = c.copy_at.ensures
           ∙ ap (λ (b : List ℕ). pasted b start a.commands.now)
-          (listed.put-sequences.ensures ∙ ap (λ (b : List ℕ). pasted b header_size (sequences_bytes names)) headed.put-message-header.ensures)
-          ∙ message_written a.message.now a.h names a.commands.now start counted s.requires.commands_counted (omega (arith, length_sequences names))
-          (omega (arith, s.requires.room, s.requires.eights, s.requires.few.dependencies_fit, s.requires.few.commands_fit, s.requires.dependencies_counted));
-      length_is = ap (λ (n : ℕ). header_size + sequence_size * n + length a.commands.now) (sym count) ∙ sym (message_length a.h names a.commands.now counted s.requires.commands_counted);
+          (c.put_sequences.ensures ∙ ap (λ (b : List ℕ). pasted b header_size (sequences_bytes names)) c.put_message_header.ensures)
+          ∙ message_written a.message.now a.h names a.commands.now start counted c.requires.commands_counted (omega (arith, length_sequences names))
+          (omega (arith, c.requires.room, c.requires.eights, c.requires.few.dependencies_fit, c.requires.few.commands_fit, c.requires.dependencies_counted));
+      length_is = ap (λ (n : ℕ). header_size + sequence_size * n + length a.commands.now) (sym count) ∙ sym (message_length a.h names a.commands.now counted c.requires.commands_counted);
     }
 
 pub write_message_spec : {M : Type 1} → statement M

@@ -5,11 +5,11 @@ use borrow.Author.Tests.{lt-ltb, le-ltb}
 use Rattle.purge.proofs.check_within.Statement.{statement}
 use Rattle.purge.proofs.check_within.Tie as tie
 
-returns : tie.Need-returns
-returns c = sym (ap not (lt-ltb _ _ c.if1.true))
+returns : tie.Need-returns-then-logged-k
+returns c = sym (ap not (lt-ltb _ _ c.if-logged-k.true))
 
-returns-2 : tie.Need-returns-2
-returns-2 c = sym (ap not (le-ltb _ _ c.if1.false))
+returns-2 : tie.Need-returns
+returns-2 c = sym (ap not (le-ltb _ _ c.if-logged-k.false))
 
 pub check_within_spec : {M : Type 1} → statement M
 check_within_spec = tie.close (tie.spec returns returns-2)

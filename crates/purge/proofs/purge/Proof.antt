@@ -17,57 +17,55 @@ use Rattle.purge.proofs.purge.Statement.{statement}
 use Rattle.purge.proofs.purge.Tie as tie
 
 -- where the call began, from where the size is checked; where the size was found right, from where the image is judged
-abbrev began : tie.After-check-image-size → tie.Start
+abbrev began : tie.After-check_image_size-size → tie.Start
 began c = c.before.before
 
-abbrev measured : tie.After-read-and-copy → tie.After-enum-told
-measured c = c.before.before.before
+abbrev measured : tie.After-read_and_copy-station → tie.In-Right
+measured c = c.before.before
 
-abbrev start : tie.After-enum-told → tie.Start
-start c = began c.before.before
+abbrev start : tie.In-Right → tie.Start
+start c = began c.before
 
 -- what the checks told
-sized : (c : tie.After-enum-told) → true ≡ eqb (length (start c).args.image.now) image_size
-sized c = tells right c.enum_told.given.1 c.before.before.check-image-size.ensures
+sized : (c : tie.In-Right) → true ≡ eqb (length (start c).args.image.now) image_size
+sized c = tells right c.in-Right.is c.check_image_size-size.ensures
 
-image_size_lem : (c : tie.After-enum-told) → length (start c).args.image.now ≡ image_size
+image_size_lem : (c : tie.In-Right) → length (start c).args.image.now ≡ image_size
 image_size_lem c = eqb-true _ image_size (sym (sized c))
 
 -- where it is an image, and its copy
-abbrev judged : tie.After-enum-told3 → tie.After-read-and-copy
-judged c = c.before.before.before
+abbrev judged : tie.In-Right-check → tie.After-read_and_copy-station
+judged c = c.before.before
 
-station_is : (c : tie.After-enum-told3) → IsStation (start (measured (judged c))).args.image.now (judged c).read-and-copy.result
+station_is : (c : tie.In-Right-check) → IsStation (start (measured (judged c))).args.image.now (judged c).read_and_copy-station.result
 station_is c =
     let r = judged c in
-    judges_right (start (measured r)).args.image.now r.read-and-copy.result r.read-and-copy.ensures.0 c.enum-told3.given.1
+    judges_right (start (measured r)).args.image.now r.read_and_copy-station.result r.read_and_copy-station.ensures.0 c.in-Right-check.is
 
-copied : (c : tie.After-enum-told3) → (judged c).read-and-copy.new.1.0 ≡ (start (measured (judged c))).args.image.now
+copied : (c : tie.In-Right-check) → (judged c).read_and_copy-station.new.copy ≡ (start (measured (judged c))).args.image.now
 copied c =
     let r = judged c in
-    sym (take_all image_size r.read-and-copy.last.1.0 (omega (arith, r.read-and-copy.kept)))
-    ∙ subst (Copies (start (measured r)).args.image.now r.read-and-copy.last.1.0) c.enum-told3.given.1 r.read-and-copy.ensures.1
+    sym (take_all image_size r.read_and_copy-station.new.copy (omega (arith, r.read_and_copy-station.auto)))
+    ∙ subst (Copies (start (measured r)).args.image.now r.read_and_copy-station.new.copy) c.in-Right-check.is r.read_and_copy-station.ensures.1
 
-returns : tie.Need-returns
+returns : tie.Need-returns-in_default
 returns c =
-    let m = c.before.before in
-    size_case (began m).args.image.now (began m).args.k (tells right c.enum-told2.given.1 m.check-image-size.ensures)
+    size_case (began c.before).args.image.now (began c.before).args.k (tells right c.in_default.is c.check_image_size-size.ensures)
 
-read-and-copy-requires : tie.Need-read-and-copy-requires
-read-and-copy-requires c κs = (image_size_lem c.before.before, record { count = image_size; zeros = refl; room = omega arith })
+read-and-copy-requires : tie.Need-read_and_copy-station-requires
+read-and-copy-requires c κs = (image_size_lem c.before, record { count = image_size; zeros = refl; room = omega arith })
 
-returns-2 : tie.Need-returns-2
+returns-2 : tie.Need-returns-in_default-check
 returns-2 c =
-    let r = c.before.before.before in
-    let m = measured r in
+    let m = measured c.before.before in
     let a = (start m).args in
-    image_case a.image.now a.k (sized m) (judges_wrong a.image.now r.read-and-copy.result r.read-and-copy.ensures.0 c.enum-told4.given.1)
+    image_case a.image.now a.k (sized m) (judges_wrong a.image.now c.read_and_copy-station.result c.read_and_copy-station.ensures.0 c.in_default-check.is)
 
-purge-at-requires : tie.Need-purge-at-requires
-purge-at-requires c κs = let j = c.before.before in record { judged = station_is j; pooled = copied j }
+purge-at-requires : tie.Need-purge_at-requires
+purge-at-requires c κs = record { judged = station_is c.before.before; pooled = copied c.before.before }
 
-returns-3 : tie.Need-returns-3
-returns-3 c = c.before.before.purge-at.ensures
+returns-3 : tie.Need-returns
+returns-3 c = c.purge_at.ensures
 
 pub purge_spec : {M : Type 1} → statement M
 purge_spec =

@@ -16,11 +16,11 @@ use Rattle.purge.proofs.purge_at.Statement.{statement}
 use Rattle.purge.proofs.purge_at.Tie as tie
 
 -- where the call began, from where k is checked; and that from where the image is lent
-abbrev began : tie.After-check-within → tie.Start
+abbrev began : tie.After-check_within-within → tie.Start
 began c = c.before.before.before
 
-abbrev checked : tie.After-drop-first-arg → tie.After-check-within
-checked c = c.before.before.before.before.before.before
+abbrev checked : tie.After-drop_first-arg-1 → tie.After-check_within-within
+checked c = c.before.before.before.before.before
 
 -- the arrays' lengths
 starts_size : (s : tie.Start) → length s.args.station.table.starts ≡ capacity
@@ -30,50 +30,45 @@ places_size : (s : tie.Start) → length s.args.station.places ≡ capacity
 places_size s = search rules
 
 -- k is not past the log
-within : (c : tie.After-drop-first-arg) → let a = (began (checked c)).args in a.k ≤ a.station.logged
-within c = let t = c.before.before.before.before in ltb-false _ _ (not-true _ (sym (tells right t.enum_told.given.1 (checked c).check-within.ensures)))
+within : (c : tie.After-drop_first-arg-1) → let a = (began (checked c)).args in a.k ≤ a.station.logged
+within c = ltb-false _ _ (not-true _ (sym (tells right c.in-Right.is (checked c).check_within-within.ensures)))
 
-returns : tie.Need-returns
+returns : tie.Need-returns-in_default
 returns c =
-    let k = c.before.before in
-    let s = began k in
+    let s = began c.before in
     let a = s.args in
-    log_case a.image.now a.k s.pre.judged.image
-    (log_asked a.image.now a.pool.now a.station s.pre (places_size s) a.k ∙ not-false _ (sym (tells right c.enum-told2.given.1 k.check-within.ensures)))
+    log_case a.image.now a.k s.requires.judged.image
+    (log_asked a.image.now a.pool.now a.station s.requires (places_size s) a.k ∙ not-false _ (sym (tells right c.in_default.is c.check_within-within.ensures)))
 
-array-share-prefix-starts : tie.Need-array-share-prefix-starts
-array-share-prefix-starts c = let s = began (checked c) in omega (arith, s.pre.judged.table.fits, starts_size s)
+array-share-prefix-starts : tie.Need-slice_bounds-starts-end
+array-share-prefix-starts c = let s = began (checked c) in omega (arith, s.requires.judged.table.fits, starts_size s)
 
-slice-aggregate-drop-first : tie.Need-slice-aggregate-drop-first
+slice-aggregate-drop-first : tie.Need-slice_bounds-drop_first-end
 slice-aggregate-drop-first c =
     let s = began (checked c.before) in
     let t = s.args.station.table in
-    sym (length-take-le t.count t.starts (omega (arith, s.pre.judged.table.fits, starts_size s)))
+    sym (length-take-le t.count t.starts (omega (arith, s.requires.judged.table.fits, starts_size s)))
 
-array-share-prefix-places : tie.Need-array-share-prefix-places
-array-share-prefix-places c = let l = c.before in let s = began (checked l) in omega (arith, within l, s.pre.judged.fits, places_size s)
+array-share-prefix-places : tie.Need-slice_bounds-places-end
+array-share-prefix-places c = let s = began (checked c.before) in omega (arith, within c.before, s.requires.judged.fits, places_size s)
 
-slice-aggregate-drop-first-2 : tie.Need-slice-aggregate-drop-first-2
+slice-aggregate-drop-first-2 : tie.Need-slice_bounds-drop_first-end-2
 slice-aggregate-drop-first-2 c =
-    let l = c.before.before in
-    let s = began (checked l) in
-    sym (length-take-le s.args.k s.args.station.places (omega (arith, within l, s.pre.judged.fits, places_size s)))
+    let s = began (checked c.before.before) in
+    sym (length-take-le s.args.k s.args.station.places (omega (arith, within c.before.before, s.requires.judged.fits, places_size s)))
 
-drop-first-requires : tie.Need-drop-first-requires
+drop-first-requires : tie.Need-drop_first-requires
 drop-first-requires c κs =
-    let l = c.before.before in
-    let s = began (checked l) in
+    let s = began (checked c.before.before) in
     let a = s.args in
-    droppable a.image.now a.pool.now a.station s.pre (places_size s) a.k (within l)
+    droppable a.image.now a.pool.now a.station s.requires (places_size s) a.k (within c.before.before)
 
-returns-2 : tie.Need-returns-2
+returns-2 : tie.Need-returns
 returns-2 c =
-    let d = c.before.before in
-    let l = d.before.before.before in
-    let s = began (checked l) in
+    let s = began (checked c.before.before.before.before.before) in
     let a = s.args in
-    d.drop-first.ensures
-    ∙ ap (purge a.image.now) (gone_count a.image.now a.pool.now a.station s.pre (places_size s) a.k (within l))
+    c.drop_first.ensures
+    ∙ ap (purge a.image.now) (gone_count a.image.now a.pool.now a.station s.requires (places_size s) a.k (within c.before.before.before.before.before))
 
 pub purge_at_spec : {M : Type 1} → statement M
 purge_at_spec =

@@ -20,69 +20,63 @@ use Rattle.purge_dropping.proofs.drop_first.Statement.{statement}
 use Rattle.purge_dropping.proofs.drop_first.Tie as tie
 
 -- where the call began, from where the floors are raised; and that from where they are counted
-abbrev began : tie.After-raise-floors → tie.Start
+abbrev began : tie.After-raise_floors-floors → tie.Start
 began r = r.before.before.before.before.before.before
 
-abbrev raised : tie.After-check-floors → tie.After-raise-floors
+abbrev raised : tie.After-check_floors-few → tie.After-raise_floors-floors
 raised k = k.before.before
 
 -- the floors that the definitions ask for are those that were raised
-asked : (r : tie.After-raise-floors) → let a = (began r).args in many_floors (state_in a.image.now) (length a.gone.now) ≡ ltb most_floors r.raise-floors.result
+asked : (r : tie.After-raise_floors-floors) → let a = (began r).args in many_floors (state_in a.image.now) (length a.gone.now) ≡ ltb most_floors r.raise_floors-floors.result
 asked r =
     let s = began r in
     let a = s.args in
-    floors_asked a.image.now a.pool.now a.starts.now a.gone.now s.pre r.raise-floors.new.0 r.raise-floors.result r.raise-floors.ensures
+    floors_asked a.image.now a.pool.now a.starts.now a.gone.now s.requires r.raise_floors-floors.new.tops r.raise_floors-floors.result r.raise_floors-floors.ensures
 
 -- where they are few
-abbrev counted : tie.After-enum-told → tie.After-check-floors
-counted c = c.before.before
+abbrev counted : tie.In-Right → tie.After-check_floors-few
+counted c = c.before
 
-few : (c : tie.After-enum-told) → ltb most_floors (raised (counted c)).raise-floors.result ≡ false
-few c = not-true _ (sym (tells right c.enum_told.given.1 (counted c).check-floors.ensures))
+few : (c : tie.In-Right) → ltb most_floors (raised (counted c)).raise_floors-floors.result ≡ false
+few c = not-true _ (sym (tells right c.in-Right.is (counted c).check_floors-few.ensures))
 
-raise-floors-requires : tie.Need-raise-floors-requires
+raise-floors-requires : tie.Need-raise_floors-floors-requires
 raise-floors-requires c κs =
-    let s = c.before.before.before.before.before in
-    let a = s.args in (
-      first_inside a.pool.now a.starts.now a.gone.now (first_places a.image.now a.pool.now a.starts.now a.gone.now s.requires),
-      few_places a.image.now a.pool.now a.starts.now a.gone.now s.requires,
+    let a = c.args in (
+      first_inside a.pool.now a.starts.now a.gone.now (first_places a.image.now a.pool.now a.starts.now a.gone.now c.requires),
+      few_places a.image.now a.pool.now a.starts.now a.gone.now c.requires,
       omega arith,
     )
 
-returns : tie.Need-returns
+returns : tie.Need-returns-in_default
 returns c =
-    let k = c.before.before in
-    let r = raised k in
+    let r = raised c.before in
     let s = began r in
     let a = s.args in
-    floors_case a.image.now (length a.gone.now) s.pre.image (within a.image.now a.pool.now a.starts.now a.gone.now s.pre)
-    (asked r ∙ not-false _ (sym (tells right c.enum-told2.given.1 k.check-floors.ensures)))
+    floors_case a.image.now (length a.gone.now) s.requires.image (within a.image.now a.pool.now a.starts.now a.gone.now s.requires)
+    (asked r ∙ not-false _ (sym (tells right c.in_default.is c.check_floors-few.ensures)))
 
-find-rest-requires : tie.Need-find-rest-requires
+find-rest-requires : tie.Need-find_rest-rest-requires
 find-rest-requires c κs =
     let s = began (raised (counted c)) in
     let a = s.args in
-    first_places a.image.now a.pool.now a.starts.now a.gone.now s.pre
+    first_places a.image.now a.pool.now a.starts.now a.gone.now s.requires
 
-write-purged-requires : tie.Need-write-purged-requires
+write-purged-requires : tie.Need-write_purged-requires
 write-purged-requires c κs =
-    let f = c.before.before in
-    let t = f.before in
-    let r = raised (counted t) in
+    let r = raised (counted c.before.before.before) in
     let s = began r in
     let a = s.args in
-    writable a.image.now a.pool.now a.starts.now a.gone.now s.pre r.raise-floors.last.0 r.raise-floors.result r.raise-floors.ensures
-    f.find-rest.result f.find-rest.ensures (ltb-false _ _ (few t)) (omega (arith, r.raise-floors.kept))
+    writable a.image.now a.pool.now a.starts.now a.gone.now s.requires r.raise_floors-floors.new.tops r.raise_floors-floors.result r.raise_floors-floors.ensures
+    c.find_rest-rest.result c.find_rest-rest.ensures (ltb-false _ _ (few c.before.before.before)) (omega (arith, r.raise_floors-floors.auto))
 
-returns-2 : tie.Need-returns-2
+returns-2 : tie.Need-returns
 returns-2 c =
-    let p = c.before.before in
-    let t = p.before.before.before.before in
-    let r = raised (counted t) in
+    let r = raised (counted c.before.before.before.before.before.before) in
     let s = began r in
     let a = s.args in
-    ap (λ (i : List ℕ). record { code = 0; image = i }) p.write-purged.ensures
-    ∙ left_case a.image.now (length a.gone.now) s.pre.image (within a.image.now a.pool.now a.starts.now a.gone.now s.pre) (asked r ∙ few t)
+    ap (λ (i : List ℕ). record { code = 0; image = i }) c.write_purged.ensures
+    ∙ left_case a.image.now (length a.gone.now) s.requires.image (within a.image.now a.pool.now a.starts.now a.gone.now s.requires) (asked r ∙ few c.before.before.before.before.before.before)
 
 pub drop_first_spec : {M : Type 1} → statement M
 drop_first_spec =

@@ -15,18 +15,16 @@ long s =
     let a = s.args in
     length-take-le (a.to - a.from) (drop a.from a.pool.now) (omega (arith, length-drop a.from a.pool.now, s.requires.0, s.requires.1))
 
-copy-at-requires : tie.Need-copy-at-requires
-copy-at-requires c κs = let s = c.before.before.before.before in (omega (arith, long s), s.requires.2)
+copy-at-requires : tie.Need-copy_at-requires
+copy-at-requires c κs = (omega (arith, long c.before.before.before.before), c.requires.2)
 
 returns : tie.Need-returns
 returns c =
-    let k = c.before.before in
-    let s = k.before.before.before.before.before in
-    let a = s.args in
+    let a = c.args in
     let piece : List ℕ = take (a.to - a.from) (drop a.from a.pool.now) in
     record {
-      bytes = k.copy_at.ensures ∙ ap (paste a.image.now a.at piece) (sym (long s));
-      end = ap (λ (n : ℕ). a.at + n) (sym (long s));
+      bytes = c.copy_at.ensures ∙ ap (paste a.image.now a.at piece) (sym (long c.before.before.before.before.before.before.before));
+      end = ap (λ (n : ℕ). a.at + n) (sym (long c.before.before.before.before.before.before.before));
     }
 
 pub move_part_spec : {M : Type 1} → statement M

@@ -17,14 +17,11 @@ base_size s = search rules
 
 returns : tie.Need-returns
 returns c =
-    let k = c.before.before in
-    let v = k.before.before.before.before in
-    let s = v.before.before.before.before in
-    let a = s.args in
-    k.copy_at.ensures
-    ∙ ap (λ (b : List ℕ). paste b floors_start a.tops.now (sequence_size * a.floors)) v.put-values.ensures
+    let a = c.args in
+    c.copy_at.ensures
+    ∙ ap (λ (b : List ℕ). paste b floors_start a.tops.now (sequence_size * a.floors)) c.put_values.ensures
     ∙ behind_pasted a.image.now base_start (words_of a.base) a.tops.now values_size (sequence_size * a.floors)
-    (omega (arith, s.requires.0)) (words_length a.base ∙ omega (arith, base_size s)) s.requires.1
+    (omega (arith, c.requires.0)) (words_length a.base ∙ omega (arith, base_size c.before.before.before.before.before.before.before.before.before.before)) c.requires.1
 
 pub put_start_spec : {M : Type 1} → statement M
 put_start_spec =

@@ -14,54 +14,47 @@ use Rattle.compose_message.proofs.drafted.write_draft.Statement.{statement}
 use Rattle.compose_message.proofs.drafted.write_draft.Tie as tie
 
 -- where the call began, from where the dependencies are found
-abbrev began : tie.After-find-dependencies → tie.Start
+abbrev began : tie.After-find_dependencies-found → tie.Start
 began c = c.before.before.before.before.before.before.before
 
-places_size : (c : tie.After-find-dependencies) → length c.find-dependencies.result.places ≡ capacity
+places_size : (c : tie.After-find_dependencies-found) → length c.find_dependencies-found.result.places ≡ capacity
 places_size c = search rules
 
-counted : (c : tie.After-find-dependencies) → let a = (began c).args in c.find-dependencies.result.count ≡ length (names_of (set_in a.pool.now a.starts.now) a.draft)
+counted : (c : tie.After-find_dependencies-found) → let a = (began c).args in c.find_dependencies-found.result.count ≡ length (names_of (set_in a.pool.now a.starts.now) a.draft)
 counted c =
     let a = (began c).args in
-    found_counted a.pool.now a.starts.now (sequence_number a.draft.sequence) c.find-dependencies.result (places_size c) c.find-dependencies.ensures
+    found_counted a.pool.now a.starts.now (sequence_number a.draft.sequence) c.find_dependencies-found.result (places_size c) c.find_dependencies-found.ensures
 
-few : (c : tie.After-enum-told) → c.before.before.before.find-dependencies.result.count ≤ most_dependencies
-few c = leb-true _ most_dependencies (sym c.before.before.check-few.ensures ∙ ap right c.enum_told.given.1)
+few : (c : tie.In-Right) → c.find_dependencies-found.result.count ≤ most_dependencies
+few c = leb-true _ most_dependencies (sym c.check_few-few.ensures ∙ ap right c.in-Right.is)
 
-find-dependencies-requires : tie.Need-find-dependencies-requires
-find-dependencies-requires c κs = c.before.before.before.before.before.before.requires.log
+find-dependencies-requires : tie.Need-find_dependencies-found-requires
+find-dependencies-requires c κs = c.requires.log
 
-check-few-requires : tie.Need-check-few-requires
+check-few-requires : tie.Need-check_few-few-requires
 check-few-requires c κs = tt
 
-enum_told : tie.Need-enum-told
-enum_told c = c.match.keys1
+enum_told : tie.Need-enum_told-1
+enum_told c = c.in-Right-1.keys1
 
-enum-told-2 : tie.Need-enum-told-2
-enum-told-2 c = c.match.keys2
+enum-told-2 : tie.Need-enum_told-in_default
+enum-told-2 c = c.in_default-1.keys2
 
-returns : tie.Need-returns
+returns : tie.Need-returns-in_default
 returns c =
-    let k = c.before.before in
-    let f = k.before in
-    let a = (began f).args in
-    by_count (set_in a.pool.now a.starts.now) a.draft a.commands.now a.message.now f.find-dependencies.result.count (counted f)
-    (lt-ltb most_dependencies _ (leb-false f.find-dependencies.result.count most_dependencies (sym k.check-few.ensures ∙ ap right c.enum-told2.given.1)))
+    let a = (began c.before.before).args in
+    by_count (set_in a.pool.now a.starts.now) a.draft a.commands.now a.message.now c.find_dependencies-found.result.count (counted c.before.before)
+    (lt-ltb most_dependencies _ (leb-false c.find_dependencies-found.result.count most_dependencies (sym c.check_few-few.ensures ∙ ap right c.in_default.is)))
 
-write-drafted-requires : tie.Need-write-drafted-requires
+write-drafted-requires : tie.Need-write_drafted-requires
 write-drafted-requires c κs =
-    let t = c.before in
-    let f = t.before.before.before in
-    let s = began f in
-    record { holds = s.pre.log.holds; sized = s.pre.sized; room = s.pre.room; found_are = f.find-dependencies.ensures; few = few t }
+    let s = began c.before.before.before in
+    record { holds = s.requires.log.holds; sized = s.requires.sized; room = s.requires.room; found_are = c.find_dependencies-found.ensures; few = few c.before }
 
-returns-2 : tie.Need-returns-2
+returns-2 : tie.Need-returns
 returns-2 c =
-    let w = c.before.before in
-    let t = w.before.before in
-    let f = t.before.before.before in
-    let a = (began f).args in
-    w.write-drafted.ensures ∙ by_count (set_in a.pool.now a.starts.now) a.draft a.commands.now a.message.now f.find-dependencies.result.count (counted f) (le-ltb most_dependencies _ (few t))
+    let a = (began c.before.before.before.before.before.before).args in
+    c.write_drafted.ensures ∙ by_count (set_in a.pool.now a.starts.now) a.draft a.commands.now a.message.now c.find_dependencies-found.result.count (counted c.before.before.before.before.before.before) (le-ltb most_dependencies _ (few c.before.before.before.before))
 
 pub write_draft_spec : {M : Type 1} → statement M
 write_draft_spec =

@@ -11,38 +11,37 @@ use Rattle.compose_message.proofs.drafted.write_drafted.Statement.{statement}
 use Rattle.compose_message.proofs.drafted.write_drafted.Tie as tie
 
 -- where the call began, from where the places are taken; and the array's length
-abbrev began : tie.After-places → tie.Start
+abbrev began : tie.After-places-1 → tie.Start
 began c = c.before.before.before.before.before.before
 
 places_size : (s : tie.Start) → length s.args.found.places ≡ capacity
 places_size s = search rules
 
-array-share-prefix-places : tie.Need-array-share-prefix-places
-array-share-prefix-places c = let s = began c.before in omega (arith, s.pre.found_are.fits, places_size s)
+array-share-prefix-places : tie.Need-slice_bounds-places-end
+array-share-prefix-places c = let s = began c.before in omega (arith, s.requires.found_are.fits, places_size s)
 
-slice-aggregate-write-message : tie.Need-slice-aggregate-write-message
-slice-aggregate-write-message c = let s = began c.before.before in sym (length-take-le s.args.found.count s.args.found.places (omega (arith, s.pre.found_are.fits, places_size s)))
+slice-aggregate-write-message : tie.Need-slice_bounds-write_message-end
+slice-aggregate-write-message c = let s = began c.before.before in sym (length-take-le s.args.found.count s.args.found.places (omega (arith, s.requires.found_are.fits, places_size s)))
 
-write-message-requires : tie.Need-write-message-requires
+write-message-requires : tie.Need-write_message-size-requires
 write-message-requires c κs =
     let s = began c.before.before in
     let a = s.args in
-    let e = sized_eights a.commands.now s.pre.sized in
+    let e = sized_eights a.commands.now s.requires.sized in
     record {
-      room = s.pre.room;
-      inside = record { holds = s.pre.holds; inside = s.pre.found_are.inside };
-      dependencies_counted = sym (length-take-le a.found.count a.found.places (omega (arith, s.pre.found_are.fits, places_size s)));
+      room = s.requires.room;
+      inside = record { holds = s.requires.holds; inside = s.requires.found_are.inside };
+      dependencies_counted = sym (length-take-le a.found.count a.found.places (omega (arith, s.requires.found_are.fits, places_size s)));
       commands_counted = refl;
       eights = e.whole;
-      few = record { dependencies_fit = s.pre.few; commands_fit = e.few };
+      few = record { dependencies_fit = s.requires.few; commands_fit = e.few };
     }
 
 returns : tie.Need-returns
 returns c =
-    let w = c.before.before in
-    let s = began w.before.before.before in
+    let s = began c.before.before.before.before.before in
     let a = s.args in
-    drafted_written a.pool.now a.starts.now a.draft a.found a.commands.now a.message.now _ a.found.count (length a.commands.now / command_size) w.write-message.result s.pre.found_are w.write-message.ensures
+    drafted_written a.pool.now a.starts.now a.draft a.found a.commands.now a.message.now _ a.found.count (length a.commands.now / command_size) c.write_message-size.result s.requires.found_are c.write_message-size.ensures
 
 pub write_drafted_spec : {M : Type 1} → statement M
 write_drafted_spec =

@@ -7,19 +7,15 @@ use borrow.Author.Rules.{rules}
 use Rattle.compose_writing.proofs.header.put_message_header.Statement.{statement}
 use Rattle.compose_writing.proofs.header.put_message_header.Tie as tie
 
-returns : tie.Need-returns
+returns : tie.Need-returns-in-Absent
 returns c =
-    let put = c.before.before in
-    let told = put.before.before in
-    let a = told.before.before.before.args in
-    put.put-parts.ensures ∙ ap (λ (p : Priority). pasted a.message.now 0 (header_with a.h p)) (sym told.enum_told.given.1)
+    let a = c.args in
+    c.put_parts.ensures ∙ ap (λ (p : Priority). pasted a.message.now 0 (header_with a.h p)) (sym c.in-Absent.is)
 
-returns-2 : tie.Need-returns-2
+returns-2 : tie.Need-returns-in-Given
 returns-2 c =
-    let put = c.before.before in
-    let given = put.before.before.before in
-    let a = given.before.before.before.args in
-    put.put-parts2.ensures ∙ ap (λ (p : Priority). pasted a.message.now 0 (header_with a.h p)) (sym given.given.given.1)
+    let a = c.args in
+    c.put_parts-in-Given.ensures ∙ ap (λ (p : Priority). pasted a.message.now 0 (header_with a.h p)) (sym c.in-Given.is)
 
 pub put_message_header_spec : {M : Type 1} → statement M
 put_message_header_spec =

@@ -14,18 +14,13 @@ use Rattle.compose_writing.proofs.header.put_parts.Tie as tie
 
 returns : tie.Need-returns
 returns c =
-    let fields = c.before.before in
-    let own = fields.before.before.before.before in
-    let offsets = own.before.before.before.before in
-    let counts = offsets.before.before.before.before in
-    let s = counts.before.before.before.before in
-    let a = s.args in
-    fields.put-fields.ensures
+    let a = c.args in
+    c.put_fields.ensures
     ∙ ap (λ (b : List ℕ). pasted b group_at (order_bytes a.h.group a.block a.priority))
-    (own.put-sequence.ensures
+    (c.put_sequence.ensures
     ∙ ap (λ (b : List ℕ). pasted b sequence_at (bytes sequence_size (sequence_number a.h.sequence)))
-    (offsets.put-offsets.ensures ∙ ap (λ (b : List ℕ). pasted b length_at (offsets_bytes a.h.dependencies a.h.commands)) counts.put-counts.ensures))
-    ∙ header_pasted a.message.now s.requires.0 a.flag (sequence_number a.h.sequence) a.h.group a.block a.priority a.h.dependencies a.h.commands
+    (c.put_offsets.ensures ∙ ap (λ (b : List ℕ). pasted b length_at (offsets_bytes a.h.dependencies a.h.commands)) c.put_counts.ensures))
+    ∙ header_pasted a.message.now c.requires.0 a.flag (sequence_number a.h.sequence) a.h.group a.block a.priority a.h.dependencies a.h.commands
 
 pub put_parts_spec : {M : Type 1} → statement M
 put_parts_spec =

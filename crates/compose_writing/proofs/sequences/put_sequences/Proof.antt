@@ -17,61 +17,58 @@ use Rattle.compose_writing.specs.WritingLaws.{sequences_next}
 use Rattle.compose_writing.proofs.sequences.put_sequences.Statement.{statement}
 use Rattle.compose_writing.proofs.sequences.put_sequences.Tie as tie
 
-abbrev invariant-loop : tie.invariant-loop
+abbrev invariant-loop : tie.invariant-loop-k
 invariant-loop message₀ pool starts places at to₀ k₀ message to k =
     (k ≤ length places) × (to ≡ at + sequence_size * k)
     × (pasted message to (sequences_bytes (drop k (names_at pool starts places))) ≡ pasted message₀ at (sequences_bytes (names_at pool starts places)))
     × (length message ≡ length message₀)
 
-abbrev decreases-loop : tie.decreases-loop
+abbrev decreases-loop : tie.decreases-loop-k
 decreases-loop message₀ pool starts places at to₀ k₀ message to k = length places - k
 
 -- the call as it began
-abbrev start : tie.At-loop invariant-loop decreases-loop → tie.Start invariant-loop decreases-loop
+abbrev start : tie.At-loop-k invariant-loop decreases-loop → tie.Start invariant-loop decreases-loop
 start h = h.before.before.before.before.before
 
 -- the head of the loop, from where the place was read
-abbrev turn : tie.After-shared-slice-known4 invariant-loop decreases-loop → tie.At-loop invariant-loop decreases-loop
+abbrev turn : tie.After-shared_slice_known-in-loop-k-1 invariant-loop decreases-loop → tie.At-loop-k invariant-loop decreases-loop
 turn r = r.before.before
 
-loop-holds : tie.Need-loop-init invariant-loop decreases-loop
+loop-holds : tie.Need-loop-k-init invariant-loop decreases-loop
 loop-holds c = (omega arith, omega arith, refl, refl)
 
-cast-sequence-at : tie.Need-overflow-cast-sequence-at invariant-loop decreases-loop
-cast-sequence-at c = omega (arith, c.shared-slice-known4.given (turn c).loop.k)
+cast-sequence-at : tie.Need-overflow_cast-places invariant-loop decreases-loop
+cast-sequence-at c = omega (arith, c.shared_slice_known-in-loop-k-1.given (turn c).loop-k.k)
 
-sequence-at-requires : tie.Need-sequence-at-requires invariant-loop decreases-loop
+sequence-at-requires : tie.Need-sequence_at-s-requires invariant-loop decreases-loop
 sequence-at-requires c κs =
-    let l = (turn c).loop in
+    let l = (turn c).loop-k in
     let s = start (turn c) in
-    (s.pre.0.holds, place_inside s.args.pool.now s.args.starts.now s.args.places.now s.pre.0 l.k (omega arith))
+    (s.requires.0.holds, place_inside s.args.pool.now s.args.starts.now s.args.places.now s.requires.0 l.k (omega arith))
 
-loop-again : tie.Need-loop-preserved invariant-loop decreases-loop
+loop-again : tie.Need-loop-k-preserved invariant-loop decreases-loop
 loop-again c =
-    let put = c.before.before in
-    let read = put.before.before in
-    let h = turn read.before in
-    let l = h.loop in
+    let h = turn c.before.before.before.before.before in
+    let l = h.loop-k in
     let a = (start h).args in
     let names : List ℕ = names_at a.pool.now a.starts.now a.places.now in
-    let n : ℕ = sequence_number read.sequence_at.result in
+    let n : ℕ = sequence_number c.sequence_at-s.result in
     let named : n ≡ get_or names l.k 0 =
-    read.sequence_at.ensures ∙ sym (get_d_map (sequence_in a.pool.now a.starts.now) a.places.now l.k 0 0 (omega arith)) in (
+    c.sequence_at-s.ensures ∙ sym (get_d_map (sequence_in a.pool.now a.starts.now) a.places.now l.k 0 0 (omega arith)) in (
       omega arith,
       omega arith,
-      ap (λ (x : List ℕ). pasted x (l.to + sequence_size) (sequences_bytes (drop (l.k + 1) names))) put.put-sequence.ensures
-          ∙ sequences_next l.message l.to names l.k n (omega (arith, length-map a.places.now (sequence_in a.pool.now a.starts.now))) named (omega arith) ∙ l.inv.2,
+      ap (λ (x : List ℕ). pasted x (l.to + sequence_size) (sequences_bytes (drop (l.k + 1) names))) c.put_sequence.ensures
+          ∙ sequences_next l.message l.to names l.k n (omega (arith, length-map a.places.now (sequence_in a.pool.now a.starts.now))) named (omega arith) ∙ l.invariant.2,
       search rules,
     )
 
-same_length : tie.Need-same-length invariant-loop decreases-loop
-same_length c = c.before.loop.invariant.3
+same_length : tie.Need-shape_of-message invariant-loop decreases-loop
+same_length c = c.loop-k.invariant.3
 
 returns : tie.Need-returns invariant-loop decreases-loop
 returns c =
-    let h = c.before in
-    let a = (start h).args in
-    let l = h.loop in
+    let a = (start c.before).args in
+    let l = c.loop-k in
     let names : List ℕ = names_at a.pool.now a.starts.now a.places.now in
     let none : drop l.k names ≡ [] = drop_of_length-le names {i = l.k} (omega (arith, length-map a.places.now (sequence_in a.pool.now a.starts.now))) in
     paste-zero l.message l.to [] ∙ ap (λ (k : List ℕ). pasted l.message l.to (sequences_bytes k)) (sym none) ∙ l.invariant.2

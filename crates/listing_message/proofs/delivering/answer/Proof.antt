@@ -6,9 +6,8 @@ use Rattle.listing_message.proofs.delivering.answer.Tie as tie
 
 returns : tie.Need-returns
 returns c =
-    let d = c.before.before.before.before in
-    let a = d.before.before.before.before.before.args in
-    answers a.image.now a.message.now _ _ d.deliver.result d.deliver.ensures c.outcome-of.ensures
+    let a = c.args in
+    answers a.image.now a.message.now _ _ c.deliver-delivered.result c.deliver-delivered.ensures c.outcome_of.ensures
 
 pub answer_spec : {M : Type 1} → statement M
 answer_spec =

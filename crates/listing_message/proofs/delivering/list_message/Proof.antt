@@ -6,9 +6,7 @@ use Rattle.listing_message.proofs.delivering.list_message.Tie as tie
 
 returns : tie.Need-returns
 returns c =
-    let line = c.before.before in
-    let answer = line.before.before.before.before in
-    listed answer.answer.ensures line.put-line.ensures
+    listed c.answer-outcome.ensures c.put_line.ensures
 
 pub list_message_spec : {M : Type 1} → statement M
 list_message_spec =

@@ -24,102 +24,95 @@ use Rattle.read_log.proofs.finding.next_part.Statement.{statement}
 use Rattle.read_log.proofs.finding.next_part.Tie as tie
 
 -- where the call began, from where the size is checked; and where both checks are right
-abbrev began : tie.After-check-image-size → tie.Start
+abbrev began : tie.After-check_image_size-sized → tie.Start
 began c = c.before.before
 
-abbrev measured : tie.After-read-station → tie.After-check-image-size
-measured c = c.before.before.before
+abbrev measured : tie.After-read_station-station → tie.After-check_image_size-sized
+measured c = c.before.before
 
-abbrev told : tie.After-enum-told3 → tie.Start
-told c = began (measured c.before.before)
+abbrev told : tie.In-Right-judged → tie.Start
+told c = began (measured c.before)
 
 -- what the checks told
-sized : (c : tie.After-enum-told) → true ≡ eqb (length (began c.before.before).args.image.now) image_size
-sized c = tells right c.enum_told.given.1 c.before.before.check-image-size.ensures
+sized : (c : tie.In-Right) → true ≡ eqb (length (began c.before).args.image.now) image_size
+sized c = tells right c.in-Right.is c.check_image_size-sized.ensures
 
-judgement_is : (c : tie.After-read-station) → right c.read-station.result.check ≡ is_image (began (measured c)).args.image.now
-judgement_is c = judgement (began (measured c)).args.image.now c.read-station.result c.read-station.ensures
+judgement_is : (c : tie.After-read_station-station) → right c.read_station-station.result.check ≡ is_image (began (measured c)).args.image.now
+judgement_is c = judgement (began (measured c)).args.image.now c.read_station-station.result c.read_station-station.ensures
 
-image : (c : tie.After-enum-told3) → true ≡ is_image (told c).args.image.now
-image c = tells right c.enum-told3.given.1 (judgement_is c.before.before)
+image : (c : tie.In-Right-judged) → true ≡ is_image (told c).args.image.now
+image c = tells right c.in-Right-judged.is (judgement_is c.before)
 
 -- what is next of an image is what was looked for
-next_is : (c : tie.After-enum-told3) → let a = (told c).args in starting_at a.image.now a.offset ≡ next_message (lowest_code (read_conditions a.image.now)) a.image.now a.offset
-next_is c = let a = (told c).args in next_told a.image.now a.offset (passes (sized c.before.before.before) (passes (image c) none))
+next_is : (c : tie.In-Right-judged) → let a = (told c).args in starting_at a.image.now a.offset ≡ next_message (lowest_code (read_conditions a.image.now)) a.image.now a.offset
+next_is c = let a = (told c).args in next_told a.image.now a.offset (passes (sized c.before.before) (passes (image c) none))
 
-returns : tie.Need-returns
+returns : tie.Need-returns-in_default
 returns c =
-    let m = c.before.before.before in
-    let a = (began m).args in
-    next_told a.image.now a.offset (fails (tells right c.before.enum-told2.given.1 m.check-image-size.ensures))
+    let a = (began c.before.before).args in
+    next_told a.image.now a.offset (fails (tells right c.in_default.is c.check_image_size-sized.ensures))
 
-read-station-requires : tie.Need-read-station-requires
-read-station-requires c κs = eqb-true (length (began c.before.before).args.image.now) image_size (sym (sized c))
+read-station-requires : tie.Need-read_station-station-requires
+read-station-requires c κs = eqb-true (length (began c.before).args.image.now) image_size (sym (sized c))
 
-returns-2 : tie.Need-returns-2
+returns-2 : tie.Need-returns-in_default-judged
 returns-2 c =
-    let j = c.before.before.before in
-    let a = (began (measured j)).args in
-    next_told a.image.now a.offset (passes (sized j.before) (fails (tells right c.before.enum-told4.given.1 (judgement_is j))))
+    let a = (began (measured c.before.before)).args in
+    next_told a.image.now a.offset (passes (sized c.before.before.before) (fails (tells right c.in_default-judged.is (judgement_is c.before.before))))
 
 -- the offsets of the log, which the station has
-station : (c : tie.After-enum-told3) → IsStation (told c).args.image.now c.before.before.read-station.result
-station c = let j = c.before.before in judges_right (told c).args.image.now j.read-station.result j.read-station.ensures c.enum-told3.given.1
+station : (c : tie.In-Right-judged) → IsStation (told c).args.image.now c.read_station-station.result
+station c = judges_right (told c).args.image.now c.read_station-station.result c.read_station-station.ensures c.in-Right-judged.is
 
-offsets_size : (j : tie.After-read-station) → length j.read-station.result.offsets ≡ capacity
+offsets_size : (j : tie.After-read_station-station) → length j.read_station-station.result.offsets ≡ capacity
 offsets_size j = search rules
 
-room : (c : tie.After-enum-told3) → let r = c.before.before.read-station.result in r.logged ≤ length r.offsets
-room c = omega (arith, (station c).ranges, offsets_size c.before.before)
+room : (c : tie.In-Right-judged) → let r = c.read_station-station.result in r.logged ≤ length r.offsets
+room c = omega (arith, (station c).fits, offsets_size c.before)
 
-array-share-prefix-offsets : tie.Need-array-share-prefix-offsets
+array-share-prefix-offsets : tie.Need-slice_bounds-offsets-end
 array-share-prefix-offsets c = room c.before
 
-slice-aggregate-find-message : tie.Need-slice-aggregate-find-message
+slice-aggregate-find-message : tie.Need-slice_bounds-find_message-end
 slice-aggregate-find-message c =
-    let t = c.before.before in
-    let r = t.before.before.read-station.result in
-    sym (length-take-le r.logged r.offsets (room t))
+    let r = c.read_station-station.result in
+    sym (length-take-le r.logged r.offsets (room c.before.before))
 
-find-message-requires : tie.Need-find-message-requires
+find-message-requires : tie.Need-find_message-found-requires
 find-message-requires c κs =
-    let t = c.before.before in
-    let b = (told t).args.image.now in
-    record { sized = eqb-true (length b) image_size (sym (sized t.before.before.before)); image = true_T (is_image b) (sym (image t)); log = (station t).offsets }
+    let b = (told c.before.before).args.image.now in
+    record { sized = eqb-true (length b) image_size (sym (sized c.before.before.before.before)); image = true_T (is_image b) (sym (image c.before.before)); log = (station c.before.before).offsets }
 
 -- where the image is judged, from where a message was looked for
-abbrev right-image : tie.After-find-message → tie.After-enum-told3
+abbrev right-image : tie.After-find_message-found → tie.In-Right-judged
 right-image f = f.before.before.before
 
-returns-3 : tie.Need-returns-3
+returns-3 : tie.Need-returns-in_default-found
 returns-3 c =
-    let f = c.before.before.before in
-    let t = right-image f in
+    let t = right-image c.before.before in
     let a = (told t).args in
-    sym (subst (Finds a.image.now a.offset) c.before.enum-told5.given.1 f.find-message.ensures) ∙ next_is t
+    sym (subst (Finds a.image.now a.offset) c.in_default-found.is c.find_message-found.ensures) ∙ next_is t
 
 -- the message that was found
-known : (c : tie.After-found) → let a = (told (right-image c.before.before)).args in IsMessage a.image.now a.offset c.found.given.0.0
+known : (c : tie.In-Message) → let a = (told (right-image c.before)).args in IsMessage a.image.now a.offset c.in-Message.size
 known c =
-    let f = c.before.before in
-    let a = (told (right-image f)).args in
-    subst (Finds a.image.now a.offset) c.found.given.1 f.find-message.ensures
+    let a = (told (right-image c.before)).args in
+    subst (Finds a.image.now a.offset) c.in-Message.is c.find_message-found.ensures
 
-add-end : tie.Need-overflow-add-end
-add-end c = omega (arith, (known c.before).inside)
+add-end : tie.Need-overflow_add-end
+add-end c = omega (arith, (known c).inside)
 
-part-result-end-4 : tie.Need-slice-bounds-result-end-4
+part-result-end-4 : tie.Need-slice_bounds-result-end-2
 part-result-end-4 c =
-    let t = right-image c.before.before.before in
-    omega (arith, (known c.before).inside, eqb-true (length (told t).args.image.now) image_size (sym (sized t.before.before.before)))
+    let t = right-image c.before in
+    omega (arith, (known c).inside, eqb-true (length (told t).args.image.now) image_size (sym (sized t.before.before)))
 
-returns-4 : tie.Need-returns-4
+returns-4 : tie.Need-returns
 returns-4 c =
-    let k = c.before.before in
-    let t = right-image k.before.before in
+    let t = right-image c.before.before in
     let a = (told t).args in
-    let size = k.found.given.0.0 in
-    ap (λ (n : ℕ). take n (drop a.offset a.image.now)) (add-sub_cancel_left a.offset size) ∙ (known k).bytes ∙ next_is t
+    let size = c.in-Message.size in
+    ap (λ (n : ℕ). take n (drop a.offset a.image.now)) (add-sub_cancel_left a.offset size) ∙ (known c.before).bytes ∙ next_is t
 
 pub next_part_spec : {M : Type 1} → statement M
 next_part_spec =

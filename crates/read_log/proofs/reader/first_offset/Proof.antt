@@ -14,26 +14,23 @@ use Rattle.read_log.proofs.reader.first_offset.Statement.{statement}
 use Rattle.read_log.proofs.reader.first_offset.Tie as tie
 
 -- what was told of the size
-size_told : (k : tie.After-check-image-size) {r : Bool} → right k.check-image-size.result ≡ r → eqb (length k.before.before.args.image.now) image_size ≡ r
-size_told k e = sym k.check-image-size.ensures ∙ e
+size_told : (k : tie.After-check_image_size-sized) {r : Bool} → right k.check_image_size-sized.result ≡ r → eqb (length k.args.image.now) image_size ≡ r
+size_told k e = sym k.check_image_size-sized.ensures ∙ e
 
-returns : tie.Need-returns
+returns : tie.Need-returns-in_default
 unfolding start
 returns c =
-    let k = c.before.before in
-    sym (ap (λ (b : Bool). cond (not b) 0 (messages_start_in k.before.before.args.image.now)) (size_told k (ap right c.enum-told2.given.1)))
+    sym (ap (λ (b : Bool). cond (not b) 0 (messages_start_in c.args.image.now)) (size_told c.before (ap right c.in_default.is)))
 
-returns-2 : tie.Need-returns-2
+returns-2 : tie.Need-returns
 unfolding start
 returns-2 c =
-    let k = c.before.before.before in
-    c.messages_start_lem.ensures
-    ∙ sym (ap (λ (b : Bool). cond (not b) 0 (messages_start_in k.before.before.args.image.now)) (size_told k (ap right c.before.enum_told.given.1)))
+    c.messages_start.ensures
+    ∙ sym (ap (λ (b : Bool). cond (not b) 0 (messages_start_in c.args.image.now)) (size_told c.before.before (ap right c.in-Right.is)))
 
-messages-start-requires : tie.Need-messages-start-requires
+messages-start-requires : tie.Need-messages_start-requires
 messages-start-requires c κs =
-    let k = c.before.before in
-    omega (arith, eqb-true (length k.before.before.args.image.now) image_size (size_told k (ap right c.enum_told.given.1)))
+    omega (arith, eqb-true (length c.args.image.now) image_size (size_told c.before (ap right c.in-Right.is)))
 
 pub first_offset_spec : {M : Type 1} → statement M
 first_offset_spec = tie.close (tie.spec (λ c κs. search rules) (λ c. search rules) (λ c. search rules) returns messages-start-requires returns-2)
