@@ -1,4 +1,6 @@
 // The calls as C has them: each function makes one call and packs its answer. `bivamolune_c` exports them.
+#![tactic(auto)]
+
 pub mod composition;
 pub mod reads;
 pub mod texts;

@@ -1,4 +1,6 @@
 // Answers as one number for C, and what the header takes out of it.
+#![tactic(auto)]
+
 pub mod compositions;
 pub mod deliveries;
 pub mod purges;

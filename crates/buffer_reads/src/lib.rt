@@ -1,4 +1,6 @@
 // Leaf functions that read byte slices: big-endian numbers, and a comparison.
+#![tactic(auto)]
+
 ghost use Rattle.std.specs.Prelude.{◌≡◌, ◌+◌, ◌<◌, ◌≤◌, length};
 ghost use Rattle.model.specs.Bytes.{field};
 ghost use Rattle.model.specs.Lists.{same as same_list};

@@ -1,4 +1,6 @@
 // Code 1: the sizes of the buffers that a call is handed; and whether bytes are whole pieces, one to eight.
+#![tactic(auto)]
+
 ghost use Rattle.std.specs.Prelude.{◌≡◌, not, ◌<◌, eqb, ltb};
 ghost use Rattle.model.specs.Layout.{image_size, line_size, message_room, sequences_room, text_room};
 ghost use Rattle.model.specs.Codes.{small_steps};

@@ -1,4 +1,6 @@
 // The call `compose`.
+#![tactic(auto)]
+
 ghost use Rattle.std.specs.Prelude.{◌≡◌};
 ghost use Rattle.model.specs.Bytes.{number};
 ghost use Rattle.model.specs.Image.{state_in};

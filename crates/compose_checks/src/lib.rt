@@ -1,4 +1,6 @@
 // The checks of compose's own arguments: the sizes (code 1), flag, priority and commands (code 6).
+#![tactic(auto)]
+
 ghost use Rattle.std.specs.Prelude.{◌≡◌};
 ghost use Rattle.model.specs.Codes.{compose_content};
 ghost use Rattle.message_header.specs.Check.{right};

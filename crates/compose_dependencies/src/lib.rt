@@ -1,4 +1,6 @@
 // What a new delta depends on: the log deltas that no other log delta needs, less its predecessor.
+#![tactic(auto)]
+
 pub mod marks;
 
 ghost use Rattle.std.specs.Prelude.{◌≡◌, ◌<◌, length};

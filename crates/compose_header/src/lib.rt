@@ -1,4 +1,6 @@
 // The numbers of a message's header, written: its counts, its offsets, its fields.
+#![tactic(auto)]
+
 ghost use Rattle.std.specs.Prelude.{◌≡◌, [], ◌∷◌, ◌+◌, ◌<◌, ◌≤◌, length};
 ghost use Rattle.model.specs.Layout.{kind_at, length_at, group_at, header_size};
 ghost use Rattle.image_header.specs.Pieces.{pasted};

@@ -1,4 +1,6 @@
 // The line of a new delta, and code 9: whether a held delta is on it.
+#![tactic(auto)]
+
 ghost use Rattle.std.specs.Prelude.{◌≡◌, not, ◌*◌, length};
 ghost use Rattle.model.specs.Bytes.{number};
 ghost use Rattle.model.specs.Layout.{line_size, numbers_of_line};

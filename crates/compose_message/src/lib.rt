@@ -1,4 +1,6 @@
 // Compose's later codes, 9 to 11, and the message that it writes.
+#![tactic(auto)]
+
 pub mod answer;
 pub mod drafted;
 

@@ -1,4 +1,6 @@
 // A message written from its parts: header, dependencies, commands.
+#![tactic(auto)]
+
 pub mod header;
 pub mod sequences;
 

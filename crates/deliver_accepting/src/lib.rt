@@ -1,4 +1,5 @@
 // A new message joins the station: the new log beside the old one, the image and the steps.
+#![tactic(auto)]
 
 ghost use Rattle.std.specs.Prelude.{◌≡◌, [], length};
 ghost use Rattle.model.specs.Order.{add};
@@ -16,8 +17,8 @@ use deliver_steps::write_steps;
 use image::write_used;
 use image_listed::Station;
 use layout::{CAPACITY, IMAGE_SIZE};
-use log_listing::listing::order;
 use log_key::KEYS;
+use log_listing::listing::order;
 use log_order::LogOrder;
 use log_prepared::prepare;
 use set_needs::rows::ROWS;

@@ -1,4 +1,6 @@
 // The checks of codes 7 and 8: what is present under a message's sequence, and room for one more.
+#![tactic(auto)]
+
 ghost use Rattle.std.specs.Prelude.{◌≡◌, not, ltb};
 ghost use Rattle.model.specs.Layout.{capacity};
 ghost use Rattle.model.specs.Message.{sequence_of};

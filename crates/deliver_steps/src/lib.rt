@@ -1,4 +1,6 @@
 // The steps between two logs, as places of one table, each log run from where they part.
+#![tactic(auto)]
+
 ghost use Rattle.std.specs.Prelude.{◌≡◌, length, drop};
 ghost use Rattle.model.specs.Setpoints.{start_values};
 ghost use Rattle.model.specs.Steps.{along, records_of, records_bytes};

@@ -1,4 +1,6 @@
 // A message that passes 3 to 6 at a judged station: codes 7 and 8, or taken in, or passed over at a floor; and what deliver answers.
+#![tactic(auto)]
+
 pub mod above;
 pub mod answer;
 

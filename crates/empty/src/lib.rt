@@ -1,4 +1,6 @@
 // The call `empty`.
+#![tactic(auto)]
+
 ghost use Rattle.std.specs.Prelude.{◌≡◌};
 ghost use Rattle.model.specs.Calls as model;
 ghost use Rattle.empty.specs.EmptyAnswer.{emptied_by};

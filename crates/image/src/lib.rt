@@ -1,4 +1,5 @@
 // The used bytes of a set's image, written from the places of its log; the image of no deltas.
+#![tactic(auto)]
 
 ghost use Rattle.std.specs.Prelude.{◌≡◌, ◌≤◌, length, T};
 ghost use Rattle.model.specs.Layout.{image_size, setpoints_start};

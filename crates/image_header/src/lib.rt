@@ -1,4 +1,6 @@
 // The header of an image, and how pieces are pasted into a buffer.
+#![tactic(auto)]
+
 ghost use Rattle.std.specs.Prelude.{◌≡◌, ◌≤◌, length};
 ghost use Rattle.model.specs.Layout.{log_count_at, setpoints_offset_at, floor_count_at, purged_block_at, setpoints_start};
 ghost use Rattle.image_header.specs.Pieces.{pasted, counts_bytes, offsets_bytes, floor_fields_bytes, purged_bytes, header_bytes};

@@ -1,4 +1,6 @@
 // A buffer with its table, and its log as it lists it: checked against the log of the set, rewritten, and compared. Nothing is judged here.
+#![tactic(auto)]
+
 pub mod comparing;
 
 ghost use Rattle.std.specs.Prelude.{◌≡◌, length};

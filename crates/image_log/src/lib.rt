@@ -1,4 +1,6 @@
 // The log of an image as places of its table, from its offsets.
+#![tactic(auto)]
+
 ghost use Rattle.std.specs.Prelude.{length};
 ghost use Rattle.image_log.specs.LogRead.{Readable, ReadsLog};
 

@@ -1,4 +1,6 @@
 // The table of an image's messages, from their offsets.
+#![tactic(auto)]
+
 ghost use Rattle.std.specs.Prelude.{◌≡◌, ◌+◌, ◌<◌, length, take, T};
 ghost use Rattle.model.specs.Layout.{capacity, image_size};
 ghost use Rattle.model.specs.Order.{origin_right};

@@ -1,5 +1,7 @@
 // The walk over an image's messages, the only one: each is checked, its length added once, its offset written down. Whatever looks
 // for a message of an image takes its offset from here.
+#![tactic(auto)]
+
 ghost use Rattle.std.specs.Prelude.{◌≡◌, ◌+◌, ◌≤◌, length, eqb, leb};
 ghost use Rattle.model.specs.Bytes.{field};
 ghost use Rattle.model.specs.Layout.{length_at, header_size, image_size, setpoints_offset_at, floor_count_at, capacity};

@@ -1,5 +1,6 @@
 // The offsets, sizes, counts and limits of documents 01 and 02, as constants. They have the names of `Layout` in the definitions.
 // Every crate that reads or writes a message, an image, a step or a text takes them from here.
+#![tactic(auto)]
 
 // ---- a delta on the wire: the header
 pub const KIND_AT: usize = 0;

@@ -1,5 +1,7 @@
 // The listing program: standard input read, the listing written. A line for each message and a last line are printed in every case:
 // where a read fails, the listing is that of the bytes before it, and standard error says why.
+#![tactic(auto)]
+
 use libc::STDOUT_FILENO;
 use listing_whole::limits::{INPUT_LIMIT, LISTING_ROOM};
 use listing_whole::walking::list;

@@ -1,4 +1,6 @@
 // The next message of the listing program's input, cut by its length field.
+#![tactic(auto)]
+
 pub mod limits;
 
 ghost use Rattle.listing_cut.specs.Cut.{IsCut};

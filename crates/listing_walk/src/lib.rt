@@ -1,4 +1,6 @@
 // All messages of an input one after the other, with the image that they are delivered to: their lines, and the last line.
+#![tactic(auto)]
+
 ghost use Rattle.std.specs.Prelude.{◌≡◌, ◌≤◌, length};
 ghost use Rattle.model.specs.Layout.{image_size};
 ghost use Rattle.program_decimal.specs.Puts.{Puts};

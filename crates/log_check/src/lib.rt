@@ -1,4 +1,6 @@
 // Whether a log that is there already is the log of the set: it is checked, not ordered again.
+#![tactic(auto)]
+
 mod above;
 mod waiting;
 

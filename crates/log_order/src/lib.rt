@@ -1,4 +1,6 @@
 // The new log as it grows beside the old one, and how much of the old one is kept.
+#![tactic(auto)]
+
 ghost use Rattle.std.specs.Prelude.{◌≡◌, [], ◌∷◌, ◌++◌, ◌≤◌, ◌<◌};
 ghost use Rattle.model.specs.Layout.{capacity};
 ghost use Rattle.model.specs.Steps.{common, undos_of, executions_of};

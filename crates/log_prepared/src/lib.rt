@@ -1,4 +1,6 @@
 // What a log is computed from and checked by: the needs of each delta by index, and the keys.
+#![tactic(auto)]
+
 pub mod keys;
 
 ghost use Rattle.std.specs.Prelude.{◌≡◌, ◌*◌, length};

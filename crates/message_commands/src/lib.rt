@@ -1,4 +1,6 @@
 // The checks of commands, of a message's own and of those handed over to be composed.
+#![tactic(auto)]
+
 ghost use Rattle.std.specs.Prelude.{◌≡◌, ◌+◌, ◌/◌, ◌≤◌, length, take, drop};
 ghost use Rattle.model.specs.Layout.{command_size};
 ghost use Rattle.model.specs.Message.{command_right};

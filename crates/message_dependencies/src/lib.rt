@@ -1,4 +1,6 @@
 // The dependencies of a message, and the checks of codes 4 and 5.
+#![tactic(auto)]
+
 ghost use Rattle.std.specs.Prelude.{◌≡◌, ◌≤◌, ◌<◌, length, get_or};
 ghost use Rattle.model.specs.Lists.{has, ascending};
 ghost use Rattle.model.specs.Message.{dependency_count, commands_start, dependencies_of, numbers_right, dependencies_right};

@@ -1,4 +1,6 @@
 // Sequences as two numbers: read, written, compared, and taken apart into line, number and predecessor.
+#![tactic(auto)]
+
 ghost use Rattle.std.specs.Prelude.{◌≡◌, ◌+◌, ◌≤◌, length, eqb, ltb};
 ghost use Rattle.std.proofs.Math.Seq.{paste};
 ghost use Rattle.model.specs.Bytes.{field, bytes};

@@ -1,4 +1,6 @@
 // The program `print_log` for the service laptop: an image read, its log written.
+#![tactic(auto)]
+
 use layout::IMAGE_SIZE;
 use libc::STDOUT_FILENO;
 use print_log_whole::limits::LOG_ROOM;

@@ -1,4 +1,6 @@
 // What `print_log` prints of a message's commands: tag and value, with its sign.
+#![tactic(auto)]
+
 pub mod value;
 
 ghost use Rattle.std.specs.Prelude.{◌+◌, ◌*◌, ◌≤◌, length, take, drop};

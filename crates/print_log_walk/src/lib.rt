@@ -1,4 +1,6 @@
 // The messages of a log one after the other, each as its line. The reader keeps the offset, `log_message` gives the message.
+#![tactic(auto)]
+
 ghost use Rattle.std.specs.Prelude.{◌≡◌, ◌≤◌, eqb, length};
 ghost use Rattle.model.specs.Codes.{lowest_code, read_conditions};
 ghost use Rattle.model.specs.Calls.{log_message_code};

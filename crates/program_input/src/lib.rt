@@ -1,4 +1,6 @@
 // Standard input, read in pieces until it ends or a buffer is full.
+#![tactic(auto)]
+
 pub mod answer;
 
 ghost use Rattle.std.specs.Prelude.{◌≤◌, ◌≡◌, length, take};

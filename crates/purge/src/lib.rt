@@ -1,4 +1,6 @@
 // The call `purge`.
+#![tactic(auto)]
+
 ghost use Rattle.std.specs.Prelude.{◌≡◌, not, ltb};
 ghost use Rattle.model.specs.Calls as model;
 ghost use Rattle.message_header.specs.Check.{right};

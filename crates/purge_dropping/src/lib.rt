@@ -1,4 +1,6 @@
 // The first deltas of a log dropped, or code 16 where too many floors would result; and what purge answers.
+#![tactic(auto)]
+
 pub mod answer;
 
 ghost use Rattle.std.specs.Prelude.{◌≡◌, not, length, ltb};

@@ -1,4 +1,6 @@
 // The floors that a purge leaves: those of the image, raised by the sequences of the deltas that go.
+#![tactic(auto)]
+
 ghost use Rattle.std.specs.Prelude.{◌≡◌, ◌≤◌, length, T};
 ghost use Rattle.model.specs.Layout.{most_floors, capacity};
 ghost use Rattle.model.specs.Tops.{raise_tops};

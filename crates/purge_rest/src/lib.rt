@@ -1,4 +1,6 @@
 // What a purge leaves: the base values, block and group that the log starts from then, and where the messages that stay begin.
+#![tactic(auto)]
+
 ghost use Rattle.std.specs.Prelude.{◌≡◌, ◌+◌, ◌≤◌, length};
 ghost use Rattle.model.specs.Bytes.{join};
 ghost use Rattle.model.specs.Layout.{image_size};

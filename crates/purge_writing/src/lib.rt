@@ -1,4 +1,6 @@
 // The image after a purge, written over the one before it.
+#![tactic(auto)]
+
 ghost use Rattle.std.specs.Prelude.{◌≡◌, ◌++◌, ◌+◌, ◌*◌, ◌-◌, ◌≤◌, length, take, drop};
 ghost use Rattle.model.specs.Layout.{sequence_size, base_start, floors_start};
 ghost use Rattle.model.specs.Purge.{purge_first};

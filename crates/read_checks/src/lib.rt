@@ -1,4 +1,6 @@
 // The checks of the calls that only read an image: code 2, and code 12 of a place and of a tag.
+#![tactic(auto)]
+
 ghost use Rattle.std.specs.Prelude.{◌≡◌, not, length, leb};
 ghost use Rattle.model.specs.Layout.{image_size, tag_count};
 ghost use Rattle.model.specs.Image.{is_image, log_count};

@@ -1,5 +1,7 @@
 // The log reader for a caller that holds none: where it starts, and where it stands after one message. Each function makes a reader
 // and gives it up, so that a caller holds numbers alone.
+#![tactic(auto)]
+
 ghost use Rattle.std.specs.Prelude.{◌≡◌};
 ghost use Rattle.read_log.specs.Reader.{first_offset};
 ghost use Rattle.read_offsets.specs.Offsets.{offset_after};

@@ -1,4 +1,6 @@
 // The log's message that starts at an offset, looked for among the offsets of all of them.
+#![tactic(auto)]
+
 ghost use Rattle.read_search.specs.Finding.{Searchable, Finds};
 
 use buffer_reads::get_u16;

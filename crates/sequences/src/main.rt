@@ -1,4 +1,6 @@
 // The program `sequences` for the service laptop: standard input read, the other form written.
+#![tactic(auto)]
+
 use libc::{STDERR_FILENO, STDOUT_FILENO};
 use program_input::answer::Input;
 use program_input::{drop_rest, read_input};

@@ -1,4 +1,6 @@
 // Sequences in either form, turned into the other: what the program `sequences` prints.
+#![tactic(auto)]
+
 pub mod lines;
 
 ghost use Rattle.std.specs.Prelude.{◌≡◌};

@@ -1,4 +1,6 @@
 // The floors that a pool's image begins with: how many there are, each by its place, and the one that a sequence is at or below.
+#![tactic(auto)]
+
 ghost use Rattle.std.specs.Prelude.{◌≡◌, ◌+◌, ◌<◌, ◌≤◌, length, get_or, T};
 ghost use Rattle.model.specs.Lists.{greatest};
 ghost use Rattle.model.specs.Layout.{floor_count_at};

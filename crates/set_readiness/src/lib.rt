@@ -1,4 +1,6 @@
 // What is ready, by its row of needs; and the greatest of the numbers that stand beside a delta's needs.
+#![tactic(auto)]
+
 ghost use Rattle.std.specs.Prelude.{◌≡◌, ◌<◌, max, length};
 ghost use Rattle.set_needs.specs.Rows.{RowFits};
 ghost use Rattle.set_readiness.specs.Ready.{marks_size, ready_in, greatest_along};

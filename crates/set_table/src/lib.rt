@@ -1,4 +1,6 @@
 // A set of messages in a run of bytes, the pool: where each starts, by sequence; found, inserted; where an image's messages start.
+#![tactic(auto)]
+
 pub mod entry;
 pub mod inserting;
 pub mod places;

@@ -1,4 +1,6 @@
 // Tops as bytes, twelve each: the place of a sequence's line among them, and the line's top raised.
+#![tactic(auto)]
+
 ghost use Rattle.std.specs.Prelude.{◌≡◌, ◌+◌, ◌^◌, ◌≤◌, ◌<◌, max, length};
 ghost use Rattle.model.specs.Layout.{sequence_size};
 ghost use Rattle.model.specs.Tops.{raise_top};

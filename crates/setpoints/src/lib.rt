@@ -1,4 +1,6 @@
 // The command runner: a delta's commands, run on 64 setpoints, and the change of each.
+#![tactic(auto)]
+
 ghost use Rattle.std.specs.Prelude.{◌≡◌, ◌/◌, T, length, take};
 ghost use Rattle.model.specs.Layout.{command_size, most_commands};
 ghost use Rattle.model.specs.Message.{command_count, passes};

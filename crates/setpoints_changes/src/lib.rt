@@ -1,4 +1,6 @@
 // A command's change (tag, before, after): made, applied to the values, kept beside others.
+#![tactic(auto)]
+
 ghost use Rattle.std.specs.Prelude.{◌≡◌, ◌+◌, ◌≤◌, ◌<◌, pos, length, take, drop, get_or, set};
 ghost use Rattle.model.specs.Bytes.{field};
 ghost use Rattle.model.specs.Layout.{command_size, tag_at};

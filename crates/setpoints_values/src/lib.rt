@@ -1,4 +1,6 @@
 // The 64 setpoints as a whole: those before any command, and how they are written.
+#![tactic(auto)]
+
 ghost use Rattle.std.specs.Prelude.{◌≡◌, List, ◌+◌, ◌*◌, ◌≤◌, length, T};
 ghost use Rattle.std.proofs.Math.Seq.{paste};
 ghost use Rattle.model.specs.Layout.{value_size, tag_count, values_size};

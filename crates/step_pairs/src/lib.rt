@@ -1,4 +1,6 @@
 // The pairs of a step, written from the changes that its delta makes; what an undo does otherwise than an execution.
+#![tactic(auto)]
+
 pub mod kinds;
 
 ghost use Rattle.std.specs.Prelude.{◌≡◌, ◌+◌, ◌*◌, ◌≤◌, length, take};

@@ -1,4 +1,6 @@
 // The checks of a text and of sequences, 13 for the form and 14 for the numbers; what reader and writer answer.
+#![tactic(auto)]
+
 pub mod answer;
 pub mod forms;
 

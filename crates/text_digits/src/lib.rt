@@ -1,4 +1,6 @@
 // The characters of a text: the table of 256 characters and their digits, the character of a digit, the comma.
+#![tactic(auto)]
+
 mod entries;
 
 ghost use Rattle.std.specs.Prelude.{◌≡◌, ◌<◌};

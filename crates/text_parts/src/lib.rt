@@ -1,4 +1,6 @@
 // A part of a text, looked at: a sequence's characters, and the comma behind them. Behind the last part no comma stands.
+#![tactic(auto)]
+
 ghost use Rattle.std.specs.Prelude.{◌≡◌, [], ◌∷◌, ◌++◌, ◌+◌, ◌≤◌, length, take, drop};
 ghost use Rattle.model.specs.Lists.{every};
 ghost use Rattle.model.specs.Layout.{characters_size, text_part_size};

@@ -1,4 +1,6 @@
 // The reader: from a text to sequences.
+#![tactic(auto)]
+
 pub mod parts;
 
 ghost use Rattle.std.specs.Prelude.{◌≡◌};

@@ -1,4 +1,6 @@
 // The writer: from sequences to their text.
+#![tactic(auto)]
+
 pub mod parts;
 
 ghost use Rattle.std.specs.Prelude.{◌≡◌};

@@ -1,6 +1,5 @@
 -- Each delta is looked at once, and those that are depended on are found.
 use mathlib.Core.Path.{sym, ◌∙◌, subst}
-use mathlib.Core.Logic.{⊎_elim}
 use mathlib.Core.List.{List}
 use Prim.Native.Nat.{ℕ, ◌+◌, ◌-◌, ◌<◌}
 use native.Mathlib.Omega.{arith}
@@ -54,14 +53,16 @@ loop-again c =
     let starts = s.args.starts.now in
     let own = sequence_number s.args.s in
     let more = c.loop-i-test.true in
-    elim c.if-is_dependency.branch [ then-is_dependency w ↦
-    subst (λ (x : List ℕ). Finding pool starts own x c.if-is_dependency.n (l.i + 1)) (sym w.found-is)
-    (subst (λ (m : ℕ). Finding pool starts own (set l.found l.n l.i) m (l.i + 1)) (sym w.n-is)
-    (finding_more pool starts s.requires.holds own l.found l.n l.i l.invariant more (sym c.is_dependency.ensures ∙ w.if-is_dependency.true)))
-    | else-is_dependency w ↦
-    subst (λ (x : List ℕ). Finding pool starts own x c.if-is_dependency.n (l.i + 1)) (sym w.found-is)
-    (subst (λ (m : ℕ). Finding pool starts own l.found m (l.i + 1)) (sym w.n-is)
-    (finding_less pool starts s.requires.holds own l.found l.n l.i l.invariant more (sym c.is_dependency.ensures ∙ w.if-is_dependency.false))) ]
+    elim c.if-is_dependency.branch [
+      | then-is_dependency w ↦
+          subst (λ (x : List ℕ). Finding pool starts own x c.if-is_dependency.n (l.i + 1)) (sym w.found-is)
+          (subst (λ (m : ℕ). Finding pool starts own (set l.found l.n l.i) m (l.i + 1)) (sym w.n-is)
+          (finding_more pool starts s.requires.holds own l.found l.n l.i l.invariant more (sym c.is_dependency.ensures ∙ w.if-is_dependency.true)))
+      | else-is_dependency w ↦
+          subst (λ (x : List ℕ). Finding pool starts own x c.if-is_dependency.n (l.i + 1)) (sym w.found-is)
+          (subst (λ (m : ℕ). Finding pool starts own l.found m (l.i + 1)) (sym w.n-is)
+          (finding_less pool starts s.requires.holds own l.found l.n l.i l.invariant more (sym c.is_dependency.ensures ∙ w.if-is_dependency.false)))
+    ]
 
 returns : tie.Need-returns invariant-loop decreases-loop
 returns c =

@@ -5,8 +5,6 @@ use mathlib.Core.Path.{◌≡◌, sym, ◌∙◌, subst}
 use mathlib.Core.Bool.{Bool, true, false}
 use lib.ListN.{length, get_or, set, length-map}
 use native.Mathlib.Omega.{arith}
-use borrow.Author.Rules.{rules}
-use borrow.Author.Tests.{not-true, not-false}
 use Rattle.laws_order.specs.ListLaws.{get_d_∈}
 use Rattle.set_table.specs.Table.{message_from, set_in}
 use Rattle.set_needs.specs.RowLaws.{rows_fit}

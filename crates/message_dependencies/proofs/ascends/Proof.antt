@@ -5,7 +5,6 @@ use mathlib.Core.Bool.{Bool, ◌&&◌}
 use lib.ListN.{drop}
 use lib.Dec.{ltb}
 use native.Mathlib.Omega.{arith}
-use borrow.Author.Tests.{not-true, not-false}
 use Rattle.model.specs.Lists.{ascending}
 use Rattle.model.specs.Message.{Message, dependencies_of}
 use Rattle.laws_order.specs.ScanLaws.{ascending_step, ascending_end}

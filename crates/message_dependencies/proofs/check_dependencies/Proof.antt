@@ -3,7 +3,6 @@ use mathlib.Core.Path.{◌≡◌, refl, sym, ◌∙◌, ap}
 use mathlib.Core.Bool.{Bool, true, not, ◌&&◌}
 use mathlib.Core.List.{List}
 use Prim.Native.Nat.{ℕ}
-use borrow.Author.Tests.{not-true, not-false}
 use Rattle.model.specs.Lists.{has, every, ascending}
 use Rattle.model.specs.Message.{Message, sequence_of, predecessor_of, dependencies_of, dependencies_right}
 use Rattle.message_sequence.specs.declared.Predecessor.{Predecessor}

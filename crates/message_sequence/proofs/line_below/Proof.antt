@@ -5,7 +5,7 @@ use Prim.Native.Nat.{ℕ}
 use native.Mathlib.Omega.{arith}
 use lib.Dec.{eqb, ltb}
 use borrow.Author.Rules.{rules}
-use borrow.Author.Tests.{le-ltb, eqb-true, eqb-false, not-true, not-false}
+use borrow.Author.Tests.{le-ltb, eqb-true, eqb-false}
 use Rattle.model.specs.Message.{line_of}
 use Rattle.laws_order.specs.TestLaws.{same_ltb}
 use Rattle.message_sequence.specs.Sequence.{sequence_number}

@@ -4,7 +4,7 @@ use Prim.Native.Nat.{◌-◌}
 use native.Mathlib.Omega.{arith}
 use lib.ListN.{get_or}
 use borrow.Author.Rules.{rules}
-use borrow.Author.Tests.{ltb-true, ltb-false, not-true, not-false}
+use borrow.Author.Tests.{ltb-true, ltb-false}
 use Rattle.model.specs.Message.{line_of}
 use Rattle.message_sequence.specs.Sequence.{sequence_number}
 use Rattle.set_tops.specs.TopsIn.{tops_in}

@@ -8,7 +8,6 @@ use lib.ListN.{length, take, drop, replicate, length-replicate}
 use lib.Seq.{length-take-le}
 use lib.Dec.{T}
 use borrow.Author.Rules.{rules}
-use borrow.Author.Tests.{not-true, not-false}
 use Rattle.model.specs.Lists.{same}
 use Rattle.model.specs.Order.{log_of}
 use Rattle.model.specs.Layout.{image_size}

@@ -9,7 +9,6 @@ use lib.Dec.{eqb, eqb→eq}
 use native.Mathlib.Omega.{arith}
 use native.Mathlib.Numerals.{add-one}
 use borrow.Author.Rules.{rules}
-use borrow.Author.Tests.{not-true, not-false}
 use Rattle.model.specs.Lists.{same}
 use Rattle.laws_order.specs.TestLaws.{same_test, eq→eqb}
 use Rattle.image_listed.proofs.comparing.equals_copy.Statement.{statement}

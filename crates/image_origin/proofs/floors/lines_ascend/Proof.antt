@@ -7,7 +7,6 @@ use native.Mathlib.Omega.{arith}
 use lib.ListN.{length, drop, get_or, length-map}
 use lib.Dec.{ltb}
 use borrow.Author.Rules.{rules}
-use borrow.Author.Tests.{not-true, not-false}
 use Rattle.model.specs.Lists.{ascending}
 use Rattle.model.specs.Message.{line_of}
 use Rattle.model.specs.Image.{floor_count, floors_in}

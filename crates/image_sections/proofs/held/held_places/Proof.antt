@@ -1,6 +1,5 @@
 -- The invariant: the first n elements are the other places below i.
 use mathlib.Core.Path.{◌≡◌, refl, sym, ◌∙◌, ap, ap₂}
-use mathlib.Core.Logic.{⊎_elim}
 use mathlib.Core.List.{List, [], ◌∷◌, ◌++◌}
 use Prim.Native.Nat.{ℕ, ◌+◌, ◌-◌, ◌≤◌, ◌<◌}
 use native.Mathlib.Omega.{arith}
@@ -8,7 +7,6 @@ use native.Mathlib.Numerals.{add-one}
 use lib.ListN.{length, take, length-set, length-append}
 use lib.Seq.{take-suc-set}
 use borrow.Author.Rules.{rules}
-use borrow.Author.Tests.{not-true, not-false}
 use Rattle.model.specs.Layout.{capacity}
 use Rattle.image_sections.specs.LogPlaces.{others_below}
 use Rattle.image_sections.specs.HeldLaws.{others_skip, others_take, others_length}
@@ -43,26 +41,28 @@ loop-again c =
     let n = c.loop-i.n in
     let h = c.loop-i-test.true in
     let inv = c.loop-i.invariant in
-    elim c.if-not-is_among.branch [ then-not-is_among w ↦
-    let new = others_take i places (sym c.is_among.ensures ∙ w.if-not-is_among.true) in (
-      omega arith,
-      (
-        w.n-is ∙ ap (λ (x : ℕ). x + 1) inv.1.0 ∙ sym (ap length new ∙ length-append (others_below i places) (i ∷ [])),
-        (
-          ap₂ take (w.n-is ∙ add-one n) w.held-is ∙ take-suc-set c.loop-i.held n i (let f = free c.before.before.before h in omega arith)
-              ∙ ap (λ (x : List ℕ). x ++ (i ∷ [])) inv.1.1.0 ∙ sym new,
-          ap length w.held-is ∙ length-set c.loop-i.held n i ∙ inv.1.1.1,
-        ),
-      ),
-    )
-    | else-not-is_among w ↦
-    let old = others_skip i places (sym c.is_among.ensures ∙ w.if-not-is_among.false) in (
-      omega arith,
-      (
-        w.n-is ∙ inv.1.0 ∙ sym (ap length old),
-        (ap₂ take w.n-is w.held-is ∙ inv.1.1.0 ∙ sym old, ap length w.held-is ∙ inv.1.1.1),
-      ),
-    ) ]
+    elim c.if-not-is_among.branch [
+      | then-not-is_among w ↦
+          let new = others_take i places (sym c.is_among.ensures ∙ w.if-not-is_among.true) in (
+            omega arith,
+            (
+              w.n-is ∙ ap (λ (x : ℕ). x + 1) inv.1.0 ∙ sym (ap length new ∙ length-append (others_below i places) (i ∷ [])),
+              (
+                ap₂ take (w.n-is ∙ add-one n) w.held-is ∙ take-suc-set c.loop-i.held n i (let f = free c.before.before.before h in omega arith)
+                    ∙ ap (λ (x : List ℕ). x ++ (i ∷ [])) inv.1.1.0 ∙ sym new,
+                ap length w.held-is ∙ length-set c.loop-i.held n i ∙ inv.1.1.1,
+              ),
+            ),
+          )
+      | else-not-is_among w ↦
+          let old = others_skip i places (sym c.is_among.ensures ∙ w.if-not-is_among.false) in (
+            omega arith,
+            (
+              w.n-is ∙ inv.1.0 ∙ sym (ap length old),
+              (ap₂ take w.n-is w.held-is ∙ inv.1.1.0 ∙ sym old, ap length w.held-is ∙ inv.1.1.1),
+            ),
+          )
+    ]
 
 returns : tie.Need-returns invariant-loop decreases-loop
 returns c =

@@ -7,7 +7,6 @@ use mathlib.Core.List.{List}
 use lib.ListN.{length, get_or}
 use lib.Dec.{T, eqb, eqb→eq, ltb, ltb→lt, nltb→le}
 use native.Mathlib.Omega.{arith}
-use borrow.Author.Tests.{not-true, not-false}
 use Rattle.model.specs.Order.{less}
 use Rattle.laws_order.specs.TestLaws.{decide, not_eqb}
 use Rattle.laws_order.specs.KeyOrder.{less_total}

@@ -5,7 +5,6 @@ use lib.ListN.{take, drop}
 use native.Mathlib.Omega.{arith}
 use native.Mathlib.Nat.{add-sub_cancel_left}
 use borrow.Author.Rules.{rules}
-use Rattle.read_calls.specs.declared.answer.Located.TheVariants as located
 use Rattle.read_calls.specs.Answers.{part_by}
 use Rattle.read_calls.specs.PartCases.{IsPart, is_part, no_part}
 use Rattle.read_calls.proofs.LocatedTags.{no_message}

@@ -6,7 +6,7 @@ use mathlib.Core.List.{List}
 use lib.ListN.{length, length-map}
 use lib.Dec.{T, eqb}
 use native.Mathlib.Omega.{arith}
-use borrow.Author.Tests.{not-true, not-false, eqb-true}
+use borrow.Author.Tests.{eqb-true}
 use Rattle.laws_order.specs.TestLaws.{not_eqb}
 use Rattle.set_table.specs.Table.{message_from, deltas_of, set_in}
 use Rattle.set_readiness.specs.Ready.{ready_in}
@@ -38,11 +38,10 @@ abbrev passed : tie.After-slice_known-in-loop-settled-2-1 invariant-loop decreas
 passed c = c.before.before.before.before.before
 
 loop-holds : tie.Need-loop-settled-init invariant-loop decreases-loop
-loop-holds c =
-    (
-      closing_none (set_in c.args.pool.now c.args.starts.now) c.requires.2 c.args.blocks.now c.args.order.now c.requires.0 c.requires.1,
-      λ e. let z : ◌≡◌ {A = ℕ} 0 1 = cc in absurd (let y : ⊥ = omega arith in y),
-    )
+loop-holds c = (
+  closing_none (set_in c.args.pool.now c.args.starts.now) c.requires.2 c.args.blocks.now c.args.order.now c.requires.0 c.requires.1,
+  λ e. let z : ◌≡◌ {A = ℕ} 0 1 = cc in absurd (let y : ⊥ = omega arith in y),
+)
 
 slice-aggregate-pass : tie.Need-slice_bounds-pass-end invariant-loop decreases-loop
 slice-aggregate-pass c = omega (arith, c.loop-settled.invariant.0.placing.marks.size)

@@ -4,7 +4,6 @@ use mathlib.Core.Path.{sym, ◌∙◌, ap}
 use lib.ListN.{length, set, length-map}
 use native.Mathlib.Omega.{arith}
 use borrow.Author.Rules.{rules}
-use borrow.Author.Tests.{not-true, not-false}
 use Rattle.set_table.specs.Table.{message_from, set_in}
 use Rattle.set_needs.specs.Rows.{RowFits}
 use Rattle.set_needs.specs.RowLaws.{rows_fit}
