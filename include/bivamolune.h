@@ -1,6 +1,6 @@
 /* One log for all stations of a furnace: the calls that a station's host makes. For C11 and C++17.
  *
- * Link with libbivamolune.a (`rt staticlib bivamolune`). The calls keep no state and allocate nothing; all state is in the
+ * Link with libbivamolune.a (`.ci/archive` makes it). The calls keep no state and allocate nothing; all state is in the
  * image, a buffer of the caller's. Every call is defined for every size and every content of its buffers.
  *
  * What is promised

@@ -10,10 +10,7 @@ const ARCHIVE: &str = "libbivamolune.a";
 fn main() {
     if env::var_os("CARGO_FEATURE_LINK").is_some() {
         let folder = library_folder();
-        require(
-            &folder,
-            "run `rt staticlib bivamolune`, or set BIVAMOLUNE_LIB_DIR",
-        );
+        require(&folder, "run `.ci/archive`, or set BIVAMOLUNE_LIB_DIR");
         link(&folder, "bivamolune");
         let archive = folder.join(ARCHIVE);
         println!("cargo:rustc-env=BIVAMOLUNE_ARCHIVE={}", archive.display());

@@ -1,10 +1,10 @@
 #!/usr/bin/env python3
 """Takes the end theorems out one at a time, in a copy of the repository, and asks who misses each.
 
-    rt check && tests/theorems_gone.py [NAME ...]
+    rt all check && tests/theorems_gone.py [NAME ...]
 
 For each public law of the files below it prints who misses it: `promises`, if the test of docs/PROMISES.md fails without it, and
-`proofs`, if `rt check claims` does (not asked of the claims themselves, on which nothing stands). Exits with 1 if nobody misses
+`proofs`, if `rt check` in crates/claims does (not asked of the claims themselves, on which nothing stands). Exits with 1 if nobody misses
 one. NAMEs are FILE or FILE.LAW; without any, all are tried, in some 20 minutes.
 """
 import re
@@ -20,7 +20,7 @@ FILES = [
     'theorems_refusals/specs/Refusals', 'theorems_calls/specs/Runs', 'theorems_calls/specs/Composes', 'theorems_host/specs/HostRuns',
     'theorems_host/specs/HostComposes', 'theorems_host/specs/HostReads', 'theorems_texts/specs/Texts', 'read_log/specs/Readings',
 ]
-LAW = re.compile(r'^( *)pub ([a-z][a-z-]*) : ')
+LAW = re.compile(r'^( *)pub ([a-z][a-z_]*) : ')
 
 
 def depth(line):
@@ -54,29 +54,21 @@ def fails(command, folder):
 
 
 def copied(scratch):
-    """A copy of the files, proved as the repository is."""
+    """A copy of the files. What rt has proved of the repository it takes over to the copy by itself."""
     listed = subprocess.run(['git', 'ls-files', '-co', '--exclude-standard'], cwd=ROOT, capture_output=True, text=True, check=True)
     for name in listed.stdout.split('\n'):
         if name and (ROOT / name).is_file():
             (scratch / name).parent.mkdir(parents=True, exist_ok=True)
             shutil.copy2(ROOT / name, scratch / name)
-    renew(scratch)
     if missed_by(scratch, True):
-        sys.exit('the copy fails as it is: run rt check first')
-
-
-def renew(scratch):
-    """What is proved is again what the repository has: without the law, other crates were."""
-    shutil.rmtree(scratch / 'target', ignore_errors=True)
-    subprocess.run(['cp', '-a', ROOT / 'target', scratch / 'target'], check=True)
+        sys.exit('the copy fails as it is')
 
 
 def missed_by(scratch, stood_on):
     promises = ['cargo', 'test', '--release', '--offline', '--quiet', '--test', 'promises']
     who = ['promises'] if fails(promises, scratch / 'tests') else []
     if stood_on:
-        who += ['proofs'] if fails(['rt', 'check', 'claims'], scratch) else []
-        renew(scratch)
+        who += ['proofs'] if fails(['rt', 'check'], scratch / 'crates' / 'claims') else []
     return who
 
 

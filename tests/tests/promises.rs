@@ -315,8 +315,8 @@ fn citations_in_vain_are_listed() {
                  \n\
                  | Definition | Law or contract |\n\
                  |---|---|\n\
-                 | `Run.Agreement .equal`, `Codes`, `lowestCode` | `deliver::delivery::deliver`, `deliver::answer` |\n\
-                 | `Run.Agreemen`, `Codes.Agreement`, `lowestCod` | `deliver::delivery::delive`, `.equa` |";
+                 | `Run.Agreement .equal`, `Codes`, `lowest_code` | `deliver::delivery::deliver`, `deliver::answer` |\n\
+                 | `Run.Agreemen`, `Codes.Agreement`, `lowest_cod` | `deliver::delivery::delive`, `.equa` |";
     let listed = [
         "line 3: tests/promises.rs is not there",
         "line 3: crates/model/must-fail/none.edit is not there",
@@ -327,7 +327,7 @@ fn citations_in_vain_are_listed() {
         "line 5: no file is named for no_file",
         "line 13: nothing is called Run.Agreemen",
         "line 13: nothing is called Codes.Agreement",
-        "line 13: nothing is called lowestCod",
+        "line 13: nothing is called lowest_cod",
         "line 13: nothing is called deliver::delivery::delive",
         "line 13: nothing is called .equa",
     ];

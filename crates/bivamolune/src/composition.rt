@@ -5,8 +5,7 @@ use bivamolune_packing::compositions::pack_composition;
 use compose::compose;
 
 // Composes a message, and answers code + 256 × length.
-#[unsafe(no_mangle)]
-pub extern "C" fn bivamolune_compose(
+pub fn bivamolune_compose(
     image: &[u8],
     line: &[u8],
     commands: &[u8],

@@ -1,5 +1,4 @@
-// The boundary to C: each function makes one call and packs its answer; `include/bivamolune.h` is beside it. Numbers and byte
-// slices alone cross it, a slice as a pointer and a length.
+// The calls as C has them: each function makes one call and packs its answer. `bivamolune_c` exports them.
 pub mod composition;
 pub mod reads;
 pub mod texts;
@@ -13,8 +12,7 @@ use empty::empty;
 use purge::purge;
 
 // Writes the image of no deltas, and answers the code.
-#[unsafe(no_mangle)]
-pub extern "C" fn bivamolune_empty(image: &mut [u8]) -> u32
+pub fn bivamolune_empty(image: &mut [u8]) -> u32
     ensures { Empties image.old result image.new }
 {
     let done = empty(image);
@@ -22,8 +20,7 @@ pub extern "C" fn bivamolune_empty(image: &mut [u8]) -> u32
 }
 
 // Delivers a message, and answers code + 256 × undos + 65536 × executions.
-#[unsafe(no_mangle)]
-pub extern "C" fn bivamolune_deliver(image: &mut [u8], message: &[u8], steps: &mut [u8]) -> u32
+pub fn bivamolune_deliver(image: &mut [u8], message: &[u8], steps: &mut [u8]) -> u32
     ensures { Delivers image.old message.now steps.old result image.new steps.new }
 {
     let delivered = deliver(image, message, steps);
@@ -31,8 +28,7 @@ pub extern "C" fn bivamolune_deliver(image: &mut [u8], message: &[u8], steps: &m
 }
 
 // Drops the first k log messages, and answers the code.
-#[unsafe(no_mangle)]
-pub extern "C" fn bivamolune_purge(image: &mut [u8], k: u32) -> u32
+pub fn bivamolune_purge(image: &mut [u8], k: u32) -> u32
     ensures { Purges image.old k result image.new }
 {
     let purged = purge(image, k as usize);

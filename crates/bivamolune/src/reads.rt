@@ -7,8 +7,7 @@ use read_calls::locating::locate;
 use read_calls::setpoint::setpoint;
 
 // Where the log's message at a place lies: code + 256 × size + 2^32 × offset.
-#[unsafe(no_mangle)]
-pub extern "C" fn bivamolune_log_message(image: &[u8], place: u32) -> u64
+pub fn bivamolune_log_message(image: &[u8], place: u32) -> u64
     ensures { AnswersLogMessage image.now place result }
 {
     let located = locate(image, place as usize);
@@ -21,8 +20,7 @@ pub extern "C" fn bivamolune_log_message(image: &[u8], place: u32) -> u64
 }
 
 // A tag's value: code + 2^32 × the value's word.
-#[unsafe(no_mangle)]
-pub extern "C" fn bivamolune_setpoint(image: &[u8], tag: u32) -> u64
+pub fn bivamolune_setpoint(image: &[u8], tag: u32) -> u64
     ensures { AnswersSetpoint image.now tag result }
 {
     let reading = setpoint(image, tag as usize);

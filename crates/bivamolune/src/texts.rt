@@ -6,8 +6,7 @@ use text_reading::read_sequences;
 use text_writing::write_sequences;
 
 // Reads the sequences of a text.
-#[unsafe(no_mangle)]
-pub extern "C" fn bivamolune_read_sequences(text: &[u8], sequences: &mut [u8]) -> u32
+pub fn bivamolune_read_sequences(text: &[u8], sequences: &mut [u8]) -> u32
     ensures { ReadsSequences text.now sequences.old result sequences.new }
 {
     let read = read_sequences(text, sequences);
@@ -15,8 +14,7 @@ pub extern "C" fn bivamolune_read_sequences(text: &[u8], sequences: &mut [u8]) -
 }
 
 // Writes the text of sequences.
-#[unsafe(no_mangle)]
-pub extern "C" fn bivamolune_write_sequences(sequences: &[u8], text: &mut [u8]) -> u32
+pub fn bivamolune_write_sequences(sequences: &[u8], text: &mut [u8]) -> u32
     ensures { WritesSequences sequences.now text.old result text.new }
 {
     let written = write_sequences(sequences, text);

@@ -22,8 +22,8 @@ const SIGPIPE: i32 = 13;
 /// How long a program may take to end.
 const LIMIT: Duration = Duration::from_secs(20);
 
-/// Where the proved programs are built, seen from this package.
-const BUILT: &str = "../target/bin";
+/// Where the crates are, seen from this package. A proved program is in its crate's folder `out`.
+const CRATES: &str = "../crates";
 
 /// A program by its path, and the words behind it.
 #[derive(Clone, Debug)]
@@ -47,13 +47,15 @@ pub fn proved(name: &str) -> Program {
     let variable = format!("BIVAMOLUNE_{}", name.to_uppercase());
     let built = || {
         PathBuf::from(env!("CARGO_MANIFEST_DIR"))
-            .join(BUILT)
+            .join(CRATES)
+            .join(name)
+            .join("out")
             .join(name)
     };
     let path = std::env::var_os(&variable).map_or_else(built, PathBuf::from);
     assert!(
         path.is_file(),
-        "{} is missing: run `rt check {name}`, or set {variable}",
+        "{} is missing: run `rt ci`, or `rt run` in crates/{name}, or set {variable}",
         path.display()
     );
     Program::at(path)

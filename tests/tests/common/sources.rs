@@ -31,12 +31,12 @@ fn is_named(file: &Path, stem: &str) -> bool {
     file.file_stem().map_or(false, |is| is == stem)
 }
 
-/// Every file of a kind below a folder.
+/// Every file of a kind below a folder, but for what rt has made in a crate's `out`.
 fn files_below(folder: &Path, ending: &str) -> Vec<PathBuf> {
     let mut files = Vec::new();
     for entry in fs::read_dir(folder).into_iter().flatten().flatten() {
         let path = entry.path();
-        if path.is_dir() {
+        if path.is_dir() && !path.ends_with("out") {
             files.extend(files_below(&path, ending));
         } else if path.extension().map_or(false, |is| is == ending) {
             files.push(path);
@@ -69,7 +69,7 @@ fn declares(line: &str, name: &str) -> bool {
         }
         rest = behind;
     }
-    let ended = |c: char| !c.is_alphanumeric() && !"_-\u{b7}\u{2032}".contains(c);
+    let ended = |c: char| !c.is_alphanumeric() && !"_-\u{b7}\u{2032}'".contains(c);
     rest.strip_prefix(name)
         .map_or(false, |behind| behind.chars().next().map_or(true, ended))
 }
