@@ -2,35 +2,40 @@
 // where a read fails, the listing is that of the bytes before it, and standard error says why.
 #![tactic(auto)]
 
-use libc::STDOUT_FILENO;
 use listing_whole::limits::{INPUT_LIMIT, LISTING_ROOM};
 use listing_whole::walking::list;
 use program_input::answer::Input;
 use program_input::{drop_rest, read_input};
+use std::process::ExitCode;
 
-// Writes the listing of an input to standard output.
-fn print_listing(input: &[u8]) {
+// Writes the listing of an input to standard output. Where that fails, standard error says why, and the status tells it.
+fn print_listing(rt: &(impl Print + Eprint), input: &[u8]) -> ExitCode {
     let mut out = [0u8; LISTING_ROOM];
     let n = list(input, &mut out);
-    let is_written = io::write_all(STDOUT_FILENO, &out[..n]);
-    if !is_written {
-        os::fail(b"standard output");
-    }
+    let Err(error) = rt.write_all(&out[..n]) else {
+        return ExitCode::SUCCESS;
+    };
+    let _ = eprintln!(rt; "standard output: {error}");
+    ExitCode::FAILURE
 }
 
-fn main() {
+fn main(rt: HostRuntime) -> ExitCode {
+    let mut stdin = rt.stdin();
     let mut buf = [0u8; INPUT_LIMIT];
-    let input = read_input(&mut buf);
+    let mut why = None;
+    let input = read_input(&mut stdin, &mut buf, &mut why);
     match input {
         Input::Bytes(n) => {
-            print_listing(&buf[..n]);
+            let status = print_listing(&rt, &buf[..n]);
             if n == INPUT_LIMIT {
-                drop_rest();
+                drop_rest(&mut stdin);
             }
+            status
         }
         Input::Failed(n) => {
-            os::fail(b"standard input");
-            print_listing(&buf[..n]);
+            let error = why.unwrap();
+            let _ = eprintln!(rt; "standard input: {error}");
+            print_listing(&rt, &buf[..n])
         }
     }
 }

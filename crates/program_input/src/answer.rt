@@ -1,9 +1,13 @@
-// What an answer of read says. That read gave it no contract can say: the kit's contracts bound what is answered, and record nothing.
+// What an answer of read says, and errno of the error that a read fails by.
 ghost use Rattle.std.specs.Prelude.{◌+◌, ◌<◌, ◌≡◌};
 ghost use Rattle.std.specs.Int.Signed.{mag};
 ghost use Rattle.program_input.specs.Reading.{reading_after, goes_on};
+ghost use Rattle.program_input.specs.Failing.{errno_of, errno_of_kind};
 
-use libc::EINTR;
+use std::io::{Error, ErrorKind};
+
+// errno of a call that a signal interrupted.
+pub const EINTR: i32 = 4;
 
 // What all reads brought: how many bytes, and whether they are all that was to be read, or a read behind them failed.
 #[derive(Clone, Copy)]
@@ -43,5 +47,24 @@ pub fn goes_on(reading: Reading) -> bool
     match reading {
         Reading::Going(_) => true,
         Reading::Over(_) => false,
+    }
+}
+
+// errno of an error. One that the system did not number is told by its kind.
+pub fn errno_of(error: &Error) -> i32
+    ensures { result ≡ errno_of error.now }
+{
+    match error.raw_os_error() {
+        Some(code) => code,
+        None => errno_of_kind(error.kind()),
+    }
+}
+
+fn errno_of_kind(kind: ErrorKind) -> i32
+    ensures { result ≡ errno_of_kind kind }
+{
+    match kind {
+        ErrorKind::Interrupted => EINTR,
+        _ => 0,
     }
 }

@@ -1,50 +1,56 @@
 // The program `sequences` for the service laptop: standard input read, the other form written.
 #![tactic(auto)]
 
-use libc::{STDERR_FILENO, STDOUT_FILENO};
 use program_input::answer::Input;
 use program_input::{drop_rest, read_input};
 use sequences_forms::{OUTPUT_ROOM, convert};
+use std::process::ExitCode;
 use text_checks::answer::Conversion;
 
 // More than either form has: an input that fills it is refused.
 const INPUT_ROOM: usize = 256;
 
-// Writes to standard output.
-fn print(bytes: &[u8]) {
-    let is_written = io::write_all(STDOUT_FILENO, bytes);
-    if !is_written {
-        os::fail(b"standard output");
-    }
+// Writes to standard output. Where that fails, standard error says why, and the status tells it.
+fn print(rt: &(impl Print + Eprint), bytes: &[u8]) -> ExitCode {
+    let Err(error) = rt.write_all(bytes) else {
+        return ExitCode::SUCCESS;
+    };
+    let _ = eprintln!(rt; "standard output: {error}");
+    ExitCode::FAILURE
 }
 
 // Tells a refusal on standard error.
-fn refuse(line: &[u8]) {
-    io::write_all(STDERR_FILENO, line);
+fn refuse(rt: &impl Eprint, code: u32) -> ExitCode {
+    let _ = eprintln!(rt; "refused: {code}");
+    ExitCode::SUCCESS
 }
 
 // Prints the other form of an input, or the code that refuses it.
-fn print_other(input: &[u8]) {
+fn print_other(rt: &(impl Print + Eprint), input: &[u8]) -> ExitCode {
     let mut out = [0u8; OUTPUT_ROOM];
     let answer = convert(input, &mut out);
     match answer {
-        Conversion::Written(n) => print(&out[..n]),
+        Conversion::Written(n) => print(rt, &out[..n]),
         // the output is large enough
-        Conversion::WrongSize => refuse(b"refused: 1\n"),
-        Conversion::WrongForm => refuse(b"refused: 13\n"),
-        Conversion::ZeroNumber => refuse(b"refused: 14\n"),
+        Conversion::WrongSize => refuse(rt, 1),
+        Conversion::WrongForm => refuse(rt, 13),
+        Conversion::ZeroNumber => refuse(rt, 14),
     }
 }
 
-fn main() {
+fn main(rt: HostRuntime) -> ExitCode {
+    let mut stdin = rt.stdin();
     let mut buf = [0u8; INPUT_ROOM];
-    let input = read_input(&mut buf);
+    let mut why = None;
+    let input = read_input(&mut stdin, &mut buf, &mut why);
     let Input::Bytes(n) = input else {
-        os::fail(b"standard input");
-        return;
+        let error = why.unwrap();
+        let _ = eprintln!(rt; "standard input: {error}");
+        return ExitCode::SUCCESS;
     };
-    print_other(&buf[..n]);
+    let status = print_other(&rt, &buf[..n]);
     if n == INPUT_ROOM {
-        drop_rest();
+        drop_rest(&mut stdin);
     }
+    status
 }

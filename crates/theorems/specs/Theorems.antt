@@ -37,7 +37,8 @@ use Rattle.laws_run.specs.RunLaws.{agreement}
 use Rattle.laws_run.specs.OrderRuns.{image_in_order, order_kept}
 use Rattle.laws_text.specs.AnswerLaws.{read_code, read_refused, write_code, write_refused}
 use Rattle.laws_text.specs.RoundTrips as trips
-use Rattle.laws_compose.specs.ComposePromise.{ComposePromise, promise_of}
+use Rattle.laws_compose.specs.ComposePromise.{ComposePromise}
+use Rattle.laws_compose.proofs.PromiseKept.{promise_of}
 
 -- 1. The computed log is the declared one and the only one. A received delta is in it exactly if it is executable, and so
 -- exactly if all it needs above the floors, step by step back, was received and contains no ring; held are the others, by ascending

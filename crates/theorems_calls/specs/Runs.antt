@@ -2,7 +2,7 @@
 -- own postconditions.
 use Rattle.std.specs.Prelude.{◌≡◌, List, ℕ}
 use Rattle.std.proofs.Common.{sym, ◌∙◌, ap, ap₂}
-use Rattle.std.specs.Borrow.{Bor}
+use Rattle.std.specs.Borrow.{Bor, MutBor}
 use contract.Lifetimes.{Lfts}
 use Rattle.model.specs.Message.{Message}
 use Rattle.model.specs.Calls.{Emptied, empty, Delivered, deliver, Purged, purge}
@@ -22,8 +22,8 @@ use Rattle.purge.proofs.purge.Reads as purge_reads
 -- A call of `empty` on this buffer, and what it answered and left.
 pub record EmptiedFrom (buffer : List ℕ) (a : Emptied) : Type 0 where
   pub lifetimes : Lfts 1
-  pub entry : Bor (List ℕ)
-  pub exit : Bor (List ℕ)
+  pub entry : MutBor (List ℕ)
+  pub exit : MutBor (List ℕ)
   pub result : Emptying
   pub post : empty_reads.Post lifetimes (entry, tt) result (exit, tt)
   pub lent : buffer ≡ entry.now
@@ -32,11 +32,11 @@ pub record EmptiedFrom (buffer : List ℕ) (a : Emptied) : Type 0 where
 -- A call of `deliver` on the image b, with this message and step buffer, and what it answered and left.
 pub record DeliveredTo (b : List ℕ) (m : Message) (steps : List ℕ) (a : Delivered) : Type 0 where
   pub lifetimes : Lfts 3
-  pub image_entry : Bor (List ℕ)
-  pub image_exit : Bor (List ℕ)
+  pub image_entry : MutBor (List ℕ)
+  pub image_exit : MutBor (List ℕ)
   pub message : Bor (List ℕ)
-  pub steps_entry : Bor (List ℕ)
-  pub steps_exit : Bor (List ℕ)
+  pub steps_entry : MutBor (List ℕ)
+  pub steps_exit : MutBor (List ℕ)
   pub result : Delivery
   pub post : deliver_reads.Post lifetimes (image_entry, (message, (steps_entry, tt))) result (image_exit, (message, (steps_exit, tt)))
   pub image : b ≡ image_entry.now
@@ -47,8 +47,8 @@ pub record DeliveredTo (b : List ℕ) (m : Message) (steps : List ℕ) (a : Deli
 -- A call of `purge` on the image b with this K, and what it answered and left.
 pub record PurgedFrom (b : List ℕ) (K : ℕ) (a : Purged) : Type 0 where
   pub lifetimes : Lfts 1
-  pub entry : Bor (List ℕ)
-  pub exit : Bor (List ℕ)
+  pub entry : MutBor (List ℕ)
+  pub exit : MutBor (List ℕ)
   pub result : Purging
   pub post : purge_reads.Post lifetimes (entry, (K, tt)) result (exit, (K, tt))
   pub lent : b ≡ entry.now

@@ -2,10 +2,11 @@
 -- `bivamolune_deliver`, with code and length as the header takes them out of the answered number.
 use Rattle.std.specs.Prelude.{◌≡◌, List, ℕ}
 use Rattle.std.proofs.Common.{sym, ◌∙◌, ap₂}
-use Rattle.std.specs.Borrow.{Bor}
+use Rattle.std.specs.Borrow.{Bor, MutBor}
 use contract.Lifetimes.{Lfts}
 use Rattle.model.specs.Calls.{Composed, compose}
-use Rattle.laws_compose.specs.ComposePromise.{ComposePromise, promise_of}
+use Rattle.laws_compose.specs.ComposePromise.{ComposePromise}
+use Rattle.laws_compose.proofs.PromiseKept.{promise_of}
 use Rattle.bivamolune_packing.specs.Packing.{code_in, length_in}
 use Rattle.bivamolune_packing.specs.ComposeAnswers.{Composes}
 use Rattle.bivamolune.proofs.composition.bivamolune_compose.Reads as compose_reads
@@ -22,8 +23,8 @@ pub record HostComposed (b line commands : List ℕ) (flag priority : ℕ) (buff
   pub image : Bor (List ℕ)
   pub line_lent : Bor (List ℕ)
   pub commands_lent : Bor (List ℕ)
-  pub message_entry : Bor (List ℕ)
-  pub message_exit : Bor (List ℕ)
+  pub message_entry : MutBor (List ℕ)
+  pub message_exit : MutBor (List ℕ)
   pub number : ℕ
   pub post : compose_reads.Post lifetimes (image, (line_lent, (commands_lent, (flag, (priority, (message_entry, tt)))))) number (image, (line_lent, (commands_lent, (flag, (priority, (message_exit, tt))))))
   pub on : b ≡ image.now

@@ -2,7 +2,7 @@
 -- offset and value as the header takes them out of the answered number.
 use Rattle.std.specs.Prelude.{◌≡◌, List, ℕ, take, drop}
 use Rattle.std.proofs.Common.{sym, ◌∙◌, ap, ap₂}
-use Rattle.std.specs.Borrow.{Bor}
+use Rattle.std.specs.Borrow.{Bor, MutBor}
 use contract.Lifetimes.{Lfts}
 use Rattle.model.specs.Calls.{log_message_code, log_message, Setpoint, setpoint, Converted, read_sequences, write_sequences}
 use Rattle.bivamolune_packing.specs.Packing.{code_in, length_in}
@@ -59,8 +59,8 @@ converted_with number buffer = record { code = code_in number; size = length_in 
 pub record HostRead (t entry : List ℕ) (a : Converted) : Type 0 where
   pub lifetimes : Lfts 2
   pub text : Bor (List ℕ)
-  pub sequences_entry : Bor (List ℕ)
-  pub sequences_exit : Bor (List ℕ)
+  pub sequences_entry : MutBor (List ℕ)
+  pub sequences_exit : MutBor (List ℕ)
   pub number : ℕ
   pub post : read_reads.Post lifetimes (text, (sequences_entry, tt)) number (text, (sequences_exit, tt))
   pub of : t ≡ text.now
@@ -71,8 +71,8 @@ pub record HostRead (t entry : List ℕ) (a : Converted) : Type 0 where
 pub record HostWritten (b entry : List ℕ) (a : Converted) : Type 0 where
   pub lifetimes : Lfts 2
   pub sequences : Bor (List ℕ)
-  pub text_entry : Bor (List ℕ)
-  pub text_exit : Bor (List ℕ)
+  pub text_entry : MutBor (List ℕ)
+  pub text_exit : MutBor (List ℕ)
   pub number : ℕ
   pub post : write_reads.Post lifetimes (sequences, (text_entry, tt)) number (sequences, (text_exit, tt))
   pub of : b ≡ sequences.now

@@ -2,7 +2,7 @@
 -- `bivamolune_purge` were proved to leave behind, their own postconditions, with code and counts as the header takes them out of the answered number.
 use Rattle.std.specs.Prelude.{◌≡◌, List, ℕ}
 use Rattle.std.proofs.Common.{sym, ◌∙◌, ap, ap₂}
-use Rattle.std.specs.Borrow.{Bor}
+use Rattle.std.specs.Borrow.{Bor, MutBor}
 use contract.Lifetimes.{Lfts}
 use Rattle.model.specs.Message.{Message}
 use Rattle.model.specs.Calls.{Emptied, empty, Delivered, deliver, Purged, purge}
@@ -33,8 +33,8 @@ purged_with number image = record { code = number; image = image }
 -- A call of `bivamolune_empty` on this buffer, and what it answered and left.
 pub record HostEmptied (buffer : List ℕ) (a : Emptied) : Type 0 where
   pub lifetimes : Lfts 1
-  pub entry : Bor (List ℕ)
-  pub exit : Bor (List ℕ)
+  pub entry : MutBor (List ℕ)
+  pub exit : MutBor (List ℕ)
   pub number : ℕ
   pub post : empty_reads.Post lifetimes (entry, tt) number (exit, tt)
   pub lent : buffer ≡ entry.now
@@ -43,11 +43,11 @@ pub record HostEmptied (buffer : List ℕ) (a : Emptied) : Type 0 where
 -- A call of `bivamolune_deliver` on the image b, with this message and step buffer, and what it answered and left.
 pub record HostDelivered (b : List ℕ) (m : Message) (steps : List ℕ) (a : Delivered) : Type 0 where
   pub lifetimes : Lfts 3
-  pub image_entry : Bor (List ℕ)
-  pub image_exit : Bor (List ℕ)
+  pub image_entry : MutBor (List ℕ)
+  pub image_exit : MutBor (List ℕ)
   pub message : Bor (List ℕ)
-  pub steps_entry : Bor (List ℕ)
-  pub steps_exit : Bor (List ℕ)
+  pub steps_entry : MutBor (List ℕ)
+  pub steps_exit : MutBor (List ℕ)
   pub number : ℕ
   pub post : deliver_reads.Post lifetimes (image_entry, (message, (steps_entry, tt))) number (image_exit, (message, (steps_exit, tt)))
   pub image : b ≡ image_entry.now
@@ -58,8 +58,8 @@ pub record HostDelivered (b : List ℕ) (m : Message) (steps : List ℕ) (a : De
 -- A call of `bivamolune_purge` on the image b with this K, and what it answered and left.
 pub record HostPurged (b : List ℕ) (K : ℕ) (a : Purged) : Type 0 where
   pub lifetimes : Lfts 1
-  pub entry : Bor (List ℕ)
-  pub exit : Bor (List ℕ)
+  pub entry : MutBor (List ℕ)
+  pub exit : MutBor (List ℕ)
   pub number : ℕ
   pub post : purge_reads.Post lifetimes (entry, (K, tt)) number (exit, (K, tt))
   pub lent : b ≡ entry.now

@@ -2,7 +2,7 @@
 -- postconditions: each gives back what the other was given.
 use Rattle.std.specs.Prelude.{◌≡◌, List, ℕ, ◌≤◌, length}
 use Rattle.std.proofs.Common.{sym, ◌∙◌, ap, ap₂}
-use Rattle.std.specs.Borrow.{Bor}
+use Rattle.std.specs.Borrow.{Bor, MutBor}
 use contract.Lifetimes.{Lfts}
 use Rattle.model.specs.Layout.{sequences_room, text_room}
 use Rattle.model.specs.Calls.{Converted, converted_answer, front, read_sequences, write_sequences}
@@ -16,8 +16,8 @@ use Rattle.text_writing.proofs.write_sequences.Reads as write_reads
 pub record ReadFrom (t entry : List ℕ) (a : Converted) : Type 0 where
   pub lifetimes : Lfts 2
   pub text : Bor (List ℕ)
-  pub sequences_entry : Bor (List ℕ)
-  pub sequences_exit : Bor (List ℕ)
+  pub sequences_entry : MutBor (List ℕ)
+  pub sequences_exit : MutBor (List ℕ)
   pub result : Conversion
   pub post : read_reads.Post lifetimes (text, (sequences_entry, tt)) result (text, (sequences_exit, tt))
   pub of : t ≡ text.now
@@ -28,8 +28,8 @@ pub record ReadFrom (t entry : List ℕ) (a : Converted) : Type 0 where
 pub record WrittenFrom (b entry : List ℕ) (a : Converted) : Type 0 where
   pub lifetimes : Lfts 2
   pub sequences : Bor (List ℕ)
-  pub text_entry : Bor (List ℕ)
-  pub text_exit : Bor (List ℕ)
+  pub text_entry : MutBor (List ℕ)
+  pub text_exit : MutBor (List ℕ)
   pub result : Conversion
   pub post : write_reads.Post lifetimes (sequences, (text_entry, tt)) result (sequences, (text_exit, tt))
   pub of : b ≡ sequences.now

@@ -5,13 +5,12 @@ use Rattle.bivamolune.proofs.bivamolune_purge.Statement.{statement}
 use Rattle.bivamolune.proofs.bivamolune_purge.Tie as tie
 
 -- where the call began, from where the image is purged
-abbrev began : tie.After-purge → tie.Start
+abbrev began : tie.After-purge-purged → tie.Start
 began c = c.before.before.before
 
 returns : tie.Need-returns
 returns c =
-    let e = c.before.before.before in
-    purges (began e).args.image.now (began e).args.k e.purge.result c.pack-purging.result _ e.purge.ensures c.pack-purging.ensures
+    purges (began c.before.before.before).args.image.now (began c.before.before.before).args.k c.purge-purged.result c.pack_purging.result _ c.purge-purged.ensures c.pack_purging.ensures
 
 pub bivamolune_purge_spec : {M : Type 1} → statement M
 bivamolune_purge_spec = tie.close (tie.spec (λ c κs. search rules) (λ c κs. search rules) (λ c. search rules) returns)

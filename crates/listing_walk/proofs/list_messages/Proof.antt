@@ -11,109 +11,101 @@ use Rattle.listing_walk.specs.WalkLaws.{rest_is, walk_begin, walk_on, walk_wrong
 use Rattle.listing_walk.proofs.list_messages.Statement.{statement}
 use Rattle.listing_walk.proofs.list_messages.Tie as tie
 
-abbrev invariant-loop : tie.invariant-loop
+abbrev invariant-loop : tie.invariant-loop-from
 invariant-loop input image₀ out₀ number₀ from₀ at₀ image out number from at = Walked input image₀ out₀ image out number from at
 
-abbrev decreases-loop : tie.decreases-loop
+abbrev decreases-loop : tie.decreases-loop-from
 decreases-loop input image₀ out₀ number₀ from₀ at₀ image out number from at = length input - from
 
 -- the call as it began; the head of the loop, from where the cut is read
-abbrev start : tie.At-loop invariant-loop decreases-loop → tie.Start invariant-loop decreases-loop
+abbrev start : tie.At-loop-from invariant-loop decreases-loop → tie.Start invariant-loop decreases-loop
 start h = h.before.before.before.before
 
-abbrev turn : tie.After-read-cut invariant-loop decreases-loop → tie.At-loop invariant-loop decreases-loop
+abbrev turn : tie.After-read_cut-cut invariant-loop decreases-loop → tie.At-loop-from invariant-loop decreases-loop
 turn c = c.before.before.before
 
 -- the rest of the input at the head of the loop
-abbrev rest : tie.At-loop invariant-loop decreases-loop → List ℕ
-rest h = drop h.loop.from (start h).args.input.now
+abbrev rest : tie.At-loop-from invariant-loop decreases-loop → List ℕ
+rest h = drop h.loop-from.from (start h).args.input.now
 
-cut_of : (c : tie.After-read-cut invariant-loop decreases-loop) → IsCut (rest (turn c)) c.read-cut.result
-cut_of c = subst (λ (l : List ℕ). IsCut l c.read-cut.result) (rest_is (start (turn c)).args.input.now (turn c).loop.from) c.read-cut.ensures
+cut_of : (c : tie.After-read_cut-cut invariant-loop decreases-loop) → IsCut (rest (turn c)) c.read_cut-cut.result
+cut_of c = subst (λ (l : List ℕ). IsCut l c.read_cut-cut.result) (rest_is (start (turn c)).args.input.now (turn c).loop-from.from) c.read_cut-cut.ensures
 
-right_cut : (c : tie.After-cut invariant-loop decreases-loop) → RightCut (rest (turn c.before.before)) c.cut.given.0.0
-right_cut c = subst (IsCut (rest (turn c.before.before))) c.cut.given.1 (cut_of c.before.before)
+right_cut : (c : tie.In-Message invariant-loop decreases-loop) → RightCut (rest (turn c.before)) c.in-Message.size
+right_cut c = subst (IsCut (rest (turn c.before))) c.in-Message.is (cut_of c.before)
 
 -- the message ends within the input
-ends : (c : tie.After-cut invariant-loop decreases-loop) → (turn c.before.before).loop.from + c.cut.given.0.0 ≤ length (start (turn c.before.before)).args.input.now
+ends : (c : tie.In-Message invariant-loop decreases-loop) → (turn c.before).loop-from.from + c.in-Message.size ≤ length (start (turn c.before)).args.input.now
 ends c =
-    let h = turn c.before.before in
-    omega (arith, (right_cut c).inside, length-drop h.loop.from (start h).args.input.now, h.loop.inv.inside)
+    let h = turn c.before in
+    omega (arith, (right_cut c).inside, length-drop h.loop-from.from (start h).args.input.now, h.loop-from.invariant.inside)
 
 -- where the cut was read, from where its message is listed
-abbrev cut-before : tie.After-slice-known5 invariant-loop decreases-loop → tie.After-cut invariant-loop decreases-loop
-cut-before c = c.before.before.before.before.before.before.before.before.before
+abbrev cut-before : tie.After-slice_known-in-loop-from-2-1 invariant-loop decreases-loop → tie.In-Message invariant-loop decreases-loop
+cut-before c = c.before.before.before.before.before.before.before.before
 
-loop-holds : tie.Need-loop-init invariant-loop decreases-loop
-loop-holds c = walk_begin c.before.before.before.args.input.now c.before.before.before.args.image.now c.before.before.before.args.out.now c.before.before.before.requires.0 c.before.before.before.requires.1
+loop-holds : tie.Need-loop-from-init invariant-loop decreases-loop
+loop-holds c = walk_begin c.args.input.now c.args.image.now c.args.out.now c.requires.0 c.requires.1
 
-put-wrong-cut-requires : tie.Need-put-wrong-cut-requires invariant-loop decreases-loop
+put-wrong-cut-requires : tie.Need-put_wrong_cut-requires invariant-loop decreases-loop
 put-wrong-cut-requires c κs =
-    let w = (turn c.before.before.before.before).loop.inv in
+    let w = (turn c.before.before).loop-from.invariant in
     (omega (arith, w.room), w.image_size_lem)
 
-same_length : tie.Need-same-length invariant-loop decreases-loop
-same_length c = (turn c.before.before.before.before.before.before.before).loop.inv.image_size_lem ∙ sym (start (turn c.before.before.before.before.before.before.before)).pre.0
+same_length : tie.Need-shape_of-image-in_default invariant-loop decreases-loop
+same_length c = (turn c.before.before.before.before.before).loop-from.invariant.image_size_lem ∙ sym (start (turn c.before.before.before.before.before)).requires.0
 
-same-length-2 : tie.Need-same-length-2 invariant-loop decreases-loop
+same-length-2 : tie.Need-shape_of-out-in_default invariant-loop decreases-loop
 same-length-2 c =
-    let put = c.before.before in
-    put.put-wrong-cut.auto.0 ∙ (turn put.before.before.before.before.before).loop.inv.out_size
+    c.put_wrong_cut.auto.out ∙ (turn c.before.before.before.before.before).loop-from.invariant.out_size
 
-returns : tie.Need-returns invariant-loop decreases-loop
+returns : tie.Need-returns-in_default invariant-loop decreases-loop
 returns c =
-    let put = c.before.before in
-    let told = put.before.before.before in
-    let h = turn told.before.before in
-    walk_wrong h.loop.inv told.before.before.before.before.loop-test.true
-    (subst (IsCut (rest h)) told.enum_told.given.1 (cut_of told.before.before))
-    put.put-wrong-cut.ensures
+    let h = turn c.before.before.before.before.before in
+    walk_wrong h.loop-from.invariant c.loop-from-test.true
+    (subst (IsCut (rest h)) c.in_default.is (cut_of c.before.before.before.before.before))
+    c.put_wrong_cut.ensures
 
-add-end : tie.Need-overflow-add-end invariant-loop decreases-loop
-add-end c = omega (arith, ends c.before, (start (turn c.before.before.before)).good.0.0)
+add-end : tie.Need-overflow_add-end invariant-loop decreases-loop
+add-end c = omega (arith, ends c, (start (turn c.before)).well_formed.0.0)
 
-part-list-message-end : tie.Need-slice-bounds-list-message-end invariant-loop decreases-loop
-part-list-message-end c = omega (arith, ends c.before.before)
+part-list-message-end : tie.Need-slice_bounds-list_message-end invariant-loop decreases-loop
+part-list-message-end c = omega (arith, ends c.before)
 
-list-message-requires : tie.Need-list-message-requires invariant-loop decreases-loop
-list-message-requires c κs = omega (arith, (turn c.before.before.before.before.before.before).loop.inv.room)
+list-message-requires : tie.Need-list_message-at-requires invariant-loop decreases-loop
+list-message-requires c κs = omega (arith, (turn c.before.before.before.before).loop-from.invariant.room)
 
-add-number : tie.Need-overflow-add-number invariant-loop decreases-loop
+add-number : tie.Need-overflow_add-number invariant-loop decreases-loop
 add-number c =
-    let h = turn (cut-before c).before.before in
-    omega (arith, h.loop.inv.counted, (start h).good.0)
+    let h = turn (cut-before c).before in
+    omega (arith, h.loop-from.invariant.counted, (start h).well_formed.0)
 
-loop-less : tie.Need-loop-smaller invariant-loop decreases-loop
+loop-less : tie.Need-loop-from-smaller invariant-loop decreases-loop
 loop-less c = omega (arith, ends (cut-before c), (right_cut (cut-before c)).short)
 
-loop-again : tie.Need-loop-preserved invariant-loop decreases-loop
+loop-again : tie.Need-loop-from-preserved invariant-loop decreases-loop
 loop-again c =
-    let listed = c.before.before.before.before in
     let cut = cut-before c in
-    let h = turn cut.before.before in
-    walk_on h.loop.inv cut.before.before.before.before.loop-test.taken (right_cut cut)
-    listed.list-message.ensures listed.list-message.auto.0 listed.list-message.auto.1.1.0
+    let h = turn cut.before in
+    walk_on h.loop-from.invariant cut.loop-from-test.true (right_cut cut)
+    c.list_message-at.ensures c.list_message-at.auto.image c.list_message-at.auto.out
 
-put-last-requires : tie.Need-put-last-requires invariant-loop decreases-loop
+put-last-requires : tie.Need-put_last-requires invariant-loop decreases-loop
 put-last-requires c κs =
-    let w = c.before.before.before.loop.invariant in
+    let w = c.loop-from.invariant in
     (omega (arith, w.room), w.image_size_lem)
 
-same-length-3 : tie.Need-same-length-3 invariant-loop decreases-loop
+same-length-3 : tie.Need-shape_of-image invariant-loop decreases-loop
 same-length-3 c =
-    let h = c.before.before.before.before.before.before in
-    h.loop.invariant.image_size_lem ∙ sym (start h).requires.0
+    c.loop-from.invariant.image_size_lem ∙ sym (start c.before.before.before.before.before).requires.0
 
-same-length-4 : tie.Need-same-length-4 invariant-loop decreases-loop
+same-length-4 : tie.Need-shape_of-out invariant-loop decreases-loop
 same-length-4 c =
-    let put = c.before.before in
-    put.put_last.auto.0 ∙ put.before.before.before.before.loop.invariant.out_size
+    c.put_last.auto.out ∙ c.loop-from.invariant.out_size
 
-returns-2 : tie.Need-returns-2 invariant-loop decreases-loop
+returns-2 : tie.Need-returns invariant-loop decreases-loop
 returns-2 c =
-    let put = c.before.before in
-    let left = put.before.before.before in
-    walk_end left.before.loop.invariant left.loop-test.false put.put_last.ensures
+    walk_end c.loop-from.invariant c.loop-from-test.false c.put_last.ensures
 
 pub list_messages_spec : {M : Type 1} → statement M
 list_messages_spec =

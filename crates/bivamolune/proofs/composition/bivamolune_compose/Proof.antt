@@ -5,20 +5,18 @@ use Rattle.bivamolune.proofs.composition.bivamolune_compose.Statement.{statement
 use Rattle.bivamolune.proofs.composition.bivamolune_compose.Tie as tie
 
 -- where the call began, from where it is composed; and that from where the answer is packed
-abbrev began : tie.After-compose → tie.Start
+abbrev began : tie.After-compose-composed → tie.Start
 began c = c.before.before.before.before.before.before
 
-pack-composition-requires : tie.Need-pack-composition-requires
+pack-composition-requires : tie.Need-pack_composition-requires
 pack-composition-requires c κs =
-    let d = c.before.before in
-    let a = (began d).args in
-    short a.image.now a.line.now a.commands.now a.priority-flag a.priority a.message.now d.compose.result _ d.compose.ensures
+    let a = (began c.before.before).args in
+    short a.image.now a.line.now a.commands.now a.priority_flag a.priority a.message.now c.compose-composed.result _ c.compose-composed.ensures
 
 returns : tie.Need-returns
 returns c =
-    let d = c.before.before.before in
-    let a = (began d).args in
-    composes a.image.now a.line.now a.commands.now a.priority-flag a.priority a.message.now d.compose.result _ d.compose.ensures c.pack-composition.result c.pack-composition.ensures
+    let a = (began c.before.before.before).args in
+    composes a.image.now a.line.now a.commands.now a.priority_flag a.priority a.message.now c.compose-composed.result _ c.compose-composed.ensures c.pack_composition.result c.pack_composition.ensures
 
 pub bivamolune_compose_spec : {M : Type 1} → statement M
 bivamolune_compose_spec =

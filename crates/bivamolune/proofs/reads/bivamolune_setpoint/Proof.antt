@@ -14,33 +14,31 @@ use Rattle.bivamolune.proofs.reads.bivamolune_setpoint.Statement.{statement}
 use Rattle.bivamolune.proofs.reads.bivamolune_setpoint.Tie as tie
 
 -- where the call began, from where the value is read
-abbrev began : tie.After-setpoint → tie.Start
+abbrev began : tie.After-setpoint-reading → tie.Start
 began c = c.before.before
 
 -- the number of a case
-answers : (c : tie.After-setpoint) (d : Reading) → c.setpoint.result ≡ d → (r : ℕ) → r ≡ value_number (setpoint_by d).code (setpoint_by d).value
+answers : (c : tie.After-setpoint-reading) (d : Reading) → c.setpoint-reading.result ≡ d → (r : ℕ) → r ≡ value_number (setpoint_by d).code (setpoint_by d).value
     → let a = (began c).args in AnswersSetpoint a.image.now a.tag r
 answers c d e r f =
     let a = (began c).args in
-    answers_setpoint a.image.now a.tag d (ap setpoint_by (sym e) ∙ c.setpoint.ensures) r f
+    answers_setpoint a.image.now a.tag d (ap setpoint_by (sym e) ∙ c.setpoint-reading.ensures) r f
 
-returns : tie.Need-returns
+returns : tie.Need-returns-in-Value
 returns c =
-    let k = c.before.before in
-    let d = k.before.before in
-    let a = (began d).args in
-    let v = k.reading.given.0.0 in
-    let read : setpoint_by (reading.Value v) ≡ setpoint a.image.now a.tag = ap setpoint_by (sym k.reading.given.1) ∙ d.setpoint.ensures in
-    answers d (reading.Value v) k.reading.given.1 c.pack-value.result (c.pack-value.ensures ∙ ap (value_number 0) (to_z-of_z {w = w32} {z = v} (record { sfits = read_fits a.image.now a.tag v read })))
+    let a = (began c.before.before).args in
+    let v = c.in-Value.value in
+    let read : setpoint_by (reading.Value v) ≡ setpoint a.image.now a.tag = ap setpoint_by (sym c.in-Value.is) ∙ c.setpoint-reading.ensures in
+    answers c.before.before (reading.Value v) c.in-Value.is c.pack_value.result (c.pack_value.ensures ∙ ap (value_number 0) (to_z-of_z {w = w32} {z = v} (record { sfits = read_fits a.image.now a.tag v read })))
 
-returns-2 : tie.Need-returns-2
-returns-2 c = answers c.before.before _ c.enum_told.given.1 1 refl
+returns-2 : tie.Need-returns-in-WrongSize
+returns-2 c = answers c.before _ c.in-WrongSize.is 1 refl
 
-returns-3 : tie.Need-returns-3
-returns-3 c = answers c.before.before _ c.enum-told2.given.1 2 refl
+returns-3 : tie.Need-returns-in-NoImage
+returns-3 c = answers c.before _ c.in-NoImage.is 2 refl
 
-returns-4 : tie.Need-returns-4
-returns-4 c = answers c.before.before _ c.enum-told3.given.1 12 refl
+returns-4 : tie.Need-returns-in-NoTag
+returns-4 c = answers c.before _ c.in-NoTag.is 12 refl
 
 pub bivamolune_setpoint_spec : {M : Type 1} → statement M
 bivamolune_setpoint_spec =

@@ -8,20 +8,18 @@ use Rattle.bivamolune.proofs.texts.bivamolune_read_sequences.Statement.{statemen
 use Rattle.bivamolune.proofs.texts.bivamolune_read_sequences.Tie as tie
 
 -- where the call began
-abbrev began : tie.After-read-sequences → tie.Start
+abbrev began : tie.After-read_sequences-read → tie.Start
 began c = c.before.before.before.before
 
-pack-conversion-requires : tie.Need-pack-conversion-requires
+pack-conversion-requires : tie.Need-pack_conversion-requires
 pack-conversion-requires c κs =
-    let d = c.before.before in
-    let a = (began d).args in
-    short (read_sequences a.text.now a.sequences.now) d.read-sequences.result _ d.read-sequences.ensures (omega (arith, read_short a.text.now a.sequences.now))
+    let a = (began c.before.before).args in
+    short (read_sequences a.text.now a.sequences.now) c.read_sequences-read.result _ c.read_sequences-read.ensures (omega (arith, read_short a.text.now a.sequences.now))
 
 returns : tie.Need-returns
 returns c =
-    let d = c.before.before.before in
-    let a = (began d).args in
-    converts (read_sequences a.text.now a.sequences.now) d.read-sequences.result _ d.read-sequences.ensures c.pack-conversion.result c.pack-conversion.ensures
+    let a = (began c.before.before.before).args in
+    converts (read_sequences a.text.now a.sequences.now) c.read_sequences-read.result _ c.read_sequences-read.ensures c.pack_conversion.result c.pack_conversion.ensures
 
 pub bivamolune_read_sequences_spec : {M : Type 1} → statement M
 bivamolune_read_sequences_spec =

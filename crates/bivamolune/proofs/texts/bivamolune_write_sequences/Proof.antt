@@ -7,20 +7,18 @@ use Rattle.bivamolune.proofs.texts.bivamolune_write_sequences.Statement.{stateme
 use Rattle.bivamolune.proofs.texts.bivamolune_write_sequences.Tie as tie
 
 -- where the call began
-abbrev began : tie.After-write-sequences → tie.Start
+abbrev began : tie.After-write_sequences-written → tie.Start
 began c = c.before.before.before.before
 
-pack-conversion-requires : tie.Need-pack-conversion-requires
+pack-conversion-requires : tie.Need-pack_conversion-requires
 pack-conversion-requires c κs =
-    let d = c.before.before in
-    let a = (began d).args in
-    short (write_sequences a.sequences.now a.text.now) d.write-sequences.result _ d.write-sequences.ensures (write_short a.sequences.now a.text.now)
+    let a = (began c.before.before).args in
+    short (write_sequences a.sequences.now a.text.now) c.write_sequences-written.result _ c.write_sequences-written.ensures (write_short a.sequences.now a.text.now)
 
 returns : tie.Need-returns
 returns c =
-    let d = c.before.before.before in
-    let a = (began d).args in
-    converts (write_sequences a.sequences.now a.text.now) d.write-sequences.result _ d.write-sequences.ensures c.pack-conversion.result c.pack-conversion.ensures
+    let a = (began c.before.before.before).args in
+    converts (write_sequences a.sequences.now a.text.now) c.write_sequences-written.result _ c.write_sequences-written.ensures c.pack_conversion.result c.pack_conversion.ensures
 
 pub bivamolune_write_sequences_spec : {M : Type 1} → statement M
 bivamolune_write_sequences_spec =

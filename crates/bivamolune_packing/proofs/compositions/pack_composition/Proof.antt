@@ -10,20 +10,20 @@ use Rattle.bivamolune_packing.proofs.compositions.pack_composition.Statement.{st
 use Rattle.bivamolune_packing.proofs.compositions.pack_composition.Tie as tie
 
 -- the length
-abbrev size : tie.After-known-told → ℕ
-size c = c.before.c.given.0.0
+abbrev size : tie.In-Written → ℕ
+size c = c.in-Written.size
 
-small : (c : tie.After-known-told) → size c ≤ message_room
-small c = subst Short c.before.c.given.1 c.before.before.before.requires
+small : (c : tie.In-Written) → size c ≤ message_room
+small c = subst Short c.in-Written.is c.requires
 
-cast-result : tie.Need-overflow-cast-result
+cast-result : tie.Need-overflow_cast-result
 cast-result c = omega (arith, small c)
 
-mul-result : tie.Need-overflow-mul-result
+mul-result : tie.Need-overflow_mul-result
 mul-result c = omega (arith, small c)
 
-returns : tie.Need-returns
-returns c = let e : 256 * size c ≡ packed_length 0 (size c) = omega arith in e ∙ ap number_by (sym c.before.c.given.1)
+returns : tie.Need-returns-in-Written
+returns c = let e : 256 * size c ≡ packed_length 0 (size c) = omega arith in e ∙ ap number_by (sym c.in-Written.is)
 
 pub pack_composition_spec : {M : Type 1} → statement M
 pack_composition_spec =

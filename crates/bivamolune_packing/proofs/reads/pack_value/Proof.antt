@@ -9,7 +9,7 @@ use Rattle.bivamolune_packing.proofs.reads.pack_value.Tie as tie
 
 returns : tie.Need-returns
 returns c =
-    let e : c.to_word.result ≡ word c.before.args.value = simp (to_z-of_z c.before.ranges.value) at c.to_word.ensures in
+    let e : c.to_word.result ≡ word c.args.value = simp (to_z-of_z c.ranges.value) at c.to_word.ensures in
     omega (arith, e)
 
 pub pack_value_spec : {M : Type 1} → statement M

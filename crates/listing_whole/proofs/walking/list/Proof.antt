@@ -9,26 +9,17 @@ use borrow.Author.Rules.{rules}
 use Rattle.listing_whole.proofs.walking.list.Statement.{statement}
 use Rattle.listing_whole.proofs.walking.list.Tie as tie
 
-returns : tie.Need-returns
+returns : tie.Need-returns-in_default
 returns c =
-    let e = c.before.before.before in
-    absurd (not_refused _ e.empty.new.0 e.empty.result refl e.empty.ensures c.enum-told2.given.1)
+    absurd (not_refused _ c.empty-emptying.new.image c.empty-emptying.result refl c.empty-emptying.ensures c.in_default.is)
 
-list-messages-requires : tie.Need-list-messages-requires
+list-messages-requires : tie.Need-list_messages-requires
 list-messages-requires c κs =
-    let read = c.before.before in
-    let e = read.before.before.before.before in
-    let start = e.before.before.before in
-    (e.empty.auto.0, omega (arith, ap length read.read-part.ensures, length-take input_limit start.args.input.now, start.well-formed))
+    (c.empty-emptying.auto.image, omega (arith, ap length c.read_part-read.ensures, length-take input_limit c.args.input.now, c.well_formed))
 
-returns-2 : tie.Need-returns-2
+returns-2 : tie.Need-returns
 returns-2 c =
-    let put = c.before in
-    let read = put.before.before.before in
-    let begun = read.before in
-    let e = begun.before.before.before in
-    let start = e.before.before.before in
-    lists start.args.input.now read.read-part.ensures (emptied _ e.empty.new.0 e.empty.result refl e.empty.ensures begun.enum_told.given.1) put.list-messages.ensures
+    lists c.args.input.now c.read_part-read.ensures (emptied _ c.empty-emptying.new.image c.empty-emptying.result refl c.empty-emptying.ensures c.in-Done.is) c.list_messages.ensures
 
 pub list_spec : {M : Type 1} → statement M
 list_spec =

@@ -7,11 +7,11 @@ use borrow.Author.Rules.{rules}
 use Rattle.listing_whole.proofs.walking.read_part.Statement.{statement}
 use Rattle.listing_whole.proofs.walking.read_part.Tie as tie
 
-slice-aggregate-result : tie.Need-slice-aggregate-result
-slice-aggregate-result c = sym (length-take-le input_limit c.before.before.args.input.now (omega arith))
+slice-aggregate-result : tie.Need-slice_bounds-result-end
+slice-aggregate-result c = sym (length-take-le input_limit c.args.input.now (omega arith))
 
-returns-2 : tie.Need-returns-2
-returns-2 c = sym (take_all input_limit c.before.args.input.now (omega arith))
+returns-2 : tie.Need-returns
+returns-2 c = sym (take_all input_limit c.args.input.now (omega arith))
 
 pub read_part_spec : {M : Type 1} → statement M
 read_part_spec = tie.close (tie.spec slice-aggregate-result (λ c. search rules) returns-2)

@@ -7,11 +7,13 @@ use Rattle.print_log_whole.proofs.printing.put_code.Tie as tie
 
 returns : tie.Need-returns
 returns c =
-    let fed = c.before.before in
-    let put = fed.before.before.before.before.before in
-    puts_puts (omega arith) put.put-decimal.ensures fed.put-text.ensures
+    puts_puts (omega arith) c.put_decimal-next.ensures c.put_text.ensures
 
 pub put_code_spec : {M : Type 1} → statement M
 put_code_spec =
     tie.close
-    (tie.spec (λ c κs. search rules) (λ c. search rules) (λ c κs. search rules) (λ c. search rules) returns)
+    (tie.spec
+    (λ c κs. search rules)
+    (λ c κs. search rules)
+    (λ c. search rules)
+    returns)

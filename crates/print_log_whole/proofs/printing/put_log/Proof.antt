@@ -11,34 +11,32 @@ use Rattle.print_log_whole.proofs.printing.put_log.Statement.{statement}
 use Rattle.print_log_whole.proofs.printing.put_log.Tie as tie
 
 -- what was asked of place 0, and that there is a message
-abbrev began : tie.After-log-message-code → tie.Start
+abbrev began : tie.After-log_message_code-looked → tie.Start
 began k = k.before.before
 
-coded : (k : tie.After-log-message-code) → lookup_by k.log-message-code.result ≡ log_message_code (began k).args.input.now 0
-coded k = k.log-message-code.ensures
+coded : (k : tie.After-log_message_code-looked) → lookup_by k.log_message_code-looked.result ≡ log_message_code (began k).args.input.now 0
+coded k = k.log_message_code-looked.ensures
 
-found : (t : tie.After-enum-told) → let b = (began t.before.before).args.input.now in lowest_code (read_conditions b) ≡ 0
-found t = (code_found _ 0 (sym (coded t.before.before) ∙ ap lookup_by t.enum_told.given.1)).0
+found : (t : tie.In-Found) → let b = (began t.before).args.input.now in lowest_code (read_conditions b) ≡ 0
+found t = (code_found _ 0 (sym (coded t.before) ∙ ap lookup_by t.in-Found.is)).0
 
-put-lines-requires : tie.Need-put-lines-requires
-put-lines-requires c κs = (found c.before, omega (arith, c.before.before.before.before.before.well-formed))
+put-lines-requires : tie.Need-put_lines-requires
+put-lines-requires c κs = (found c.before, omega (arith, c.well_formed))
 
-returns : tie.Need-returns
-returns c = prints_lines _ (found c.before.before) c.put-lines.ensures
+returns : tie.Need-returns-in-Found
+returns c = prints_lines _ (found c.before.before) c.put_lines.ensures
 
-returns-2 : tie.Need-returns-2
+returns-2 : tie.Need-returns-in-WrongSize
 returns-2 c =
-    let t = c.before.before in
-    prints_code _ 0 (code_refused _ 0 0 (sym (coded t.before.before) ∙ ap lookup_by t.enum-told2.given.1) (omega arith)) c.put-code.ensures
+    prints_code _ 0 (code_refused _ 0 0 (sym (coded c.before.before.before) ∙ ap lookup_by c.in-WrongSize.is) (omega arith)) c.put_code.ensures
 
-returns-3 : tie.Need-returns-3
+returns-3 : tie.Need-returns-in-NoImage
 returns-3 c =
-    let t = c.before.before in
-    prints_code _ 1 (code_refused _ 0 1 (sym (coded t.before.before) ∙ ap lookup_by t.enum-told3.given.1) (omega arith)) c.put-code2.ensures
+    prints_code _ 1 (code_refused _ 0 1 (sym (coded c.before.before.before) ∙ ap lookup_by c.in-NoImage.is) (omega arith)) c.put_code-in-NoImage.ensures
 
-returns-4 : tie.Need-returns-4
+returns-4 : tie.Need-returns-in-NoPlace
 returns-4 c =
-    let past = code_past _ 0 (sym (coded c.before.before) ∙ ap lookup_by c.enum-told4.given.1) in
+    let past = code_past _ 0 (sym (coded c.before) ∙ ap lookup_by c.in-NoPlace.is) in
     prints_nothing _ _ past.0 past.1
 
 pub put_log_spec : {M : Type 1} → statement M

@@ -1,0 +1,2 @@
+pub mod ComposeCarries
+pub mod PromiseKept
