@@ -72,3 +72,51 @@ fn every_declared_function_is_compared() {
     let compared = bivamolune_tests::boundary::COMPARED.iter().copied();
     assert_eq!(declared_functions(&header), compared.collect());
 }
+
+/// The public functions of a Rattle source, each from its name to its body: parameters and clauses.
+fn contracts(text: &str) -> Vec<String> {
+    let mut found = Vec::new();
+    let mut open = false;
+    for line in text.lines() {
+        let head = line.replace("extern \"C\" ", "");
+        if head.starts_with("pub fn ") {
+            found.push(String::new());
+            open = true;
+        }
+        open &= line != "{";
+        if let (true, Some(contract)) = (open, found.last_mut()) {
+            contract.push_str(&head);
+            contract.push('\n');
+        }
+    }
+    found
+}
+
+/// The definitions that the clauses of a Rattle source name.
+fn imports(text: &str) -> Vec<&str> {
+    let starts = |line: &&str| line.starts_with("ghost use ");
+    text.lines().filter(starts).collect()
+}
+
+#[test]
+fn contracts_are_found() {
+    let text = "pub extern \"C\" fn f(\n    a: u32,\n) -> u32\n    ensures { result ≡ a }\n{\n    a\n}\nfn g()\n{\n}\n";
+    let contract = "pub fn f(\n    a: u32,\n) -> u32\n    ensures { result ≡ a }\n";
+    assert_eq!(contracts(text), [contract]);
+    assert_eq!(imports("ghost use a.{b};\nuse c;\n"), ["ghost use a.{b};"]);
+}
+
+/// The theorems of the host speak of the functions of `bivamolune`, and what C calls are the exports of `bivamolune_c`: these have
+/// the same parameters and clauses, over the same definitions.
+#[test]
+fn an_export_promises_what_the_library_does() {
+    let mut exported = 0;
+    for name in ["lib", "composition", "reads", "texts"] {
+        let library = file(&format!("crates/bivamolune/src/{name}.rt"));
+        let exports = file(&format!("crates/bivamolune_c/src/{name}.rt"));
+        assert_eq!(contracts(&exports), contracts(&library), "{name}");
+        assert_eq!(imports(&exports), imports(&library), "{name}");
+        exported += contracts(&exports).len();
+    }
+    assert_eq!(exported, 8);
+}

@@ -2,10 +2,8 @@ pub mod Packing
 pub mod PackingLaws
 pub mod Answers
 pub mod CountLaws
-pub mod AnswerLaws
 pub mod ReadAnswers
 pub mod ReadAnswerLaws
 pub mod ComposeAnswers
-pub mod ComposeAnswerLaws
 pub mod TextAnswers
 pub mod TextAnswerLaws

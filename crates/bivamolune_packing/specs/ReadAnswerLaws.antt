@@ -13,7 +13,8 @@ use Rattle.read_calls.specs.declared.answer.Reading.{Reading}
 use Rattle.read_calls.specs.declared.answer.Reading.TheVariants as reading
 use Rattle.read_calls.specs.Parts.{Part, log_part}
 use Rattle.read_calls.specs.Answers.{part_by, setpoint_by}
-use Rattle.read_calls.specs.PartCases.{IsPart, is_part, part_code}
+use Rattle.read_calls.specs.PartCases.{IsPart}
+use Rattle.read_calls.proofs.PartCases.{is_part, part_code}
 use Rattle.read_calls.specs.ValueCases.{value_fits}
 use Rattle.bivamolune_packing.specs.Packing.{code_in}
 use Rattle.bivamolune_packing.specs.ReadAnswers.{part_number, size_in, offset_in, PartSmall, AnswersLogMessage, value_number, value_in, AnswersSetpoint}

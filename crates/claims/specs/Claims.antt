@@ -33,9 +33,12 @@ use Rattle.theorems_refusals.specs.Refusals.{empty_codes, deliver_codes, purge_c
 use Rattle.theorems_texts.specs.Texts.{ReadFrom, WrittenFrom, written_read, read_written}
 use Rattle.read_log.specs.declared.reader.LogReader.{LogReader}
 use Rattle.read_log.specs.Reader.{reader_of, Starts}
-use Rattle.read_log.specs.Readings.{NextCalls, calls_read}
-use Rattle.theorems_host.specs.HostRuns.{HostEmptied, host_emptied_as, HostDelivered, host_delivered_as, HostPurged, host_purged_as, host_agreement, host_order_kept, host_equal_accepted}
-use Rattle.theorems_host.specs.HostComposes.{HostComposed, host_composed_as, host_composed_keeps}
+use Rattle.read_log.specs.Readings.{NextCalls}
+use Rattle.read_log.proofs.Readings.{calls_read}
+use Rattle.theorems_host.specs.HostRuns.{HostEmptied, HostDelivered, HostPurged}
+use Rattle.theorems_host.proofs.HostRuns.{host_emptied_as, host_delivered_as, host_purged_as, host_agreement, host_order_kept, host_equal_accepted}
+use Rattle.theorems_host.specs.HostComposes.{HostComposed}
+use Rattle.theorems_host.proofs.HostComposes.{host_composed_as, host_composed_keeps}
 use Rattle.theorems_host.specs.HostReads.{HostLogMessage, host_log_message_as, HostSetpoint, host_setpoint_as, HostRead, host_read_as, HostWritten, host_written_as}
 
 -- ---- DEMAND 1: "No call may leave its result open": each answers what its definition does, code, counts, values and every byte. "The lowest number that

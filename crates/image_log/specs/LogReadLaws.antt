@@ -14,7 +14,7 @@ use Rattle.set_table.specs.Table.{message_from, deltas_of, deltas_at}
 use Rattle.set_table.specs.TableLaws.{deltas_length}
 use Rattle.set_table.specs.Places.{IsPresent, IsAbsent}
 use Rattle.set_table.specs.FindLaws.{absent_member}
-use Rattle.image_walk.specs.WalkLaws.{walked_message}
+use Rattle.image_walk.proofs.WalkLaws.{walked_message}
 use Rattle.image_log.specs.LogRead.{Readable, ReadsLog, LogReading}
 
 module _ (b starts offsets : List ℕ) (r : Readable b starts offsets) where

@@ -1,3 +1,2 @@
 pub mod Walk
 pub mod EndLaws
-pub mod WalkLaws

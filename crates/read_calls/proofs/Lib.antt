@@ -1,1 +1,2 @@
 pub mod LocatedTags
+pub mod PartCases

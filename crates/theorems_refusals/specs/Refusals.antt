@@ -7,8 +7,10 @@ use Rattle.model.specs.Codes.{empty_conditions, deliver_conditions, purge_condit
 use Rattle.model.specs.Calls.{Emptied, Delivered, Purged, Composed, Setpoint, Converted, log_message_code}
 use Rattle.theorems.specs.Theorems as laws
 use Rattle.theorems.specs.Theorems.{CodeLaw, LeftAlone}
-use Rattle.theorems_host.specs.HostRuns.{HostEmptied, host_emptied_as, HostDelivered, host_delivered_as, HostPurged, host_purged_as}
-use Rattle.theorems_host.specs.HostComposes.{HostComposed, host_composed_as}
+use Rattle.theorems_host.specs.HostRuns.{HostEmptied, HostDelivered, HostPurged}
+use Rattle.theorems_host.proofs.HostRuns.{host_emptied_as, host_delivered_as, host_purged_as}
+use Rattle.theorems_host.specs.HostComposes.{HostComposed}
+use Rattle.theorems_host.proofs.HostComposes.{host_composed_as}
 use Rattle.theorems_host.specs.HostReads.{HostLogMessage, host_log_message_as, HostSetpoint, host_setpoint_as, HostRead, host_read_as, HostWritten, host_written_as}
 
 pub empty_codes : (buffer : List ℕ) (a : Emptied) → HostEmptied buffer a → CodeLaw (empty_conditions buffer) a.code (a.image ≡ buffer)

@@ -1,5 +1,5 @@
 -- The number that is answered is that of what deliver answered, whose counts are small.
-use Rattle.bivamolune_packing.specs.AnswerLaws.{small, delivers}
+use Rattle.bivamolune_packing.proofs.AnswerLaws.{small, delivers}
 use borrow.Author.Rules.{rules}
 use Rattle.bivamolune.proofs.bivamolune_deliver.Statement.{statement}
 use Rattle.bivamolune.proofs.bivamolune_deliver.Tie as tie

@@ -1,5 +1,5 @@
 -- The code that is answered is that of what empty answered.
-use Rattle.bivamolune_packing.specs.AnswerLaws.{empties}
+use Rattle.bivamolune_packing.proofs.AnswerLaws.{empties}
 use borrow.Author.Rules.{rules}
 use Rattle.bivamolune.proofs.bivamolune_empty.Statement.{statement}
 use Rattle.bivamolune.proofs.bivamolune_empty.Tie as tie

@@ -1,5 +1,5 @@
 -- The code that is answered is that of what purge answered.
-use Rattle.bivamolune_packing.specs.AnswerLaws.{purges}
+use Rattle.bivamolune_packing.proofs.AnswerLaws.{purges}
 use borrow.Author.Rules.{rules}
 use Rattle.bivamolune.proofs.bivamolune_purge.Statement.{statement}
 use Rattle.bivamolune.proofs.bivamolune_purge.Tie as tie

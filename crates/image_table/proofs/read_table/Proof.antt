@@ -11,7 +11,7 @@ use Rattle.message_header.specs.declared.checks.Check.{Check}
 use Rattle.set_table.specs.Table.{message_from}
 use Rattle.set_table.specs.TableLaws.{Lies}
 use Rattle.image_walk.specs.Walk.{count_in}
-use Rattle.image_walk.specs.WalkLaws.{walked_message, walked_passes, walked_lies}
+use Rattle.image_walk.proofs.WalkLaws.{walked_message, walked_passes, walked_lies}
 use Rattle.image_table.specs.TableReading.{TakesIn}
 use Rattle.image_table.specs.ReadingLaws.{Gathered, gathered_none, gathered_all, gathered_set, gathered_unfit, gathered_next, wrong_reads}
 use Rattle.image_table.proofs.read_table.Statement.{statement}

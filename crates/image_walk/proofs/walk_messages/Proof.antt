@@ -13,7 +13,7 @@ use Rattle.message_header.specs.Check.{right}
 use Rattle.set_table.specs.TableLaws.{Lies, passes_lies}
 use Rattle.image_walk.specs.declared.End.TheVariants.{At}
 use Rattle.image_walk.specs.Walk.{count_in, Ends, Walking}
-use Rattle.image_walk.specs.WalkLaws.{walking_first, walking_refused, walking_next, walking_end, other_end, wrong_walks, too_many}
+use Rattle.image_walk.proofs.WalkLaws.{walking_first, walking_refused, walking_next, walking_end, other_end, wrong_walks, too_many}
 use Rattle.image_walk.proofs.walk_messages.Statement.{statement}
 use Rattle.image_walk.proofs.walk_messages.Tie as tie
 

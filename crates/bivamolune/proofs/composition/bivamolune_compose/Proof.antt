@@ -1,5 +1,5 @@
 -- The number that is answered is that of what compose answered, whose length is small.
-use Rattle.bivamolune_packing.specs.ComposeAnswerLaws.{short, composes}
+use Rattle.bivamolune_packing.proofs.ComposeAnswerLaws.{short, composes}
 use borrow.Author.Rules.{rules}
 use Rattle.bivamolune.proofs.composition.bivamolune_compose.Statement.{statement}
 use Rattle.bivamolune.proofs.composition.bivamolune_compose.Tie as tie

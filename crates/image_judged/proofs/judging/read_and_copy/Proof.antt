@@ -14,7 +14,7 @@ use Rattle.laws_order.specs.TestLaws.{true_T}
 use Rattle.laws_origin.specs.OriginLaws.{room_of}
 use Rattle.message_header.specs.Check as check
 use Rattle.image_walk.specs.Walk.{count_in, Walkable, Offsets, offsets_of}
-use Rattle.image_walk.specs.WalkLaws.{walks_wrong, walks_right, offsets_front}
+use Rattle.image_walk.proofs.WalkLaws.{walks_wrong, walks_right, offsets_front}
 use Rattle.image_judged.specs.JudgingLaws.{wrong_origin, read_wrong, read_right, refused}
 use Rattle.image_judged.proofs.judging.read_and_copy.Statement.{statement}
 use Rattle.image_judged.proofs.judging.read_and_copy.Tie as tie

@@ -6,7 +6,8 @@ use native.Mathlib.Omega.{arith}
 use native.Mathlib.Nat.{add-sub_cancel_left}
 use borrow.Author.Rules.{rules}
 use Rattle.read_calls.specs.Answers.{part_by}
-use Rattle.read_calls.specs.PartCases.{IsPart, is_part, no_part}
+use Rattle.read_calls.specs.PartCases.{IsPart}
+use Rattle.read_calls.proofs.PartCases.{is_part, no_part}
 use Rattle.read_calls.proofs.LocatedTags.{no_message}
 use Rattle.read_calls.proofs.log_message.log_message.Statement.{statement}
 use Rattle.read_calls.proofs.log_message.log_message.Tie as tie

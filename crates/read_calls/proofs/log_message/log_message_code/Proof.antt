@@ -5,7 +5,7 @@ use Rattle.model.specs.Calls.{log_message_code}
 use Rattle.read_calls.specs.declared.answer.Located.{Located}
 use Rattle.read_calls.specs.Parts.{Part}
 use Rattle.read_calls.specs.Answers.{part_by}
-use Rattle.read_calls.specs.PartCases.{part_code}
+use Rattle.read_calls.proofs.PartCases.{part_code}
 use Rattle.read_calls.proofs.log_message.log_message_code.Statement.{statement}
 use Rattle.read_calls.proofs.log_message.log_message_code.Tie as tie
 
