@@ -7,8 +7,8 @@ use Rattle.model.specs.Calls as model
 use Rattle.laws_state.specs.OffsetLaws.{log_offset_lem}
 use Rattle.read_log.specs.Reader.{first_offset}
 use Rattle.read_log.specs.ReaderLaws.{code_image}
-use Rattle.read_log.specs.Readings.{log_offset, next_at}
-use Rattle.read_log.proofs.Readings.{start_is}
+use Rattle.read_log.specs.Readings.{log_offset}
+use Rattle.read_log.proofs.Readings.{next_at, start_is}
 use Rattle.read_offsets.specs.Offsets.{offset_after}
 
 pub offset_start : (b : List ℕ) → lowest_code (read_conditions b) ≡ 0 → first_offset b ≡ message_offset b 0

@@ -13,7 +13,7 @@ use Rattle.message_header.specs.Check.{right}
 use Rattle.laws_codes.specs.Ladder.{tells, met, fails, passes}
 use Rattle.image_judged.specs.Judging.{IsStation}
 use Rattle.image_judged.specs.JudgingLaws.{judges_right, judgement, place_offset}
-use Rattle.read_calls.specs.PartCases.{part_told, below, place_inside, part_at}
+use Rattle.read_calls.proofs.PartCases.{part_told, below, place_inside, part_at}
 use Rattle.read_calls.proofs.locating.locate.Statement.{statement}
 use Rattle.read_calls.proofs.locating.locate.Tie as tie
 
