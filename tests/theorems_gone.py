@@ -17,8 +17,8 @@ from pathlib import Path
 ROOT = Path(__file__).resolve().parents[1]
 FILES = [
     'claims/specs/Claims', 'claims/specs/OwnCalls', 'theorems/specs/Theorems', 'theorems/specs/LateTheorems',
-    'theorems_refusals/specs/Refusals', 'theorems_calls/specs/Runs', 'theorems_calls/specs/Composes', 'theorems_host/specs/HostRuns',
-    'theorems_host/specs/HostComposes', 'theorems_host/specs/HostReads', 'theorems_texts/specs/Texts', 'read_log/specs/Readings',
+    'theorems_refusals/specs/Refusals', 'theorems_calls/specs/Runs', 'theorems_calls/specs/Composes', 'theorems_host/proofs/HostRuns',
+    'theorems_host/proofs/HostComposes', 'theorems_host/specs/HostReads', 'theorems_texts/specs/Texts', 'read_log/proofs/Readings',
 ]
 LAW = re.compile(r'^( *)pub ([a-z][a-z_]*) : ')
 
