@@ -6,4 +6,3 @@ pub mod ReadAnswers
 pub mod ReadAnswerLaws
 pub mod ComposeAnswers
 pub mod TextAnswers
-pub mod TextAnswerLaws

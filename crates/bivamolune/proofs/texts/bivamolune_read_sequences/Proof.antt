@@ -2,7 +2,7 @@
 use native.Mathlib.Omega.{arith}
 use Rattle.model.specs.Calls.{read_sequences}
 use Rattle.laws_text.specs.RoundTrips.{read_short}
-use Rattle.bivamolune_packing.specs.TextAnswerLaws.{short, converts}
+use Rattle.bivamolune_packing.proofs.TextAnswerLaws.{short, converts}
 use borrow.Author.Rules.{rules}
 use Rattle.bivamolune.proofs.texts.bivamolune_read_sequences.Statement.{statement}
 use Rattle.bivamolune.proofs.texts.bivamolune_read_sequences.Tie as tie

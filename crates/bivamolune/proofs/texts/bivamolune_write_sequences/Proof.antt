@@ -1,7 +1,7 @@
 -- The number that is answered is that of what the writer answered, whose length is small.
 use Rattle.model.specs.Calls.{write_sequences}
 use Rattle.laws_text.specs.RoundTrips.{write_short}
-use Rattle.bivamolune_packing.specs.TextAnswerLaws.{short, converts}
+use Rattle.bivamolune_packing.proofs.TextAnswerLaws.{short, converts}
 use borrow.Author.Rules.{rules}
 use Rattle.bivamolune.proofs.texts.bivamolune_write_sequences.Statement.{statement}
 use Rattle.bivamolune.proofs.texts.bivamolune_write_sequences.Tie as tie
