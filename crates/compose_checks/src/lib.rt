@@ -27,6 +27,7 @@ pub fn check_sizes(image: usize, room: usize, line: usize) -> Check
 }
 
 // The flag is 0 or 1, and the priority within its limit, and zero without the flag.
+#[tactic(auto, using(crate::proofs::GivenLaws::given_laws))]
 fn check_given(flag: u32, priority: u32) -> Check
     ensures { right result ≡ given_right flag priority }
 {

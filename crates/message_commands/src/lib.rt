@@ -17,6 +17,7 @@ use layout::{
 use message_header::checks::Check;
 
 // Whether four bytes, as two's complement, are a value from -1000000 to 1000000.
+#[tactic(auto, using(crate::specs::CommandFacts::value_high, crate::specs::CommandFacts::value_low))]
 pub fn in_range(value: u32) -> bool
     ensures { result ≡ value_right value }
 {

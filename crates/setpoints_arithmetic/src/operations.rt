@@ -12,6 +12,7 @@ fn sum(x: i32, v: i32) -> i64
 }
 
 // The number, stopped at low and at high.
+#[tactic(auto, unfolding(model::specs::Setpoints::stop))]
 fn stop(low: i32, high: i32, z: i64) -> i32
     ensures { result ≡ model.stop low high z }
 {
@@ -25,6 +26,7 @@ fn stop(low: i32, high: i32, z: i64) -> i32
 }
 
 // The greater of the two.
+#[tactic(auto, unfolding(model::specs::Setpoints::raise))]
 fn raise_to(x: i32, v: i32) -> i32
     ensures { result ≡ model.raise x v }
 {
@@ -35,6 +37,7 @@ fn raise_to(x: i32, v: i32) -> i32
 }
 
 // Operation 1 sets, 2 adds, any other raises.
+#[tactic(auto, unfolding(model::specs::Setpoints::operate))]
 pub fn operate(operation: u32, x: i32, v: i32) -> i32
     ensures { result ≡ model.operate operation x v }
 {

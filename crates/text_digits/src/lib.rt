@@ -34,6 +34,7 @@ pub fn digit(table: &[u8; CHARACTER_COUNT], character: u8) -> u8
 }
 
 // The character of a digit.
+#[tactic(auto, unfolding(model::specs::Text::character_of))]
 pub fn character(value: u8) -> u8
     requires { value < 16 }
     ensures { result ≡ character_of value }
