@@ -6,6 +6,7 @@ use crate::limits::{DIGITS, ZERO};
 use crate::text::put_text;
 
 // Writes the digits of a number to the end of a text, from the last to the first, and answers where the first stands.
+#[tactic(auto, using(crate::proofs::Spelling::spelling))]
 fn spell(text: &mut [u8], x: usize) -> usize
     requires { length text.old ≡ digits_room }
     ensures { (result ≤ digits_room) × (drop result text.new ≡ numeral x) }
