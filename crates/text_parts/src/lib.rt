@@ -27,6 +27,7 @@ fn are_digits(table: &[u8; CHARACTER_COUNT], text: &[u8], at: usize) -> bool
 }
 
 // The part that starts at a place of a text behind which a comma is put.
+#[tactic(auto, using(crate::proofs::Parts::parts))]
 pub fn check_part(table: &[u8; CHARACTER_COUNT], text: &[u8], at: usize) -> Check
     requires { HasDigits table.now × (at + characters_size ≤ length text.now) }
     ensures { right result ≡ text_part_right (take text_part_size (drop at (text.now ++ comma ∷ []))) }
