@@ -1,1 +1,2 @@
 pub mod ConversionTags
+pub mod Numbers

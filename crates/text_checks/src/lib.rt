@@ -14,6 +14,7 @@ use message_header::checks::Check;
 use message_sequence::{number_of, read_sequence};
 
 // Code 14: no number of whole sequences is 0000.
+#[tactic(auto, using(crate::proofs::Numbers::numbering))]
 pub fn check_numbers(sequences: &[u8]) -> Check
     ensures { right result ≡ all_numbered sequences.now }
 {
