@@ -26,6 +26,7 @@ fn lines_ascend(b: &[u8], count: usize) -> bool
 }
 
 // Whether every floor has a number of at least 1.
+#[tactic(auto, using(crate::proofs::Numbers::numbering))]
 fn all_numbered(b: &[u8], count: usize) -> bool
     requires { Counted b.now count }
     ensures { result ≡ every numbered (floors_in b.now) }

@@ -30,6 +30,7 @@ fn check_purged(b: &[u8], count: usize) -> Check
 }
 
 // What the log of a buffer of an image's size starts from.
+#[tactic(auto, using(crate::proofs::Parts::parts))]
 pub fn check_origin(b: &[u8]) -> Check
     requires { length b.now ≡ image_size }
     ensures { right result ≡ origin_right (origin_in b.now) }
