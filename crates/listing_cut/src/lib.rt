@@ -17,6 +17,7 @@ pub enum Cut {
 }
 
 // Cuts the next message: a length outside 48..200 or past the end is wrong, and so is a rest without a length.
+#[tactic(auto, using(crate::proofs::Cuts::cuts))]
 pub fn read_cut(rest: &[u8]) -> Cut
     ensures { IsCut rest.now result }
 {
