@@ -9,6 +9,7 @@ use program_decimal::digits::{put_after, put_decimal};
 
 // Writes the value of a word from a place on, and answers the place behind it. A word is two's complement: from 2147483648 on it is
 // negative, and `-` stands before its digits.
+#[tactic(auto, using(crate::specs::ValueLaws::value_positive, crate::specs::ValueLaws::value_negative))]
 pub fn put_value(out: &mut [u8], at: usize, word: u32) -> usize
     requires { at + value_room ≤ length out.old }
     ensures { Puts out.old at value_room (printed_value (integer word)) result out.new }
