@@ -21,11 +21,13 @@ module _ (b : List ℕ) where
   numbered_all = refl
 
   module _ (k : ℕ) where
-    one_more : k < length b / sequence_size → numbered_from b k ≡ numbered (field b (sequence_size * k) sequence_size) && numbered_from b (k + 1)
+    one_more : k < length b / sequence_size
+        → numbered_from b k ≡ numbered (field b (sequence_size * k) sequence_size) && numbered_from b (k + 1)
     unfolding numbered_from
     one_more h =
         every_step has_number (sequence_parts b) k [] (omega (arith, length_parts (length b / sequence_size) sequence_size b))
-        ∙ ap (λ (p : List ℕ). has_number p && every has_number (drop (k + 1) (sequence_parts b))) (parts_at (length b / sequence_size) sequence_size b k h)
+        ∙ ap (λ (p : List ℕ). has_number p && every has_number (drop (k + 1) (sequence_parts b)))
+        (parts_at (length b / sequence_size) sequence_size b k h)
 
     module _ (h : k < length b / sequence_size) where
       pub numbered_stop : number_of (field b (sequence_size * k) sequence_size) ≡ 0 → numbered_from b k ≡ false
