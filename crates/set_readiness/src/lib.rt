@@ -12,6 +12,7 @@ use set_needs::rows::ROW;
 pub const MARKS: usize = CAPACITY + 1;
 
 // Whether a delta is not placed yet, and all that it needs is. What is placed has a mark that is not 0.
+#[tactic(auto, using(crate::proofs::Waiting::waiting))]
 pub fn ready(rows: &[u8], counts: &[u8], placed: &[u8], i: usize) -> bool
     requires { RowFits rows.now counts.now i × (length placed.now ≡ marks_size) × (i < marks_size) }
     ensures { result ≡ ready_in rows.now counts.now placed.now i }

@@ -1,0 +1,41 @@
+-- Whether a delta is ready, one mark after the other.
+use Rattle.std.proofs.Common.{◌≡◌, Bool, true, false, ℕ, ◌+◌, ◌*◌, ◌≤◌, ◌<◌, ◌∙◌, ap, eq-eqb, ne_eqb}
+use Rattle.std.proofs.Math.Bool.{not, ◌&&◌}
+use mathlib.Core.List.{List}
+use Rattle.std.proofs.Math.ListN.{get_or, drop}
+use Rattle.model.specs.Lists.{every}
+use Rattle.set_needs.specs.Rows.{row_size, row_in, RowFits}
+use Rattle.set_readiness.specs.Ready.{is_placed, ready_in}
+use Rattle.set_readiness.specs.ReadyLaws.{every_row, row_done, ready_marked, ready_unmarked}
+
+-- Whether the needs from the k-th on are placed.
+unfoldable pub rest_placed : List ℕ → List ℕ → List ℕ → ℕ → ℕ → Bool
+rest_placed rows counts placed i k = every (is_placed placed) (drop k (row_in rows counts i))
+
+module _ (rows counts placed : List ℕ) (i : ℕ) where
+  pub placed_itself : (get_or placed i 0 ≡ 0 → ⊥) → ready_in rows counts placed i ≡ false
+  placed_itself h = ready_marked rows counts placed i (ap not (ne_eqb _ _ h))
+
+  pub not_placed : get_or placed i 0 ≡ 0 → ready_in rows counts placed i ≡ rest_placed rows counts placed i 0
+  unfolding rest_placed
+  not_placed h = ready_unmarked rows counts placed i (ap not (eq-eqb _ _ h))
+
+  pub need_waits : (k : ℕ) → RowFits rows counts i → k < get_or counts i 0 → get_or placed (get_or rows (row_size * i + k) 0) 0 ≡ 0
+      → rest_placed rows counts placed i k ≡ false
+  unfolding rest_placed
+  need_waits k fits h e =
+      every_row rows counts i fits (is_placed placed) k h
+      ∙ ap (λ (t : Bool). t && every (is_placed placed) (drop (k + 1) (row_in rows counts i))) (ap not (eq-eqb _ _ e))
+
+  pub need_placed : (k : ℕ) → RowFits rows counts i → k < get_or counts i 0 → (get_or placed (get_or rows (row_size * i + k) 0) 0 ≡ 0 → ⊥)
+      → rest_placed rows counts placed i k ≡ rest_placed rows counts placed i (k + 1)
+  unfolding rest_placed
+  need_placed k fits h e =
+      every_row rows counts i fits (is_placed placed) k h
+      ∙ ap (λ (t : Bool). t && every (is_placed placed) (drop (k + 1) (row_in rows counts i))) (ap not (ne_eqb _ _ e))
+
+  pub no_need_left : (k : ℕ) → RowFits rows counts i → get_or counts i 0 ≤ k → rest_placed rows counts placed i k ≡ true
+  unfolding rest_placed
+  no_need_left k fits h = row_done rows counts i fits (is_placed placed) k h
+
+pub ruleset waiting = (placed_itself, not_placed, need_waits, need_placed, no_need_left)
