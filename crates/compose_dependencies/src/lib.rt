@@ -60,6 +60,7 @@ fn is_predecessor(x: Sequence, s: Sequence) -> bool
 }
 
 // Whether a new delta of the sequence s depends on the delta at an index.
+#[tactic(auto, using(crate::proofs::Marked::marked))]
 fn is_dependency(pool: &[u8], starts: &[u16], uses: Uses, i: usize, s: Sequence) -> bool
     requires { Holds pool.now starts.now × UsesRight (set_in pool.now starts.now) uses × (i < length starts.now) }
     ensures { result ≡ chosen (set_in pool.now starts.now) (sequence_number s) (sequence_in pool.now starts.now i) }
