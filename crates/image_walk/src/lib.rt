@@ -72,6 +72,7 @@ fn add_length(b: &[u8], at: usize) -> usize
 }
 
 // Where the message at an offset ends, cut by its length field and checked.
+#[tactic(auto, using(crate::specs::EndLaws::short_fails, crate::specs::EndLaws::past_end_fails))]
 fn find_end(b: &[u8], at: usize) -> End
     requires { (length b.now ≡ image_size) × (at ≤ length b.now) }
     ensures { Ends b.now at result }
