@@ -14,6 +14,7 @@ pub enum Found {
 }
 
 // Looks for a message of the log that starts at an offset, among the offsets of all of them.
+#[tactic(auto, using(crate::proofs::Here::here_inside, crate::proofs::Here::here_bytes))]
 pub fn find_message(image: &[u8], offsets: &[u16], offset: usize) -> Found
     requires { Searchable image.now offsets.now }
     ensures { Finds image.now offset result }
