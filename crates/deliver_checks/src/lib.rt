@@ -16,6 +16,7 @@ use set_table::entry::message_at;
 use set_table::places::Place;
 
 // Code 7: what is present under the message's sequence has its bytes. The place is where that sequence was looked for.
+#[tactic(auto, using(crate::specs::RepeatLaws::present_conflicts))]
 pub fn check_repeat(pool: &[u8], starts: &[u16], place: Place, message: &[u8]) -> Check
     requires { Holds pool.now starts.now × Finds pool.now starts.now (sequence_of message.now) place }
     ensures { right result ≡ not (conflicts (set_in pool.now starts.now) message.now) }
