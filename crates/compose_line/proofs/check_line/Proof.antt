@@ -1,6 +1,6 @@
 -- The places that are not the log's are those of the held deltas.
 use mathlib.Core.Path.{◌≡◌, sym, ◌∙◌, ap, subst}
-use mathlib.Core.Bool.{Bool, not}
+use mathlib.Core.Bool.{Bool, true, false, not}
 use mathlib.Core.List.{List}
 use Prim.Native.Nat.{ℕ, ◌≤◌}
 use native.Mathlib.Omega.{arith}
@@ -66,12 +66,6 @@ some-on-requires c κs =
     let s = began c.before.before in
     subst (TablePlaces s.args.pool.now s.args.starts.now) (sym c.held_places-held.ensures.others) (others_inside s.args.pool.now s.args.starts.now s.args.places.now s.requires)
 
-returns : tie.Need-returns-then-some_on
-returns c = sym (ap not (told c.before c.if-some_on.true))
-
-returns-2 : tie.Need-returns
-returns-2 c = sym (ap not (told c.before c.if-some_on.false))
-
 pub check_line_spec : {M : Type 1} → statement M
 check_line_spec =
     tie.close
@@ -80,5 +74,5 @@ check_line_spec =
     array-share-prefix-others
     slice-aggregate-some-on
     some-on-requires
-    returns
-    returns-2)
+    (λ c. sym (ap not (told c.before {t = true} (grind arith))))
+    (λ c. sym (ap not (told c.before {t = false} (grind arith)))))
