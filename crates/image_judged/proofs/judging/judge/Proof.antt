@@ -1,6 +1,6 @@
 -- A buffer whose log is not that of its set, or which is not the image of its set, is no image; any other is.
 use mathlib.Core.Path.{◌≡◌, refl, sym, ◌∙◌, ap, subst}
-use mathlib.Core.Bool.{Bool}
+use mathlib.Core.Bool.{Bool, true, false}
 use mathlib.Core.List.{List, ◌++◌}
 use Prim.Native.Nat.{ℕ, ◌-◌, ◌≤◌}
 use native.Mathlib.Omega.{arith}
@@ -23,6 +23,7 @@ use Rattle.image_table.specs.TableReading.{IsTable}
 use Rattle.log_check.specs.Checking.{ChecksLog}
 use Rattle.image_log.specs.LogRead.{ReadsLog}
 use Rattle.image_listed.specs.Listed.{places_in}
+use Rattle.image_judged.specs.Judging.{Judges, Copies}
 use Rattle.image_judged.specs.JudgingLaws.{judged, other_log, refused}
 use Rattle.image_judged.proofs.judging.judge.Statement.{statement}
 use Rattle.image_judged.proofs.judging.judge.Tie as tie
@@ -110,13 +111,12 @@ compared c t e =
     let b = (start l).args.b.now in
     judged b l.list-listed.result.table (is_table l) ∙ ap (λ (i : List ℕ). same i b) (sym (image_is (written c))) ∙ sym c.equals_copy.ensures ∙ e
 
-same_length : tie.Need-shape_of-copy-then-not-equals_copy
-same_length c = (written c.before).rewrite-used.auto.out
-
-returns-2 : tie.Need-returns-then-not-equals_copy
-returns-2 c =
-    let l = listed (known (written c.before)) in
-    refused (start l).args.b.now _ l.list-listed.result l.list-listed.ensures.unjudged (compared c.before _ (c.if-not-equals_copy.true))
+-- it is not what was written
+differs : (c : tie.After-equals_copy) → c.equals_copy.result ≡ false → let l = listed (known (written c)) in let r = l.list-listed.result in
+    Judges (start l).args.b.now r × Copies (start l).args.b.now (written c).rewrite-used.new.out r.check
+differs c e =
+    let l = listed (known (written c)) in
+    refused (start l).args.b.now _ l.list-listed.result l.list-listed.ensures.unjudged (compared c false e)
 
 same-length-2 : tie.Need-shape_of-copy
 same-length-2 c = (written c.before.before).rewrite-used.auto.out
@@ -127,9 +127,9 @@ returns-3 c =
     let e = known w in
     let l = listed e in
     let b = (start l).args.b.now in
-    let equal = c.if-not-equals_copy.false in (
+    let equal : c.before.before.equals_copy.result ≡ true = grind arith in (
       record {
-        image = subst T (sym (compared c.before.before _ equal)) tt;
+        image = subst T (sym (compared c.before.before true equal)) tt;
         table = (start l).requires.2;
         log = subst (λ (t : Table). deltas_at (deltas_of b (starts_of t)) (places_in l.list-listed.result) ≡ log_of (set_in b (starts_of t))) l.list-listed.ensures.table (log_is e);
         inside = l.list-listed.ensures.log.inside;
@@ -153,7 +153,7 @@ judge_spec =
     slice-reshare-prefix-equals-copy
     slice-aggregate-equals-copy
     equals-copy-requires
-    same_length
-    returns-2
+    (λ c. (written c.before).rewrite-used.auto.out)
+    (λ c. differs c.before (cc))
     same-length-2
     returns-3)
