@@ -1,6 +1,6 @@
 -- What the marks of a delta tell of it: whether a new one depends on it.
-use Rattle.std.proofs.Common.{◌≡◌, ◌∙◌, sym, ap, Bool, false, ℕ, ◌<◌, List, get_or, length, arith, eq-eqb, ne_eqb}
-use Rattle.std.proofs.Math.Bool.{not}
+use Rattle.std.specs.Prelude.{◌≡◌, Bool, false, not, List, ℕ, ◌<◌, length, get_or}
+use Rattle.std.proofs.Common.{◌∙◌, sym, ap, arith, eq-eqb, ne_eqb}
 use Rattle.std.proofs.lemmas.List.{length-map}
 use Rattle.model.specs.Lists.{has, some?}
 use Rattle.model.specs.Message.{predecessor_of}

@@ -1,8 +1,6 @@
 -- Whether a delta is ready, one mark after the other.
-use Rattle.std.proofs.Common.{◌≡◌, Bool, true, false, ℕ, ◌+◌, ◌*◌, ◌≤◌, ◌<◌, ◌∙◌, ap, eq-eqb, ne_eqb}
-use Rattle.std.proofs.Math.Bool.{not, ◌&&◌}
-use mathlib.Core.List.{List}
-use Rattle.std.proofs.Math.ListN.{get_or, drop}
+use Rattle.std.specs.Prelude.{◌≡◌, Bool, true, false, not, ◌&&◌, List, ℕ, ◌+◌, ◌*◌, ◌≤◌, ◌<◌, get_or, drop}
+use Rattle.std.proofs.Common.{◌∙◌, ap, eq-eqb, ne_eqb}
 use Rattle.model.specs.Lists.{every}
 use Rattle.set_needs.specs.Rows.{row_size, row_in, RowFits}
 use Rattle.set_readiness.specs.Ready.{is_placed, ready_in}
