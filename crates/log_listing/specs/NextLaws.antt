@@ -1,5 +1,5 @@
 -- The first by key that is ready is the one that comes next.
-use Rattle.std.specs.Prelude.{◌≡◌, refl, true, false, not, List, [], ℕ, ◌≤◌, ◌<◌, length, get_or, set, T, eqb, ltb}
+use Rattle.std.specs.Prelude.{◌≡◌, refl, true, false, not, List, [], ℕ, ◌+◌, ◌≤◌, ◌<◌, length, get_or, set, T, eqb, ltb}
 use Rattle.std.proofs.Common.{sym, ◌∙◌, ap, ap₂, subst, ⊎_elim, arith, get_or-set_same, get_or-set_other, eqb→eq, ltb→lt, nltb→le}
 use Rattle.std.proofs.Math.Option.{Option, some, none}
 use Rattle.model.specs.Lists.{◌∈◌, keep}
@@ -20,6 +20,10 @@ use Rattle.log_listing.specs.declared.next.Next.{Next}
 use Rattle.log_listing.specs.declared.next.Next.TheVariants.{At, Nothing}
 use Rattle.log_sorting.specs.Sorted.{Sorted}
 use Rattle.log_listing.specs.Next.{Skips, FirstReady, Picks, NextRight}
+
+-- what holds of all from a place on below k, and of k, holds below k + 1
+pub one_more : (P : ℕ → Type 0) (from k : ℕ) → ((a : ℕ) → from ≤ a → a < k → P a) → P k → (a : ℕ) → from ≤ a → a < k + 1 → P a
+one_more P from k below here a h q = ⊎_elim (λ e. subst P (sym (eqb→eq a k e)) here) (λ e. let d : a ≡ k → ⊥ = not_eqb a k e in below a h (omega arith)) (decide (eqb a k))
 
 -- what is passed stays so
 pub skips_on : (sorted placed : List ℕ) (a b : ℕ) → Skips sorted placed 0 a → Skips sorted placed a b → Skips sorted placed 0 b
