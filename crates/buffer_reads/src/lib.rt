@@ -43,18 +43,9 @@ pub fn get_u64(s: &[u8], at: usize) -> u64
     high + low
 }
 
-// Whether two slices hold the same bytes. It looks at all of them: so the compiler can take many at a time.
+// Whether two slices hold the same bytes.
 pub fn same(a: &[u8], b: &[u8]) -> bool
     ensures { result ≡ same_list a.now b.now }
 {
-    if a.len() != b.len() {
-        return false;
-    }
-    let mut ok = true;
-    let mut i = 0;
-    while i < a.len() {
-        ok = ok & (a[i] == b[i]);
-        i += 1;
-    }
-    ok
+    a == b
 }
