@@ -1,7 +1,7 @@
 // Leaf functions that write byte slices: big-endian numbers, a copy, zeros to the end.
 #![tactic(auto)]
 
-ghost use Rattle.std.specs.Prelude.{◌≡◌, ◌++◌, ◌+◌, ◌-◌, ◌<◌, ◌≤◌, length, take, replicate};
+ghost use Rattle.std.specs.Prelude.{◌≡◌, ◌++◌, ◌+◌, ◌-◌, ◌≤◌, length, take, replicate};
 ghost use Rattle.std.proofs.Math.Seq.{paste};
 ghost use Rattle.model.specs.Bytes.{bytes};
 
@@ -37,11 +37,7 @@ pub fn copy_at(dst: &mut [u8], at: usize, src: &[u8], n: usize)
     requires { (n ≤ length src.now) × (at + n ≤ length dst.old) }
     ensures { dst.new ≡ paste dst.old at src.now n }
 {
-    let mut i = 0;
-    while i < n {
-        dst[at + i] = src[i];
-        i += 1;
-    }
+    dst[at..at + n].copy_from_slice(&src[..n]);
 }
 
 // Writes zeros from a place on to the end.
@@ -49,9 +45,5 @@ pub fn clear_from(dst: &mut [u8], at: usize)
     requires { at ≤ length dst.old }
     ensures { dst.new ≡ take at dst.old ++ replicate (length dst.old - at) 0 }
 {
-    let mut i = at;
-    while i < dst.len() {
-        dst[i] = 0;
-        i += 1;
-    }
+    dst[at..].fill(0);
 }
