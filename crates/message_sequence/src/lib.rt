@@ -12,21 +12,15 @@ use buffer_reads::{get_u32, get_u64};
 use buffer_writes::{put_u32, put_u64};
 use layout::NUMBERS_OF_LINE;
 
-// The twelve bytes of a sequence: the first eight, and the last four.
-#[derive(Clone, Copy)]
+// The twelve bytes of a sequence: the first eight, and the last four. In this order of the fields they compare as its number does.
+#[derive(Clone, Copy, PartialEq, Eq, PartialOrd, Ord)]
 pub struct Sequence {
     pub high: u64,
     pub low: u32,
 }
 
-// A sequence's predecessor, where it has one.
-#[derive(Clone, Copy)]
-pub enum Predecessor {
-    Of(Sequence),
-    Absent,
-}
-
 // The sequence that stands at a place.
+#[tactic(auto, using(buffer_reads::specs::FieldLaws::field_split))]
 pub fn read_sequence(s: &[u8], at: usize) -> Sequence
     requires { at + sequence_size ≤ length s.now }
     ensures { sequence_number result ≡ field s.now at sequence_size }
@@ -37,6 +31,7 @@ pub fn read_sequence(s: &[u8], at: usize) -> Sequence
 }
 
 // Writes a sequence from a place on.
+#[tactic(auto, using(crate::specs::SequenceLaws::sequence_written))]
 pub fn put_sequence(b: &mut [u8], at: usize, s: Sequence)
     requires { at + sequence_size ≤ length b.old }
     ensures { b.new ≡ paste b.old at (bytes sequence_size (sequence_number s)) sequence_size }
@@ -49,23 +44,14 @@ pub fn put_sequence(b: &mut [u8], at: usize, s: Sequence)
 pub fn less(a: Sequence, b: Sequence) -> bool
     ensures { result ≡ ltb (sequence_number a) (sequence_number b) }
 {
-    if a.high < b.high {
-        return true;
-    }
-    if b.high < a.high {
-        return false;
-    }
-    a.low < b.low
+    a < b
 }
 
 // Whether two sequences are equal.
 pub fn equal(a: Sequence, b: Sequence) -> bool
     ensures { result ≡ eqb (sequence_number a) (sequence_number b) }
 {
-    if a.high != b.high {
-        return false;
-    }
-    a.low == b.low
+    a == b
 }
 
 // The number of a sequence on its line.
@@ -79,31 +65,23 @@ pub fn number_of(s: Sequence) -> u32
 pub fn same_line(a: Sequence, b: Sequence) -> bool
     ensures { result ≡ eqb (line_of (sequence_number a)) (line_of (sequence_number b)) }
 {
-    if a.high != b.high {
-        return false;
-    }
-    let line_a = a.low / NUMBERS_OF_LINE;
-    let line_b = b.low / NUMBERS_OF_LINE;
-    line_a == line_b
+    a.high == b.high && a.low / NUMBERS_OF_LINE == b.low / NUMBERS_OF_LINE
 }
 
 // Whether a sequence's line is below another's.
 pub fn line_below(a: Sequence, b: Sequence) -> bool
     ensures { result ≡ ltb (line_of (sequence_number a)) (line_of (sequence_number b)) }
 {
-    if !same_line(a, b) {
-        return less(a, b);
-    }
-    false
+    !same_line(a, b) && less(a, b)
 }
 
 // The same line with number one less; number 0001 has none.
-pub fn predecessor_of(s: Sequence) -> Predecessor
+pub fn predecessor_of(s: Sequence) -> Option<Sequence>
     ensures { predecessor_list result ≡ predecessor_of (sequence_number s) }
 {
     if number_of(s) <= 1 {
-        return Predecessor::Absent;
+        return None;
     }
     let low = s.low - 1;
-    Predecessor::Of(Sequence { high: s.high, low })
+    Some(Sequence { high: s.high, low })
 }
