@@ -1,14 +1,8 @@
--- The answer of a check as a test, and `layout_right` in the two parts in which the code takes it.
-use Rattle.std.specs.Prelude.{Bool, true, false, ◌&&◌, length, eqb, leb}
+-- `layout_right` in the two parts in which the code takes it.
+use Rattle.std.specs.Prelude.{Bool, ◌&&◌, length, eqb, leb}
 use Rattle.model.specs.Bytes.{field}
 use Rattle.model.specs.Layout.{kind_at, priority_flag_at, most_dependencies, most_commands, length_at, dependencies_offset_at, commands_offset_at, first_zeros_at, last_zeros_at, header_size}
 use Rattle.model.specs.Message.{Message, dependency_count, command_count, total_length, commands_start}
-use Rattle.message_header.specs.declared.checks.Check.{Check}
-use Rattle.message_header.specs.declared.checks.Check.TheVariants.{Right, Wrong}
-
-abbrev pub right : Check → Bool
-right Right = true
-right Wrong = false
 
 -- kind, byte 1 and the counts; then length, offsets and zeros
 unfoldable pub counts_right : Message → Bool

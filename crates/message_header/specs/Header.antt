@@ -1,13 +1,12 @@
 -- The header of a message, and what it says of it.
-use Rattle.std.specs.Prelude.{◌≡◌, cond}
+use Rattle.std.specs.Prelude.{◌≡◌, cond, Option, Some, None}
 use Rattle.model.specs.Message.{Message, has_priority, dependency_count, command_count, sequence_of, group_of, block_of, priority_of}
 use Rattle.message_header.specs.declared.header.Header.{Header}
 use Rattle.message_header.specs.declared.header.Priority.{Priority}
-use Rattle.message_header.specs.declared.header.Priority.TheVariants.{Absent, Given}
 use Rattle.message_sequence.specs.Sequence.{sequence_number, sequence_from}
 
-abbrev pub priority_in : Message → Priority
-priority_in m = cond (has_priority m) (Given (block_of m) (priority_of m)) Absent
+abbrev pub priority_in : Message → Option Priority
+priority_in m = cond (has_priority m) (Some (record { block = block_of m; priority = priority_of m })) None
 
 unfoldable pub header_of : Message → Header
 header_of m = record {

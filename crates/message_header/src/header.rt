@@ -10,11 +10,11 @@ use layout::{
 };
 use message_sequence::{Sequence, read_sequence};
 
-// No priority, or a block with a priority.
+// A block with a priority.
 #[derive(Clone, Copy)]
-pub enum Priority {
-    Absent,
-    Given { block: u32, priority: u32 },
+pub struct Priority {
+    pub block: u32,
+    pub priority: u32,
 }
 
 // A message's header: what stands in its first 40 bytes and is not settled by the layout.
@@ -24,20 +24,20 @@ pub struct Header {
     pub group: u32,
     pub dependencies: usize,
     pub commands: usize,
-    pub priority: Priority,
+    pub priority: Option<Priority>,
 }
 
 // Block and priority, where byte 1 says that they are given.
-fn read_priority(m: &[u8]) -> Priority
+fn read_priority(m: &[u8]) -> Option<Priority>
     requires { header_size ≤ length m.now }
     ensures { result ≡ priority_in m.now }
 {
     if byte(m, PRIORITY_FLAG_AT) != 1 {
-        return Priority::Absent;
+        return None;
     }
     let block = get_u32(m, BLOCK_AT);
     let priority = get_u32(m, PRIORITY_AT);
-    Priority::Given { block, priority }
+    Some(Priority { block, priority })
 }
 
 // The header of a message that has one. The priority, which branches, is read before the fields that can be read together.
