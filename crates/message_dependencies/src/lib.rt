@@ -2,17 +2,16 @@
 #![tactic(auto)]
 
 ghost use Rattle.std.specs.Prelude.{◌≡◌, ◌≤◌, ◌<◌, length, get_or};
-ghost use Rattle.model.specs.Lists.{has, ascending};
-ghost use Rattle.model.specs.Message.{dependency_count, commands_start, dependencies_of, numbers_right, dependencies_right};
+ghost use Rattle.model.specs.Lists.{has, every, ascending};
+ghost use Rattle.model.specs.Message.{dependency_count, commands_start, dependencies_of, numbered, numbers_right, dependencies_right};
 ghost use Rattle.message_sequence.specs.Sequence.{sequence_number};
-ghost use Rattle.message_header.specs.Check.{right};
+ghost use Rattle.refusals.specs.Refusals.{checked};
+ghost use Rattle.refusals.specs.declared.Refusal.TheVariants.{WrongDependencies, WrongNumber};
 
 use buffer_reads::byte;
 use layout::{DEPENDENCY_COUNT_AT, HEADER_SIZE, SEQUENCE_AT, SEQUENCE_SIZE};
-use message_header::checks::Check;
-use message_sequence::{
-    Predecessor, Sequence, equal, less, number_of, predecessor_of, read_sequence,
-};
+use message_sequence::{Sequence, equal, less, number_of, predecessor_of, read_sequence};
+use refusals::Refusal;
 
 // A message's dependency at a place.
 pub fn dependency(m: &[u8], k: usize) -> Sequence
@@ -28,14 +27,7 @@ pub fn depends_on(m: &[u8], s: Sequence) -> bool
     ensures { result ≡ has (sequence_number s) (dependencies_of m.now) }
 {
     let count = byte(m, DEPENDENCY_COUNT_AT) as usize;
-    let mut k = 0;
-    while k < count {
-        if equal(s, dependency(m, k)) {
-            return true;
-        }
-        k += 1;
-    }
-    false
+    (0..count).any(|k| equal(s, dependency(m, k)))
 }
 
 // Whether the dependencies ascend strictly.
@@ -44,53 +36,39 @@ fn ascends(m: &[u8]) -> bool
     ensures { result ≡ ascending (dependencies_of m.now) }
 {
     let count = byte(m, DEPENDENCY_COUNT_AT) as usize;
-    let mut k = 0;
-    while k + 1 < count {
-        if !less(dependency(m, k), dependency(m, k + 1)) {
-            return false;
-        }
-        k += 1;
-    }
-    true
+    (1..count).all(|k| less(dependency(m, k - 1), dependency(m, k)))
+}
+
+// Whether no dependency has the number 0000.
+fn all_numbered(m: &[u8]) -> bool
+    requires { commands_start (dependency_count m.now) ≤ length m.now }
+    ensures { result ≡ every numbered (dependencies_of m.now) }
+{
+    let count = byte(m, DEPENDENCY_COUNT_AT) as usize;
+    (0..count).all(|k| number_of(dependency(m, k)) != 0)
 }
 
 // Code 4: no sequence number is 0000.
-pub fn check_numbers(m: &[u8]) -> Check
+#[tactic(auto, unfolding(model::specs::Message::numbers_right))]
+pub fn check_numbers(m: &[u8]) -> Result<(), Refusal>
     requires { commands_start (dependency_count m.now) ≤ length m.now }
-    ensures { right result ≡ numbers_right m.now }
+    ensures { result ≡ checked WrongNumber (numbers_right m.now) }
 {
-    if number_of(read_sequence(m, SEQUENCE_AT)) == 0 {
-        return Check::Wrong;
+    if number_of(read_sequence(m, SEQUENCE_AT)) == 0 || !all_numbered(m) {
+        return Err(Refusal::WrongNumber);
     }
-    let count = byte(m, DEPENDENCY_COUNT_AT) as usize;
-    let mut k = 0;
-    while k < count {
-        if number_of(dependency(m, k)) == 0 {
-            return Check::Wrong;
-        }
-        k += 1;
-    }
-    Check::Right
+    Ok(())
 }
 
 // Code 5: dependencies strictly ascending, none the delta's own or its predecessor.
-pub fn check_dependencies(m: &[u8]) -> Check
+#[tactic(auto, unfolding(model::specs::Message::dependencies_right))]
+pub fn check_dependencies(m: &[u8]) -> Result<(), Refusal>
     requires { commands_start (dependency_count m.now) ≤ length m.now }
-    ensures { right result ≡ dependencies_right m.now }
+    ensures { result ≡ checked WrongDependencies (dependencies_right m.now) }
 {
-    if !ascends(m) {
-        return Check::Wrong;
-    }
     let own = read_sequence(m, SEQUENCE_AT);
-    if depends_on(m, own) {
-        return Check::Wrong;
+    if !ascends(m) || depends_on(m, own) || predecessor_of(own).is_some_and(|p| depends_on(m, p)) {
+        return Err(Refusal::WrongDependencies);
     }
-    let before = predecessor_of(own);
-    let Predecessor::Of(p) = before else {
-        return Check::Right;
-    };
-    if depends_on(m, p) {
-        return Check::Wrong;
-    }
-    Check::Right
+    Ok(())
 }
