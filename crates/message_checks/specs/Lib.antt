@@ -1,3 +1,4 @@
 pub mod Content
 pub mod ContentLaws
 pub mod PassLaws
+pub mod Passing

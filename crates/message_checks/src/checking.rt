@@ -1,27 +1,19 @@
 // A message checked by 3 to 6.
 ghost use Rattle.std.specs.Prelude.{◌≡◌};
-ghost use Rattle.model.specs.Message.{passes};
-ghost use Rattle.message_header.specs.Check.{right};
+ghost use Rattle.message_checks.specs.Passing.{message_checked};
 
 use crate::content::check_content;
 use message_dependencies::{check_dependencies, check_numbers};
-use message_header::checks::{Check, check_layout};
+use message_header::checks::check_layout;
+use refusals::Refusal;
 
-// Whether any bytes are a message that passes 3 to 6. Each check asks for what the one before has told.
-pub fn check_message(m: &[u8]) -> Check
-    ensures { right result ≡ passes m.now }
+// Codes 3 to 6, of any bytes: refused by the first that applies. Each check asks for what the one before has told.
+#[tactic(auto, unfolding(crate::specs::Passing::message_checked), using(crate::proofs::Layouts::layouts))]
+pub fn check_message(m: &[u8]) -> Result<(), Refusal>
+    ensures { result ≡ message_checked m.now }
 {
-    let layout = check_layout(m);
-    let Check::Right = layout else {
-        return Check::Wrong;
-    };
-    let numbers = check_numbers(m);
-    let Check::Right = numbers else {
-        return Check::Wrong;
-    };
-    let dependencies = check_dependencies(m);
-    let Check::Right = dependencies else {
-        return Check::Wrong;
-    };
+    check_layout(m)?;
+    check_numbers(m)?;
+    check_dependencies(m)?;
     check_content(m)
 }
