@@ -1,12 +1,11 @@
--- The change of the command at a place, by the three fields read there; and changes kept side by side.
-use Rattle.std.specs.Prelude.{◌≡◌, refl, List, [], ◌∷◌, ℕ, zero, suc, ◌+◌, ◌≤◌, ◌<◌, ℤ, pos, length, take, drop, get_or, set}
+-- The change of the command at a place, by the three fields read there.
+use Rattle.std.specs.Prelude.{◌≡◌, refl, List, [], ◌∷◌, ℕ, zero, suc, ◌+◌, ◌≤◌, ℤ, pos, length, take, drop, get_or}
 use Rattle.std.proofs.Common.{sym, ap, ap₂, ◌∙◌, arith, not-suc-le-zero}
 use Rattle.model.specs.Bytes.{field, integer}
 use Rattle.model.specs.Layout.{command_size, operation_at, tag_at, value_at, value_size}
 use Rattle.model.specs.Message.{value_of}
 use Rattle.model.specs.Setpoints.{Change, operate, change_of}
 use Rattle.laws_wire.specs.BytesLaws.{field_part}
-use Rattle.setpoints_changes.specs.Changes.{changes_in, Room}
 
 -- past the end stands the default
 pub get_d_past : {A : Type 0} (l : List A) (i : ℕ) (d : A) → length l ≤ i → get_or l i d ≡ d
@@ -34,34 +33,3 @@ change_read c at values {operation} {tag} {v} {before} {after} {d} o w t e f fir
 
     found : before ≡ get_or values (field k tag_at 1) (pos 0)
     found = e ∙ ap (λ (n : ℕ). get_or values n (pos 0)) (t ∙ here)
-
--- ---- changes kept: as many as there are of each, one put at a place, and the one at a place
-length_kept : (tags : List ℕ) (before after : List ℤ) (k : ℕ) → k ≤ length tags → k ≤ length before → k ≤ length after → k ≤ length (changes_in tags before after)
-length_kept tags before after zero p q r = omega arith
-length_kept [] before after (suc k) p q r = p
-length_kept (t ∷ tags) [] after (suc k) p q r = q
-length_kept (t ∷ tags) (x ∷ before) [] (suc k) p q r = r
-length_kept (t ∷ tags) (x ∷ before) (z ∷ after) (suc k) p q r =
-    let rest = length_kept tags before after k (omega arith) (omega arith) (omega arith) in omega arith
-
-pub changes_room : {count : ℕ} {tags : List ℕ} {before after : List ℤ} → Room count tags before after → count ≤ length (changes_in tags before after)
-changes_room {count} {tags} {before} {after} r = length_kept tags before after count r.in_tags r.in_before r.in_after
-
-pub changes_set : (tags : List ℕ) (before after : List ℤ) (k : ℕ) (d : Change)
-    → changes_in (set tags k d.tag) (set before k d.before) (set after k d.after) ≡ set (changes_in tags before after) k d
-changes_set [] before after k d = refl
-changes_set (t ∷ tags) [] after zero d = refl
-changes_set (t ∷ tags) [] after (suc k) d = refl
-changes_set (t ∷ tags) (x ∷ before) [] zero d = refl
-changes_set (t ∷ tags) (x ∷ before) [] (suc k) d = refl
-changes_set (t ∷ tags) (x ∷ before) (z ∷ after) zero d = refl
-changes_set (t ∷ tags) (x ∷ before) (z ∷ after) (suc k) d =
-    ap (λ (l : List Change). record { tag = t; before = x; after = z } ∷ l) (changes_set tags before after k d)
-
-pub change_at : (tags : List ℕ) (before after : List ℤ) (k : ℕ) (d : Change) → k < length (changes_in tags before after)
-    → get_or (changes_in tags before after) k d ≡ record { tag = get_or tags k 0; before = get_or before k (pos 0); after = get_or after k (pos 0) }
-change_at [] before after k d h = absurd (not-suc-le-zero h)
-change_at (t ∷ tags) [] after k d h = absurd (not-suc-le-zero h)
-change_at (t ∷ tags) (x ∷ before) [] k d h = absurd (not-suc-le-zero h)
-change_at (t ∷ tags) (x ∷ before) (z ∷ after) zero d h = refl
-change_at (t ∷ tags) (x ∷ before) (z ∷ after) (suc k) d h = change_at tags before after k d (omega arith)
