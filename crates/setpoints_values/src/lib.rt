@@ -21,11 +21,9 @@ fn values_at(b: &[u8], at: usize) -> [i32; TAG_COUNT]
     requires { at + values_size ≤ length b.now }
     ensures { result ≡ values_at at b.now }
 {
-    let mut values = [0i32; TAG_COUNT];
-    let mut tag = 0;
-    while tag < TAG_COUNT {
-        values[tag] = of_word(get_u32(b, at + VALUE_SIZE * tag));
-        tag += 1;
+    let mut values = [0; TAG_COUNT];
+    for (tag, value) in values.iter_mut().enumerate() {
+        *value = of_word(get_u32(b, at + VALUE_SIZE * tag));
     }
     values
 }
@@ -47,10 +45,7 @@ pub fn put_values(image: &mut [u8], values: [i32; TAG_COUNT], at: usize)
     requires { at + value_size * tag_count ≤ length image.old }
     ensures { image.new ≡ paste image.old at (words_of values) (value_size * tag_count) }
 {
-    let mut i = 0;
-    while i < TAG_COUNT {
-        let v = values[i];
-        put_u32(image, at + VALUE_SIZE * i, to_word(v));
-        i += 1;
+    for (i, v) in values.iter().enumerate() {
+        put_u32(image, at + VALUE_SIZE * i, to_word(*v));
     }
 }
