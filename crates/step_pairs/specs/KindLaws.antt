@@ -1,14 +1,14 @@
--- The pairs of a step, by place: of changes, and of changes kept side by side.
-use Rattle.std.specs.Prelude.{◌≡◌, refl, ℕ, zero, suc, ◌-◌, ◌<◌, ℤ, pos, length, take, get_or}
-use Rattle.std.proofs.Common.{sym, ap, ap₂, ◌∙◌, arith, not-suc-le-zero, get_or-take, length-take-le}
+-- The pairs of a step, by place: of changes, and of changes as the code holds them.
+use Rattle.std.specs.Prelude.{◌≡◌, refl, ℕ, zero, suc, ◌-◌, ◌<◌, ℤ, pos, length, get_or}
+use Rattle.std.proofs.Common.{sym, ap, ◌∙◌, arith, not-suc-le-zero}
 use mathlib.Core.List.{List, [], ◌∷◌, ◌++◌, map, reverse, reverse-cons}
 use Rattle.std.proofs.lemmas.List.{length-map, length-reverse, get_or_at}
 use Rattle.std.proofs.Math.ListN.{get_or-append}
 use Rattle.model.specs.Setpoints.{Change}
 use Rattle.model.specs.Steps.{Pair, pair_of}
 use Rattle.laws_order.specs.ListLaws.{get_d_map}
-use Rattle.setpoints_changes.specs.Changes.{changes_in, Room}
-use Rattle.setpoints_changes.specs.ChangeLaws.{changes_room, change_at}
+use Rattle.setpoints_changes.specs.declared.Change.{Change as Held}
+use Rattle.setpoints_changes.specs.Changes.{change_in}
 use Rattle.step_pairs.specs.declared.kinds.Kind.{Kind}
 use Rattle.step_pairs.specs.declared.kinds.Kind.TheVariants.{Undo, Execute}
 use Rattle.step_pairs.specs.Kinds.{place_by, value_by, pairs_by}
@@ -45,33 +45,25 @@ pair_at Undo l k p d h =
     ∙ get_d_map (λ c. pair_of c.tag c.before) l (length l - 1 - k) d p (omega arith)
 pair_at Execute l k p d h = get_d_map (λ c. pair_of c.tag c.after) l k d p h
 
--- ---- of the first changes that are kept side by side
+-- ---- of changes as the code holds them
 abbrev pub no_pair : Pair
 no_pair = pair_of 0 (pos 0)
 
-module _ (kind : Kind) {tags : List ℕ} {before after : List ℤ} {count : ℕ} (room : Room count tags before after) where
-  abbrev kept : List Change
-  kept = take count (changes_in tags before after)
+pub held_count : (kind : Kind) (l : List Held) → length (pairs_by kind (map change_in l)) ≡ length l
+held_count kind l = pairs_count kind (map change_in l) ∙ length-map l change_in
 
-  pub kept_count : length kept ≡ count
-  kept_count = length-take-le count (changes_in tags before after) (changes_room room)
+-- the pair at k is that of the change at its place j
+pub held_pair : (kind : Kind) (l : List Held) (d : Held) {k j : ℕ} {v : ℤ} → k < length l → j ≡ place_by kind (length l) k
+    → v ≡ value_by kind (get_or l j d).before (get_or l j d).after → pair_of (get_or l j d).tag v ≡ get_or (pairs_by kind (map change_in l)) k no_pair
+held_pair kind l d {k} {j} h e f =
+    ap (pair_of (get_or l j d).tag) f
+    ∙ ap (λ (x : Change). pair_of x.tag (value_by kind x.before x.after)) (sym here)
+    ∙ sym (pair_at kind (map change_in l) k no_pair (change_in d) (omega (arith, size)))
+  where
+    size : length (map change_in l) ≡ length l
+    size = length-map l change_in
 
-  -- the pair at k is made of what stands at its place j
-  pub kept_pair : {k j : ℕ} {x z v : ℤ} → k < count → j ≡ place_by kind count k → x ≡ get_or before j (pos 0) → z ≡ get_or after j (pos 0) → v ≡ value_by kind x z
-      → pair_of (get_or tags j 0) v ≡ get_or (pairs_by kind kept) k no_pair
-  kept_pair {k} {j} h e p q f =
-      ap (pair_of (get_or tags j 0)) (f ∙ ap₂ (value_by kind) p q)
-      ∙ ap (λ (c : Change). pair_of c.tag (value_by kind c.before c.after)) (sym here)
-      ∙ sym (pair_at kind kept k no_pair no_change (omega (arith, kept_count)))
-    where
-      no_change : Change
-      no_change = record { tag = 0; before = pos 0; after = pos 0 }
-
-      inside : j < count
-      inside = omega (arith, e, place_inside kind count k h)
-
-      here : get_or kept (place_by kind (length kept) k) no_change ≡ record { tag = get_or tags j 0; before = get_or before j (pos 0); after = get_or after j (pos 0) }
-      here =
-          ap (λ (n : ℕ). get_or kept (place_by kind n k) no_change) kept_count ∙ ap (λ (i : ℕ). get_or kept i no_change) (sym e)
-          ∙ get_or-take count (changes_in tags before after) j no_change inside
-          ∙ change_at tags before after j no_change (omega (arith, inside, changes_room room))
+    here : get_or (map change_in l) (place_by kind (length (map change_in l)) k) (change_in d) ≡ change_in (get_or l j d)
+    here =
+        ap (λ (n : ℕ). get_or (map change_in l) (place_by kind n k) (change_in d)) size ∙ ap (λ (i : ℕ). get_or (map change_in l) i (change_in d)) (sym e)
+        ∙ get_d_map change_in l j d (change_in d) (omega (arith, e, place_inside kind (length l) k h))

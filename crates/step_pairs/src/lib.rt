@@ -3,11 +3,11 @@
 
 pub mod kinds;
 
-ghost use Rattle.std.specs.Prelude.{◌≡◌, ◌+◌, ◌*◌, ◌≤◌, length, take};
+ghost use Rattle.std.specs.Prelude.{◌≡◌, ◌+◌, ◌*◌, ◌≤◌, map, length};
 ghost use Rattle.std.proofs.Math.Seq.{paste};
 ghost use Rattle.model.specs.Layout.{pair_size};
 ghost use Rattle.model.specs.Steps.{pair_of, pair_bytes};
-ghost use Rattle.setpoints_changes.specs.Changes.{changes_in, Room};
+ghost use Rattle.setpoints_changes.specs.Changes.{change_in};
 ghost use Rattle.step_pairs.specs.Kinds.{pairs_by};
 ghost use Rattle.step_pairs.specs.Pairs.{with_pairs};
 
@@ -15,6 +15,7 @@ use crate::kinds::{Kind, listed_value, place_of};
 use buffer_writes::put_u32;
 use layout::{PAIR_SIZE, PAIR_TAG_SIZE};
 use setpoints_arithmetic::integers::to_word;
+use setpoints_changes::Change;
 
 // Writes a pair.
 fn put_pair(steps: &mut [u8], at: usize, tag: u8, value: i32)
@@ -26,24 +27,14 @@ fn put_pair(steps: &mut [u8], at: usize, tag: u8, value: i32)
     put_u32(steps, behind, to_word(value));
 }
 
-// Writes the pairs of so many changes, in the order and with the values of a kind of step.
-pub fn put_pairs(
-    steps: &mut [u8],
-    at: usize,
-    kind: Kind,
-    tags: &[u8],
-    before: &[i32],
-    after: &[i32],
-    count: usize,
-)
-    requires { Room count tags.now before.now after.now × (at + pair_size * count ≤ length steps.old) }
-    ensures { steps.new ≡ with_pairs steps.old at (pairs_by kind (take count (changes_in tags.now before.now after.now))) }
+// Writes the pairs of changes, in the order and with the values of a kind of step.
+pub fn put_pairs(steps: &mut [u8], at: usize, kind: Kind, changes: &[Change])
+    requires { at + pair_size * length changes.now ≤ length steps.old }
+    ensures { steps.new ≡ with_pairs steps.old at (pairs_by kind (map change_in changes.now)) }
 {
-    let mut k = 0;
-    while k < count {
-        let from = place_of(kind, count, k);
-        let value = listed_value(kind, before[from], after[from]);
-        put_pair(steps, at + PAIR_SIZE * k, tags[from], value);
-        k += 1;
+    for k in 0..changes.len() {
+        let change = changes[place_of(kind, changes.len(), k)];
+        let value = listed_value(kind, change.before, change.after);
+        put_pair(steps, at + PAIR_SIZE * k, change.tag, value);
     }
 }
