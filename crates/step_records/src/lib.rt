@@ -13,13 +13,14 @@ ghost use Rattle.step_records.specs.Frame.{framed};
 ghost use Rattle.step_records.specs.Records.{first_by, record_by};
 
 use buffer_reads::byte;
-use buffer_writes::{copy_at, put_u32};
+use buffer_writes::put_u32;
 use layout::{
     COMMAND_COUNT_AT, MOST_COMMANDS, PAIR_SIZE, PAIRS_AT, PAIRS_SIZE, SEQUENCE_AT,
     STEP_SEQUENCE_AT, TAG_COUNT,
 };
 use message_sequence::{Sequence, put_sequence, read_sequence};
 use setpoints::run_delta;
+use setpoints_changes::Change;
 use step_pairs::kinds::Kind;
 use step_pairs::put_pairs;
 
@@ -45,9 +46,8 @@ fn clear_unused(steps: &mut [u8], at: usize, count: usize)
     requires { (count ≤ most_commands) × (at + pairs_size ≤ length steps.old) }
     ensures { steps.new ≡ paste steps.old (at + pair_size * count) (replicate pairs_size 0) (pairs_size - pair_size * count) }
 {
-    let zeros = [0u8; PAIRS_SIZE];
     let used = PAIR_SIZE * count;
-    copy_at(steps, at + used, &zeros, PAIRS_SIZE - used);
+    steps[at + used..at + PAIRS_SIZE].fill(0);
 }
 
 // Writes all of a delta's step but its pairs: what stands before them, and zeros behind them.
@@ -82,12 +82,10 @@ pub fn put_record(
     requires { (at + step_size ≤ length steps.old) × T (passes m.now) }
     ensures { (result ≡ run_delta m.now values) × (steps.new ≡ paste steps.old at (record_bytes (record_by kind m.now values)) step_size) }
 {
-    let mut tags = [0u8; MOST_COMMANDS];
-    let mut before = [0i32; MOST_COMMANDS];
-    let mut after = [0i32; MOST_COMMANDS];
-    let next = run_delta(values, m, &mut tags, &mut before, &mut after);
+    let mut changes = [Change::default(); MOST_COMMANDS];
+    let next = run_delta(values, m, &mut changes);
     put_frame(steps, at, first_byte(kind), m);
     let count = byte(m, COMMAND_COUNT_AT) as usize;
-    put_pairs(steps, at + PAIRS_AT, kind, &tags, &before, &after, count);
+    put_pairs(steps, at + PAIRS_AT, kind, &changes[..count]);
     next
 }
