@@ -1,2 +1,2 @@
-pub mod ConversionTags
 pub mod Numbers
+pub mod Parts

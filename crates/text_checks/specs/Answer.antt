@@ -1,22 +1,15 @@
 -- The answer as the definitions have it: Paper 2's number and length for each case, beside the output buffer afterwards.
-use Rattle.std.specs.Prelude.{◌≡◌, refl, List, ℕ}
+use Rattle.std.specs.Prelude.{◌≡◌, refl, List, ℕ, Result, Ok, Err}
 use Rattle.model.specs.Calls.{Converted}
-use Rattle.text_checks.specs.declared.answer.Conversion.{Conversion}
-use Rattle.text_checks.specs.declared.answer.Conversion.TheVariants as conversion
+use Rattle.refusals.specs.declared.Refusal.{Refusal}
+use Rattle.refusals.specs.Refusals.{code_of}
 
+abbrev pub converted_by : Result ℕ Refusal → List ℕ → Converted
+converted_by (Ok size) buffer = record { code = 0; size = size; buffer = buffer }
 -- a refusal: its number, and no length
-abbrev pub refusal : ℕ → List ℕ → Converted
-refusal code buffer = record { code = code; size = 0; buffer = buffer }
-
-abbrev pub converted_by : Conversion → List ℕ → Converted
-converted_by (conversion.Written size) buffer = record { code = 0; size = size; buffer = buffer }
-converted_by conversion.WrongSize buffer = refusal 1 buffer
-converted_by conversion.WrongForm buffer = refusal 13 buffer
-converted_by conversion.ZeroNumber buffer = refusal 14 buffer
+converted_by (Err why) buffer = record { code = code_of why; size = 0; buffer = buffer }
 
 -- whatever is answered, the buffer is the one that was left
-pub buffer_is : (c : Conversion) (buffer : List ℕ) → buffer ≡ (converted_by c buffer).buffer
-buffer_is (conversion.Written size) buffer = refl
-buffer_is conversion.WrongSize buffer = refl
-buffer_is conversion.WrongForm buffer = refl
-buffer_is conversion.ZeroNumber buffer = refl
+pub buffer_is : (c : Result ℕ Refusal) (buffer : List ℕ) → buffer ≡ (converted_by c buffer).buffer
+buffer_is (Ok size) buffer = refl
+buffer_is (Err why) buffer = refl

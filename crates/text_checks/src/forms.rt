@@ -2,35 +2,32 @@
 ghost use Rattle.std.specs.Prelude.{◌≡◌, ◌/◌, length};
 ghost use Rattle.model.specs.Layout.{sequence_size};
 ghost use Rattle.model.specs.Text.{text_right, sequences_right};
-ghost use Rattle.message_header.specs.Check.{right};
+ghost use Rattle.refusals.specs.Refusals.{checked};
+ghost use Rattle.refusals.specs.declared.Refusal.TheVariants.{WrongForm};
 
-use buffer_sizes::check_pieces;
+use buffer_sizes::whole_pieces;
 use layout::{SEQUENCE_SIZE, SEQUENCES_ROOM, TEXT_PART_SIZE, TEXT_ROOM};
-use message_header::checks::Check;
+use refusals::Refusal;
 use text_digits::digits;
 use text_parts::check_part;
 
 // One to eight sequences, joined by commas.
-pub fn check_text(text: &[u8]) -> Check
-    ensures { right result ≡ text_right text.now }
+#[tactic(auto, using(crate::proofs::Parts::rest))]
+pub fn check_text(text: &[u8]) -> Result<(), Refusal>
+    ensures { result ≡ checked WrongForm (text_right text.now) }
 {
     if TEXT_ROOM < text.len() {
-        return Check::Wrong;
+        return Err(Refusal::WrongForm);
     }
     let count = (text.len() + 1) / TEXT_PART_SIZE;
     if TEXT_PART_SIZE * count != text.len() + 1 {
-        return Check::Wrong;
+        return Err(Refusal::WrongForm);
     }
     let table = digits();
-    let mut k = 0;
-    while k < count {
-        let checked = check_part(&table, text, TEXT_PART_SIZE * k);
-        let Check::Right = checked else {
-            return Check::Wrong;
-        };
-        k += 1;
+    for k in 0..count {
+        check_part(&table, text, TEXT_PART_SIZE * k)?;
     }
-    Check::Right
+    Ok(())
 }
 
 // How many whole sequences any bytes hold.
@@ -41,8 +38,12 @@ pub fn count_sequences(sequences: &[u8]) -> usize
 }
 
 // One to eight sequences, end to end.
-pub fn check_sequences(sequences: &[u8]) -> Check
-    ensures { right result ≡ sequences_right sequences.now }
+#[tactic(auto, unfolding(model::specs::Text::sequences_right), using(buffer_sizes::specs::Pieces::slice_pieces))]
+pub fn check_sequences(sequences: &[u8]) -> Result<(), Refusal>
+    ensures { result ≡ checked WrongForm (sequences_right sequences.now) }
 {
-    check_pieces(sequences.len(), SEQUENCE_SIZE, SEQUENCES_ROOM)
+    if !whole_pieces(sequences.len(), SEQUENCE_SIZE, SEQUENCES_ROOM) {
+        return Err(Refusal::WrongForm);
+    }
+    Ok(())
 }
