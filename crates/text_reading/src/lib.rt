@@ -11,29 +11,26 @@ use crate::parts::read_text;
 use buffer_sizes::check_sequences_room;
 use buffer_writes::copy_at;
 use layout::SEQUENCES_ROOM;
-use message_header::checks::Check;
-use text_checks::answer::Conversion;
+use refusals::Refusal;
 use text_checks::check_numbers;
 use text_checks::forms::check_text;
 
 // Reads one to eight sequences from a text: they stand at the front of their buffer, the rest unchanged. A refusal writes nothing.
-pub fn read_sequences(text: &[u8], sequences: &mut [u8]) -> Conversion
+#[tactic(auto, using(crate::proofs::Checks::by_checks, crate::specs::ReadCases::bytes_are, crate::specs::ReadCases::copied))]
+pub fn read_sequences(text: &[u8], sequences: &mut [u8]) -> Result<usize, Refusal>
     ensures { converted_by result sequences.new ≡ model.read_sequences text.now sequences.old }
 {
-    let room = check_sequences_room(sequences.len());
-    let Check::Right = room else {
-        return Conversion::WrongSize;
+    let Ok(()) = check_sequences_room(sequences.len()) else {
+        return Err(Refusal::WrongSize);
     };
-    let form = check_text(text);
-    let Check::Right = form else {
-        return Conversion::WrongForm;
+    let Ok(()) = check_text(text) else {
+        return Err(Refusal::WrongForm);
     };
     let mut bytes = [0u8; SEQUENCES_ROOM];
     let size = read_text(text, &mut bytes);
-    let numbers = check_numbers(&bytes[..size]);
-    let Check::Right = numbers else {
-        return Conversion::ZeroNumber;
+    let Ok(()) = check_numbers(&bytes[..size]) else {
+        return Err(Refusal::ZeroNumber);
     };
     copy_at(sequences, 0, &bytes, size);
-    Conversion::Written(size)
+    Ok(size)
 }

@@ -13,12 +13,10 @@ fn read_part(table: &[u8; CHARACTER_COUNT], text: &[u8], from: usize, bytes: &mu
     requires { PartReadable table.now text.now from bytes.old at }
     ensures { bytes.new ≡ paste bytes.old at (bytes_in (take characters_size (drop from text.now))) sequence_size }
 {
-    let mut k = 0;
-    while k < SEQUENCE_SIZE {
+    for k in 0..SEQUENCE_SIZE {
         let high = digit(table, text[from + 2 * k]);
         let low = digit(table, text[from + 2 * k + 1]);
         bytes[at + k] = 16 * high + low;
-        k += 1;
     }
 }
 
@@ -29,10 +27,8 @@ pub fn read_text(text: &[u8], bytes: &mut [u8]) -> usize
 {
     let count = (text.len() + 1) / TEXT_PART_SIZE;
     let table = digits();
-    let mut k = 0;
-    while k < count {
+    for k in 0..count {
         read_part(&table, text, TEXT_PART_SIZE * k, bytes, SEQUENCE_SIZE * k);
-        k += 1;
     }
     SEQUENCE_SIZE * count
 }
