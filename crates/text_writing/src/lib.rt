@@ -9,27 +9,23 @@ ghost use Rattle.text_checks.specs.Answer.{converted_by};
 
 use crate::parts::put_text;
 use buffer_sizes::check_text_room;
-use message_header::checks::Check;
-use text_checks::answer::Conversion;
+use refusals::Refusal;
 use text_checks::check_numbers;
 use text_checks::forms::check_sequences;
 
 // Writes the text of one to eight sequences: it stands at the front of its buffer, the rest unchanged. A refusal writes nothing.
-pub fn write_sequences(sequences: &[u8], text: &mut [u8]) -> Conversion
+#[tactic(auto, using(crate::proofs::Checks::by_checks))]
+pub fn write_sequences(sequences: &[u8], text: &mut [u8]) -> Result<usize, Refusal>
     ensures { converted_by result text.new ≡ model.write_sequences sequences.now text.old }
 {
-    let room = check_text_room(text.len());
-    let Check::Right = room else {
-        return Conversion::WrongSize;
+    let Ok(()) = check_text_room(text.len()) else {
+        return Err(Refusal::WrongSize);
     };
-    let form = check_sequences(sequences);
-    let Check::Right = form else {
-        return Conversion::WrongForm;
+    let Ok(()) = check_sequences(sequences) else {
+        return Err(Refusal::WrongForm);
     };
-    let numbers = check_numbers(sequences);
-    let Check::Right = numbers else {
-        return Conversion::ZeroNumber;
+    let Ok(()) = check_numbers(sequences) else {
+        return Err(Refusal::ZeroNumber);
     };
-    let size = put_text(text, sequences);
-    Conversion::Written(size)
+    Ok(put_text(text, sequences))
 }

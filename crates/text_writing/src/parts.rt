@@ -14,12 +14,10 @@ pub fn put_characters(text: &mut [u8], at: usize, sequences: &[u8], from: usize)
     requires { PartWritable text.old at sequences.now from }
     ensures { text.new ≡ paste text.old at (characters_of (take sequence_size (drop from sequences.now))) characters_size }
 {
-    let mut k = 0;
-    while k < SEQUENCE_SIZE {
+    for k in 0..SEQUENCE_SIZE {
         let value = sequences[from + k];
         text[at + 2 * k] = character(value / 16);
         text[at + 2 * k + 1] = character(value % 16);
-        k += 1;
     }
 }
 
@@ -29,11 +27,9 @@ pub fn put_text(text: &mut [u8], sequences: &[u8]) -> usize
     ensures { TextPut sequences.now text.old result text.new }
 {
     let last = count_sequences(sequences) - 1;
-    let mut k = 0;
-    while k < last {
+    for k in 0..last {
         put_characters(text, TEXT_PART_SIZE * k, sequences, SEQUENCE_SIZE * k);
         text[TEXT_PART_SIZE * k + CHARACTERS_SIZE] = COMMA;
-        k += 1;
     }
     put_characters(text, TEXT_PART_SIZE * last, sequences, SEQUENCE_SIZE * last);
     TEXT_PART_SIZE * last + CHARACTERS_SIZE
