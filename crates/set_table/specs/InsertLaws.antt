@@ -1,6 +1,7 @@
 -- A start put in at a place: by moving the later ones, and as a message that joins the set.
 use Rattle.std.specs.Prelude.{◌≡◌, refl, Bool, cond, not, List, [], ◌∷◌, map, ℕ, zero, suc, ◌+◌, ◌-◌, ◌≤◌, ◌<◌, length, take, get_or, set, T, eqb, ltb}
 use Rattle.std.proofs.Common.{sym, ◌∙◌, ap, ap₂, subst, ⊎_elim, arith, le_of_suc-le-suc, length-set, get_or-set_same, get_or-set_other, get_or-take, length-take-le, ext_get_or, ltb→lt, nltb→le, lt-ltb, le-ltb, ne_eqb}
+use Rattle.std.specs.List.{CopiedTo, SameBelow}
 use Rattle.model.specs.Layout.{capacity}
 use Rattle.model.specs.Message.{Message, sequence_of, passes}
 use Rattle.model.specs.Order.{purged, insert}
@@ -64,6 +65,15 @@ moved_more l count i starts m h q = record {
 
     later : (k : ℕ) → i ≤ k → k < count → get_or (set starts i (get_or starts (i - 1) 0)) (suc k) 0 ≡ get_or l k 0
     later k r s = get_or-set_other starts i (suc k) (get_or starts (i - 1) 0) 0 (λ e. let z : ⊥ = omega arith in z) ∙ m.moved k r s
+
+-- as std's copy_within moves them
+pub moved_copied : (l starts : List ℕ) (count p : ℕ) → length starts ≡ length l → CopiedTo l starts p (p + 1) (count - p) → SameBelow l starts (p + 1) → p ≤ count
+    → Moved l count p starts
+moved_copied l starts count p size copied below h = record {
+  size = size;
+  kept = λ k r. below k 0 (omega arith);
+  moved = λ k r s. copied (suc k) 0 (omega arith) (omega arith) ∙ ap (λ (x : ℕ). get_or l x 0) {x = p + (suc k - (p + 1))} {y = k} (omega arith);
+}
 
 pub moved_insert : (l : List ℕ) (count p at : ℕ) (starts : List ℕ) → Moved l count p starts → p ≤ count → count < length l
     → take (count + 1) (set starts p at) ≡ insert_at p at (take count l)

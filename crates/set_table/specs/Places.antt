@@ -1,9 +1,7 @@
 -- Messages by their places; and what `find` answers: the place of a sequence's message, or the place where it would stand.
-use Rattle.std.specs.Prelude.{◌≡◌, List, [], ℕ, ◌≤◌, ◌<◌, length, get_or}
+use Rattle.std.specs.Prelude.{◌≡◌, List, [], ℕ, ◌≤◌, ◌<◌, length, get_or, Result, Ok, Err}
 use Rattle.model.specs.Lists.{◌∈◌}
 use Rattle.model.specs.Message.{sequence_of}
-use Rattle.set_table.specs.declared.places.Place.{Place}
-use Rattle.set_table.specs.declared.places.Place.TheVariants.{Present, Absent}
 use Rattle.set_table.specs.Table.{deltas_of}
 
 -- the sequence of the message at a place
@@ -24,6 +22,6 @@ pub record IsAbsent (pool starts : List ℕ) (s p : ℕ) : Type 0 where
   pub before : (k : ℕ) → k < p → sequence_in pool starts k < s
   pub after : (k : ℕ) → p ≤ k → k < length starts → s < sequence_in pool starts k
 
-abbrev pub Finds : List ℕ → List ℕ → ℕ → Place → Type 0
-Finds pool starts s (Present i) = IsPresent pool starts s i
-Finds pool starts s (Absent p) = IsAbsent pool starts s p
+abbrev pub Finds : List ℕ → List ℕ → ℕ → Result ℕ ℕ → Type 0
+Finds pool starts s (Ok i) = IsPresent pool starts s i
+Finds pool starts s (Err p) = IsAbsent pool starts s p

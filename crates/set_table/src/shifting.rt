@@ -12,22 +12,21 @@ fn shift_place(place: u8, p: usize) -> u8
     ensures { result ≡ shifted p place }
 {
     if p <= place as usize {
-        return place + 1;
+        place + 1
+    } else {
+        place
     }
-    place
 }
 
 // The first count places after a start was put in at p.
+#[tactic(auto, using(crate::proofs::Shifted::shifting))]
 pub fn shift_places(places: [u8; CAPACITY], count: usize, p: usize) -> [u8; CAPACITY]
     requires { (count ≤ capacity) × AllBelow capacity (take count places) }
     ensures { take count result ≡ map (shifted p) (take count places) }
 {
     let mut moved = places;
-    let mut i = 0;
-    while i < count {
-        let place = shift_place(places[i], p);
-        moved[i] = place;
-        i += 1;
+    for place in moved[..count].iter_mut() {
+        *place = shift_place(*place, p);
     }
     moved
 }
