@@ -20,26 +20,22 @@ pub const TOPS_ROOM: usize = SEQUENCE_SIZE * (MOST_FLOORS + CAPACITY);
 fn higher(a: Sequence, b: Sequence) -> Sequence
     ensures { sequence_number result ≡ max (sequence_number a) (sequence_number b) }
 {
-    if less(a, b) {
-        return b;
-    }
-    a
+    if less(a, b) { b } else { a }
 }
 
 // The place of the first top that is on no lower line than a sequence, or the place past all `count` of them.
+#[tactic(auto, using(crate::proofs::Passed::passing))]
 fn top_place(tops: &[u8], count: usize, s: Sequence) -> usize
     requires { (count ≤ most_tops) × (tops_room ≤ length tops.now) }
     ensures { PlaceOf (sequence_number s) (tops_in tops.now count) result }
 {
-    let mut p = 0;
-    while p < count {
+    for p in 0..count {
         let top = read_sequence(tops, SEQUENCE_SIZE * p);
         if !line_below(top, s) {
             return p;
         }
-        p += 1;
     }
-    p
+    count
 }
 
 // Whether the top at a place, if there is one, is on the line of a sequence.
