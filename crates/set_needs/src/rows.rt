@@ -1,11 +1,11 @@
 // What each delta of a table needs, as indices of the table: a row for each, as long as it has needs.
-ghost use Rattle.std.specs.Prelude.{◌≡◌, cond, ◌+◌, ◌*◌, ◌≤◌, ◌<◌, length, set, T};
+ghost use Rattle.std.specs.Prelude.{◌≡◌, map, ◌+◌, ◌*◌, ◌≤◌, ◌<◌, length, T};
 ghost use Rattle.model.specs.Layout.{capacity};
 ghost use Rattle.model.specs.Order.{origin_right, sequences_of};
 ghost use Rattle.model.specs.Image.{origin_in};
 ghost use Rattle.message_sequence.specs.Sequence.{sequence_number};
 ghost use Rattle.set_table.specs.Table.{deltas_of, set_in, Holds};
-ghost use Rattle.set_needs.specs.Names.{names_in, Searchable};
+ghost use Rattle.set_needs.specs.Names.{Searchable};
 ghost use Rattle.set_needs.specs.Rows.{row_size, left_out, row_of, RowFilled, RowsRight};
 
 use crate::sequences::{MISSING, index_of, read_sequences};
@@ -26,65 +26,48 @@ fn is_left_out(pool: &[u8], s: Sequence, index: u8) -> bool
     requires { T (origin_right (origin_in pool.now)) }
     ensures { result ≡ left_out (origin_in pool.now) (sequence_number s) index }
 {
-    if index != MISSING {
-        return false;
-    }
-    is_purged(pool, s)
-}
-
-// Writes an index behind the n of a row that are there, unless it is left out, and answers how many are there now.
-fn add_need(rows: &mut [u8], at: usize, n: usize, index: u8, out: bool) -> usize
-    requires { at + n < length rows.old }
-    ensures { (rows.new ≡ cond out rows.old (set rows.old (at + n) index)) × (result ≡ cond out n (n + 1)) }
-{
-    if out {
-        return n;
-    }
-    rows[at + n] = index;
-    n + 1
+    index == MISSING && is_purged(pool, s)
 }
 
 // Writes the row of a delta from a place on, and answers how long it is.
+#[tactic(auto, using(crate::proofs::Filling::filling))]
 fn fill_row(
     rows: &mut [u8],
     at: usize,
     pool: &[u8],
     starts: &[u16],
     i: usize,
-    high: &[u64],
-    low: &[u32],
+    sequences: &[Sequence],
 ) -> usize
     requires { (at + row_size ≤ length rows.old) × Holds pool.now starts.now × (i < length starts.now)
-        × Searchable high.now low.now × (names_in high.now low.now ≡ sequences_of (deltas_of pool.now starts.now)) }
+        × Searchable sequences.now × (map sequence_number sequences.now ≡ sequences_of (deltas_of pool.now starts.now)) }
     ensures { RowFilled rows.old at (row_of (set_in pool.now starts.now) i) rows.new result }
 {
     let m = message_at(pool, starts, i);
     let count = count_needs(m);
     let mut n = 0;
-    let mut k = 0;
-    while k < count {
+    for k in 0..count {
         let s = need_of(m, k);
-        let index = index_of(high, low, s);
-        let out = is_left_out(pool, s, index);
-        n = add_need(rows, at, n, index, out);
-        k += 1;
+        let index = index_of(sequences, s);
+        if !is_left_out(pool, s, index) {
+            rows[at + n] = index;
+            n += 1;
+        }
     }
     n
 }
 
 // Writes the rows of all deltas of a table, and how long each is.
+#[tactic(auto, using(crate::proofs::Filled::filled))]
 pub fn fill_rows(rows: &mut [u8], counts: &mut [u8], pool: &[u8], starts: &[u16])
     requires { (length rows.old ≡ row_size * capacity) × (length counts.old ≡ capacity) × Holds pool.now starts.now }
     ensures { RowsRight (set_in pool.now starts.now) rows.new counts.new }
 {
-    let mut high = [0u64; CAPACITY];
-    let mut low = [0u32; CAPACITY];
-    read_sequences(&mut high, &mut low, pool, starts);
-    let used = starts.len();
-    let mut i = 0;
-    while i < used {
-        let count = fill_row(rows, ROW * i, pool, starts, i, &high[..used], &low[..used]);
+    let mut sequences = [Sequence { high: 0, low: 0 }; CAPACITY];
+    read_sequences(&mut sequences, pool, starts);
+    let used = &sequences[..starts.len()];
+    for i in 0..starts.len() {
+        let count = fill_row(rows, ROW * i, pool, starts, i, used);
         counts[i] = count as u8;
-        i += 1;
     }
 }
