@@ -21,14 +21,11 @@ pub fn ready(rows: &[u8], counts: &[u8], placed: &[u8], i: usize) -> bool
         return false;
     }
     let from = ROW * i;
-    let count = counts[i] as usize;
-    let mut k = 0;
-    while k < count {
-        let need = rows[from + k] as usize;
-        if placed[need] == 0 {
+    let needs = &rows[from..from + counts[i] as usize];
+    for need in needs {
+        if placed[*need as usize] == 0 {
             return false;
         }
-        k += 1;
     }
     true
 }
@@ -37,25 +34,20 @@ pub fn ready(rows: &[u8], counts: &[u8], placed: &[u8], i: usize) -> bool
 pub fn greater(a: u32, b: u32) -> u32
     ensures { result ≡ max a b }
 {
-    if a < b {
-        return b;
-    }
-    a
+    a.max(b)
 }
 
 // The greatest of a delta's own number and the numbers of its needs.
+#[tactic(auto, using(crate::proofs::Greatest::greatest_so_far))]
 pub fn greatest_along(rows: &[u8], counts: &[u8], numbers: &[u32], i: usize, own: u32) -> u32
     requires { RowFits rows.now counts.now i × (length numbers.now ≡ marks_size) }
     ensures { result ≡ greatest_along rows.now counts.now numbers.now i own }
 {
     let from = ROW * i;
-    let count = counts[i] as usize;
+    let needs = &rows[from..from + counts[i] as usize];
     let mut greatest = own;
-    let mut k = 0;
-    while k < count {
-        let need = rows[from + k] as usize;
-        greatest = greater(greatest, numbers[need]);
-        k += 1;
+    for need in needs {
+        greatest = greater(greatest, numbers[*need as usize]);
     }
     greatest
 }
