@@ -11,6 +11,7 @@ use set_readiness::MARKS;
 
 // Passes over the deltas until a pass places none. Writes the effective blocks of the executable deltas by index of the table, and the
 // order in which they were placed. Answers how many are placed.
+#[tactic(auto, using(crate::proofs::Passes::closes))]
 pub fn close(
     blocks: &mut [u32],
     order: &mut [u8],
@@ -24,8 +25,7 @@ pub fn close(
 {
     let mut placed = [0u8; MARKS];
     let mut count = 0;
-    let mut settled = false;
-    while !settled {
+    loop {
         let next = pass(
             pool,
             starts,
@@ -36,8 +36,9 @@ pub fn close(
             order,
             count,
         );
-        settled = next == count;
+        if next == count {
+            return count;
+        }
         count = next;
     }
-    count
 }

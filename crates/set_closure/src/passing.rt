@@ -6,6 +6,7 @@ ghost use Rattle.set_closure.specs.Closing.{Closing, Passed};
 use crate::placing::try_place;
 
 // Places each delta that is ready when it is looked at. Answers how many are placed.
+#[tactic(auto, using(crate::proofs::Passes::passes))]
 pub fn pass(
     pool: &[u8],
     starts: &[u16],
@@ -20,10 +21,8 @@ pub fn pass(
     ensures { Passed (set_in pool.now starts.now) rows.now counts.now count placed.new blocks.new order.new result }
 {
     let mut n = count;
-    let mut i = 0;
-    while i < starts.len() {
+    for i in 0..starts.len() {
         n = try_place(pool, starts, rows, counts, placed, blocks, order, n, i);
-        i += 1;
     }
     n
 }
