@@ -9,17 +9,16 @@ use message_header::header::read_header;
 use set_table::entry::message_at;
 
 // Writes the keys of the deltas at these indices, each with its effective block.
+#[tactic(auto, using(crate::proofs::Making::making))]
 pub fn fill_keys(keys: &mut [u64], pool: &[u8], starts: &[u16], blocks: &[u32], indices: &[u8])
     requires { Keyed keys.old × Holds pool.now starts.now × (length blocks.now ≡ marks_size) × InTable starts.now indices.now }
     ensures { KeysMade (deltas_of pool.now starts.now) blocks.now indices.now keys.new }
 {
-    let mut k = 0;
-    while k < indices.len() {
-        let i = indices[k] as usize;
+    for index in indices {
+        let i = *index as usize;
         let header = read_header(message_at(pool, starts, i));
         let priority = header.priority;
         let key = make_key(blocks[i], priority, header);
         put_key(keys, i, key);
-        k += 1;
     }
 }
