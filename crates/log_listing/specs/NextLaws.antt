@@ -1,5 +1,5 @@
 -- The first by key that is ready is the one that comes next.
-use Rattle.std.specs.Prelude.{◌≡◌, refl, true, false, not, List, [], ℕ, ◌+◌, ◌≤◌, ◌<◌, length, get_or, set, T, eqb, ltb}
+use Rattle.std.specs.Prelude.{Option as Found, Some, None, ◌≡◌, refl, true, false, not, List, [], ℕ, ◌+◌, ◌≤◌, ◌<◌, length, get_or, set, T, eqb, ltb}
 use Rattle.std.proofs.Common.{sym, ◌∙◌, ap, ap₂, subst, ⊎_elim, arith, get_or-set_same, get_or-set_other, eqb→eq, ltb→lt, nltb→le}
 use Rattle.std.proofs.Math.Option.{Option, some, none}
 use Rattle.model.specs.Lists.{◌∈◌, keep}
@@ -16,8 +16,6 @@ use Rattle.set_needs.specs.Rows.{RowsRight}
 use Rattle.set_readiness.specs.Ready.{is_placed, ready_in, Placing}
 use Rattle.set_readiness.specs.ReadyLaws.{ready_is, ready_marked}
 use Rattle.log_prepared.specs.Keys.{KeysRight}
-use Rattle.log_listing.specs.declared.next.Next.{Next}
-use Rattle.log_listing.specs.declared.next.Next.TheVariants.{At, Nothing}
 use Rattle.log_sorting.specs.Sorted.{Sorted}
 use Rattle.log_listing.specs.Next.{Skips, FirstReady, Picks, NextRight}
 
@@ -54,7 +52,7 @@ module _ (S : State) (right : RightSet S) (rows counts keys sorted placed : List
         (subst T (sym t ∙ ready_is S placed l p rows counts rr i h) tt)
 
     -- nothing is ready
-    stuck : FirstReady rows counts sorted placed from Nothing → Stuck sequence_of (needs S) S.deltas (placed_by l)
+    stuck : FirstReady rows counts sorted placed from None → Stuck sequence_of (needs S) S.deltas (placed_by l)
     stuck f a k t =
         let r = ∈_get_d [] k in
         let at = by_key.has r.0 r.1 in
@@ -62,7 +60,7 @@ module _ (S : State) (right : RightSet S) (rows counts keys sorted placed : List
         let z : true ≡ false = sym yes ∙ ap (ready_in rows counts placed) (sym at.2) ∙ f at.0 (not_passed at.0 r.0 at.2 yes) (omega (arith, at.1)) in
         subst T z tt
 
-    picks_none : FirstReady rows counts sorted placed from Nothing → Picks S (placed_by l) Nothing
+    picks_none : FirstReady rows counts sorted placed from None → Picks S (placed_by l) None
     picks_none f = record { lowest = go (L.lowest_of (key_of S) less (keep (ready S (placed_by l)) S.deltas)) (next_is sequence_of (needs S) (key_of S) less less_total S.deltas (placed_by l)); within = tt }
       where
         go : (o : Option Message) → Next? sequence_of (needs S) (key_of S) less less_total S.deltas (placed_by l) o → none ≡ o
@@ -70,7 +68,7 @@ module _ (S : State) (right : RightSet S) (rows counts keys sorted placed : List
         go (some a) h = absurd (stuck f a h.of h.is_ready)
 
     -- one is
-    module _ (i : ℕ) (f : FirstReady rows counts sorted placed from (At i)) where
+    module _ (i : ℕ) (f : FirstReady rows counts sorted placed from (Some i)) where
       inside : i < length S.deltas
       inside = omega (arith, by_key.inside f.0 (omega (arith, f.1)), f.2)
 
@@ -98,7 +96,7 @@ module _ (S : State) (right : RightSet S) (rows counts keys sorted placed : List
               (λ u. let z : true ≡ false = sym sure ∙ ap (ready_in rows counts placed) (sym e) ∙ f.4 q (not_passed q j e sure) (ltb→lt q f.0 u) in absurd (subst T z tt))
               (λ u. nltb→le q f.0 u) (decide (ltb q f.0))
 
-      picks_one : Picks S (placed_by l) (At i)
+      picks_one : Picks S (placed_by l) (Some i)
       picks_one = record { lowest = go (L.lowest_of (key_of S) less (keep (ready S (placed_by l)) S.deltas)) (next_is sequence_of (needs S) (key_of S) less less_total S.deltas (placed_by l)); within = inside }
         where
           of : get_or S.deltas i [] ∈ S.deltas
@@ -111,6 +109,6 @@ module _ (S : State) (right : RightSet S) (rows counts keys sorted placed : List
               let yes : ready_in rows counts placed r.0 ≡ true = ready_at r.0 r.1 (subst (λ (x : Message). T (ready S (placed_by l) x)) (sym r.2) h.is_ready) in
               ap some (keys_differ S right.ascends m a of h.of (less_total.tri (key_of S m) (key_of S a) (h.is_least m of is_ready) (subst (λ (x : Message). T (not (less (key_of S x) (key_of S m)))) r.2 (least r.0 r.1 yes))))
 
-  pub next_right : (r : Next) → FirstReady rows counts sorted placed from r → NextRight S placed r
-  next_right (At i) f l p = picks_one l p i f
-  next_right Nothing f l p = picks_none l p f
+  pub next_right : (r : Found ℕ) → FirstReady rows counts sorted placed from r → NextRight S placed r
+  next_right (Some i) f l p = picks_one l p i f
+  next_right None f l p = picks_none l p f

@@ -1,5 +1,5 @@
 -- The log grows by the delta that comes next, and is whole when none comes or all are placed.
-use Rattle.std.specs.Prelude.{◌≡◌, refl, ℕ, ◌+◌, ◌-◌, ◌≤◌, ◌<◌, set, replicate}
+use Rattle.std.specs.Prelude.{Option as Found, Some, None, ◌≡◌, refl, ℕ, ◌+◌, ◌-◌, ◌≤◌, ◌<◌, set, replicate}
 use Rattle.std.proofs.Math.Path.{sym, ap}
 use Rattle.std.proofs.Common.{◌∙◌, subst, ⊎_elim, arith, length-append, length-take-le}
 use mathlib.Core.List.Memᴰ
@@ -17,8 +17,6 @@ use Rattle.set_readiness.specs.Ready.{marks_size, Placing}
 use Rattle.set_closure.specs.ClosingLaws.{placing_none, placing_more}
 use Rattle.log_order.specs.declared.LogOrder.{LogOrder}
 use Rattle.log_order.specs.LogOrder.{places_of, OrderRight, Placed}
-use Rattle.log_listing.specs.declared.next.Next.{Next}
-use Rattle.log_listing.specs.declared.next.Next.TheVariants.{At, Nothing}
 use Rattle.log_listing.specs.Next.{delta_of, Picks, NextRight}
 use Rattle.log_listing.specs.Ordered.{Ordered, Grows, Growing}
 
@@ -33,26 +31,26 @@ module _ (S : State) (right : RightSet S) where
     before = deltas_at S.deltas places
 
     -- what the pick says of the delta that comes next, or that none does
-    picked : (r : Next) → Picks S (placed_by before) r → Next? sequence_of (needs S) (key_of S) less less_total S.deltas (placed_by before) (delta_of S.deltas r)
+    picked : (r : Found ℕ) → Picks S (placed_by before) r → Next? sequence_of (needs S) (key_of S) less less_total S.deltas (placed_by before) (delta_of S.deltas r)
     picked r x = subst (Next? sequence_of (needs S) (key_of S) less less_total S.deltas (placed_by before)) (sym x.lowest) (next_is sequence_of (needs S) (key_of S) less less_total S.deltas (placed_by before))
 
     -- the next one is placed
-    grows_more : (i : ℕ) → Picks S (placed_by before) (At i) → Grows S (set placed i 1) (k + 1) (places ++ i ∷ [])
+    grows_more : (i : ℕ) → Picks S (placed_by before) (Some i) → Grows S (set placed i 1) (k + 1) (places ++ i ∷ [])
     grows_more i x = record {
       count = length-append places (i ∷ []) ∙ ap (λ (n : ℕ). n + 1) g.count;
       within = λ j m. ⊎_elim (λ q. g.within j q) (λ q. subst (λ (n : ℕ). n < length S.deltas) (sym (Memᴰ.eq_of_singleton q)) x.within) (Memᴰ.append_cases places m);
-      placing = subst (Placing S (set placed i 1)) (sym more) (placing_more S right i x.within placed 1 (λ e. let z : ⊥ = omega arith in z) before (picked (At i) x).is_ready g.placing);
+      placing = subst (Placing S (set placed i 1)) (sym more) (placing_more S right i x.within placed 1 (λ e. let z : ⊥ = omega arith in z) before (picked (Some i) x).is_ready g.placing);
       greedy = subst (Greedy sequence_of (needs S) (key_of S) less less_total S.deltas []) (sym more)
-          (greedy_snoc sequence_of (needs S) (key_of S) less less_total S.deltas before [] (get_or S.deltas i []) g.greedy (picked (At i) x));
+          (greedy_snoc sequence_of (needs S) (key_of S) less less_total S.deltas before [] (get_or S.deltas i []) g.greedy (picked (Some i) x));
     }
       where
         more : deltas_at S.deltas (places ++ i ∷ []) ≡ deltas_at S.deltas places ++ get_or S.deltas i [] ∷ []
         more = map-append (λ j. get_or S.deltas j []) places (i ∷ [])
 
     -- none comes next
-    grows_stuck : Picks S (placed_by before) Nothing → before ≡ log_of S
+    grows_stuck : Picks S (placed_by before) None → before ≡ log_of S
     unfolding log_of
-    grows_stuck x = sym (greedy_first sequence_of (needs S) (key_of S) less less_total S.deltas (keys_differ S right.ascends) before g.greedy (picked Nothing x))
+    grows_stuck x = sym (greedy_first sequence_of (needs S) (key_of S) less less_total S.deltas (keys_differ S right.ascends) before g.greedy (picked None x))
 
     -- all are placed
     grows_full : length S.deltas ≤ k → before ≡ log_of S
@@ -76,7 +74,7 @@ module _ (S : State) (right : RightSet S) where
 
     module _ (placed : List ℕ) (log : LogOrder) (k : ℕ) (g : Growing S begun placed log k) where
       -- a delta is placed
-      pub growing_more : k < length S.deltas → (i : ℕ) → NextRight S placed (At i) → (longer : LogOrder) → Placed log i longer
+      pub growing_more : k < length S.deltas → (i : ℕ) → NextRight S placed (Some i) → (longer : LogOrder) → Placed log i longer
           → Growing S begun (set placed i 1) longer (k + 1)
       growing_more room i x longer p = record {
         inside = omega arith;
@@ -89,14 +87,14 @@ module _ (S : State) (right : RightSet S) where
       }
 
       -- a delta that comes next is of the table
-      pub next_inside : (i : ℕ) → NextRight S placed (At i) → i < length S.deltas
+      pub next_inside : (i : ℕ) → NextRight S placed (Some i) → i < length S.deltas
       next_inside i x = (x (deltas_at S.deltas (places_of log)) g.grows.placing).within
 
       -- none comes next, or all are placed
       whole : deltas_at S.deltas (places_of log) ≡ log_of S → Ordered S begun log
       whole e = record { log = e; within = g.grows.within; right = g.right; olds = g.olds; size = g.size }
 
-      pub growing_stuck : NextRight S placed Nothing → Ordered S begun log
+      pub growing_stuck : NextRight S placed None → Ordered S begun log
       growing_stuck x = whole (grows_stuck placed k (places_of log) g.grows (x (deltas_at S.deltas (places_of log)) g.grows.placing))
 
       pub growing_full : length S.deltas ≤ k → Ordered S begun log

@@ -5,7 +5,7 @@ ghost use Rattle.log_order.specs.LogOrder.{places_of, OrderRight};
 ghost use Rattle.log_prepared.specs.Keys.{PreparedRight};
 ghost use Rattle.log_listing.specs.Ordered.{Ordered};
 
-use crate::next::{Next, first_ready, skip_placed};
+use crate::next::{first_ready, skip_placed};
 use log_order::LogOrder;
 use log_sorting::sort_by_key;
 use set_readiness::MARKS;
@@ -24,20 +24,17 @@ pub fn order(
 {
     let used = starts.len();
     let sorted = sort_by_key(keys, used);
+    let by_key = &sorted[..used];
     let mut placed = [0u8; MARKS];
     let mut log = begun;
     let mut first = 0;
-    let mut k = 0;
-    while k < used {
-        first = skip_placed(&sorted[..used], &placed, first);
-        let found = first_ready(rows, counts, &sorted[..used], &placed, first);
-        let Next::At(i) = found else {
+    for _ in 0..used {
+        first = skip_placed(by_key, &placed, first);
+        let Some(i) = first_ready(rows, counts, by_key, &placed, first) else {
             return log;
         };
-        let longer = log.place(i as u8);
-        log = longer;
         placed[i] = 1;
-        k += 1;
+        log = log.place(i as u8);
     }
     log
 }
