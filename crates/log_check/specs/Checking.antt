@@ -1,10 +1,10 @@
 -- A log that is there already, as places of a table: whether it is the log of the set, and what holds while that is checked.
-use Rattle.std.specs.Prelude.{◌≡◌, List, [], ℕ, ◌+◌, ◌≤◌, ◌<◌, length, get_or, take, T}
+use Rattle.std.specs.Prelude.{◌≡◌, List, [], ℕ, ◌+◌, ◌≤◌, ◌<◌, length, get_or, take, T, Result, Ok, Err}
 use Rattle.model.specs.Lists.{◌∈◌}
 use Rattle.model.specs.Layout.{capacity}
 use Rattle.model.specs.Order.{State, placed_by, ready, less, log_of}
-use Rattle.message_header.specs.declared.checks.Check.{Check}
-use Rattle.message_header.specs.declared.checks.Check.TheVariants.{Right, Wrong}
+use Rattle.refusals.specs.declared.Refusal.{Refusal}
+use Rattle.refusals.specs.declared.Refusal.TheVariants.{NoImage}
 use Rattle.set_table.specs.Table.{deltas_at}
 use Rattle.set_readiness.specs.Ready.{marks_size, Placing}
 use Rattle.log_check.specs.Above.{key_at}
@@ -14,9 +14,9 @@ pub record Inside (S : State) (places : List ℕ) : Type 0 where
   pub few : length places ≤ capacity
   pub small : (i : ℕ) → i ∈ places → i < length S.deltas
 
-abbrev pub ChecksLog : State → List ℕ → Check → Type 0
-ChecksLog S places Right = deltas_at S.deltas places ≡ log_of S
-ChecksLog S places Wrong = deltas_at S.deltas places ≡ log_of S → ⊥
+abbrev pub ChecksLog : State → List ℕ → Result (Unit {0}) Refusal → Type 0
+ChecksLog S places (Ok done) = deltas_at S.deltas places ≡ log_of S
+ChecksLog S places (Err why) = (why ≡ NoImage) × (deltas_at S.deltas places ≡ log_of S → ⊥)
 
 -- What holds where the loop of `check_log` tests: the deltas at the first k places were placed one after the other, `ends` has one
 -- more than the place of each, and from `froms` on all keys before it are below its own.

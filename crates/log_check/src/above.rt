@@ -10,6 +10,7 @@ pub fn above(keys: &[u64], places: &[u8], froms: &[u8], from: usize, k: usize) -
     ensures { Above keys.now places.now from k result }
 {
     let last = places[k] as usize;
+    // A while: the end leaps back to where an earlier delta was ready from, it is not counted down.
     let mut end = k;
     while from < end {
         let q = end - 1;

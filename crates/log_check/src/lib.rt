@@ -11,7 +11,7 @@ ghost use Rattle.log_check.specs.Checking.{Inside, ChecksLog};
 use crate::above::above;
 use crate::waiting::{any_ready, ready_from};
 use layout::CAPACITY;
-use message_header::checks::Check;
+use refusals::Refusal;
 use set_readiness::{MARKS, ready};
 
 // Places the deltas of the log one after the other. Each has to be ready, and its key above those of all that stand at or behind
@@ -23,30 +23,28 @@ pub fn check_log(
     counts: &[u8],
     keys: &[u64],
     places: &[u8],
-) -> Check
+) -> Result<(), Refusal>
     requires { Holds pool.now starts.now × PreparedRight (set_in pool.now starts.now) rows.now counts.now keys.now × Inside (set_in pool.now starts.now) places.now }
     ensures { ChecksLog (set_in pool.now starts.now) places.now result }
 {
     let mut placed = [0u8; MARKS];
     let mut ends = [0u32; MARKS];
     let mut froms = [0u8; CAPACITY];
-    let mut k = 0;
-    while k < places.len() {
-        let i = places[k] as usize;
+    for (k, place) in places.iter().enumerate() {
+        let i = *place as usize;
         if !ready(rows, counts, &placed, i) {
-            return Check::Wrong;
+            return Err(Refusal::NoImage);
         }
         let from = ready_from(rows, counts, &ends, i);
         if !above(keys, places, &froms, from as usize, k) {
-            return Check::Wrong;
+            return Err(Refusal::NoImage);
         }
         placed[i] = 1;
         froms[k] = from as u8;
-        k += 1;
-        ends[i] = k as u32;
+        ends[i] = (k + 1) as u32;
     }
     if any_ready(rows, counts, &placed, starts.len()) {
-        return Check::Wrong;
+        return Err(Refusal::NoImage);
     }
-    Check::Right
+    Ok(())
 }

@@ -19,12 +19,10 @@ pub fn any_ready(rows: &[u8], counts: &[u8], placed: &[u8], count: usize) -> boo
     requires { AllFit rows.now counts.now count × (length placed.now ≡ marks_size) }
     ensures { AnyReady rows.now counts.now placed.now count result }
 {
-    let mut i = 0;
-    while i < count {
+    for i in 0..count {
         if ready(rows, counts, placed, i) {
             return true;
         }
-        i += 1;
     }
     false
 }
