@@ -1,2 +1,4 @@
-pub mod Numbers
+pub mod BaseValues
 pub mod Parts
+pub mod Places
+pub mod Unpurged
