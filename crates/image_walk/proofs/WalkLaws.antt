@@ -1,6 +1,6 @@
 -- The walk, place by place: the value that it carries is the offset of the place, and the message of the place starts there. What can't be
 -- walked is no image.
-use Rattle.std.specs.Prelude.{◌≡◌, false, List, [], ◌∷◌, ◌++◌, ℕ, ◌+◌, ◌≤◌, ◌<◌, length, take, get_or, set, T, ltb}
+use Rattle.std.specs.Prelude.{◌≡◌, refl, false, List, [], ◌∷◌, ◌++◌, ℕ, ◌+◌, ◌≤◌, ◌<◌, length, take, get_or, set, T, ltb, Result, Ok, Err}
 use Rattle.std.proofs.Common.{sym, ◌∙◌, ap, subst, ⊎_elim, arith, length-take, length-take-le, take_all, get_or-take, get_or-set_same, get_or-set_other, ltb→lt, nltb→le}
 use mathlib.Core.List.Memᴰ
 use Rattle.model.specs.Lists.{◌∈◌}
@@ -12,8 +12,8 @@ use Rattle.laws_order.specs.TestLaws.{decide, false_of}
 use Rattle.laws_order.specs.ListLaws.{get_d_∈, take_next}
 use Rattle.laws_state.specs.ImageSetLaws.{image_messages}
 use Rattle.laws_state.specs.OffsetLaws.{offset_first, offset_next, count_messages, message_in, message_of, offset_used}
-use Rattle.message_header.specs.declared.checks.Check.{Check}
-use Rattle.message_header.specs.declared.checks.Check.TheVariants.{Right, Wrong}
+use Rattle.refusals.specs.declared.Refusal.{Refusal}
+use Rattle.refusals.specs.declared.Refusal.TheVariants.{NoImage}
 use Rattle.set_table.specs.Table.{message_from}
 use Rattle.set_table.specs.TableLaws.{Lies, passes_lies}
 use Rattle.image_walk.specs.declared.Walk.{Walk}
@@ -86,15 +86,15 @@ pub too_many : (b : List ℕ) → capacity < count_in b → Walkable b → ⊥
 too_many b h w = omega (arith, w.fits)
 
 -- ---- by the answer
-pub wrong_walks : (b : List ℕ) (w : Walk) → w.check ≡ Wrong → (Walkable b → ⊥) → Walks b w
-wrong_walks b w e h = subst (λ (k : Check). Walks b (record { check = k; offsets = w.offsets; count = w.count })) (sym e) h
+pub wrong_walks : (b : List ℕ) (r : Result Walk Refusal) → r ≡ Err NoImage → (Walkable b → ⊥) → Walks b r
+wrong_walks b r e h = subst (Walks b) (sym e) (refl, h)
 
-pub walks_right : (b : List ℕ) (w : Walk) → Walks b w → w.check ≡ Right → Walkable b × (w.count ≡ count_in b) × Offsets b (count_in b) (offsets_of w)
-walks_right b w h e = subst (λ (k : Check). Walks b (record { check = k; offsets = w.offsets; count = w.count })) e h
+pub walks_right : (b : List ℕ) (r : Result Walk Refusal) (w : Walk) → Walks b r → r ≡ Ok w → Walkable b × (w.count ≡ count_in b) × Offsets b (count_in b) (offsets_of w)
+walks_right b r w h e = subst (Walks b) e h
 
 -- an image can be walked, so that what can't be is none
-pub walks_wrong : (b : List ℕ) (w : Walk) → Walks b w → w.check ≡ Wrong → is_image b ≡ false
-walks_wrong b w h e = false_of (is_image b) (λ t. subst (λ (k : Check). Walks b (record { check = k; offsets = w.offsets; count = w.count })) e h (record {
+pub walks_wrong : (b : List ℕ) (r : Result Walk Refusal) (why : Refusal) → Walks b r → r ≡ Err why → is_image b ≡ false
+walks_wrong b r why h e = let f = subst (Walks b) e h in false_of (is_image b) (λ t. f.1 (record {
   fits = (image_messages b t).fits;
   pass = (image_messages b t).pass;
   used = ap (message_offset b) (sym (count_messages b)) ∙ offset_used b t;
@@ -117,3 +117,5 @@ offsets_front b offsets count n o h = record {
   count = length-take-le n offsets (omega (arith, o.count, length-take count offsets));
   each = λ k i. get_or-take n offsets k 0 i ∙ sym (get_or-take count offsets k 0 (omega (arith, o.count, length-take count offsets))) ∙ o.each k (omega arith);
 }
+
+pub ruleset refused = (too_many, other_end, wrong_walks)

@@ -1,15 +1,13 @@
 -- What the walk over an image's messages answers, and what holds on its way.
-use Rattle.std.specs.Prelude.{◌≡◌, false, List, ℕ, ◌+◌, ◌≤◌, ◌<◌, length, take, get_or, T}
+use Rattle.std.specs.Prelude.{◌≡◌, false, List, ℕ, ◌+◌, ◌≤◌, ◌<◌, length, take, get_or, T, Result, Ok, Err}
 use Rattle.model.specs.Lists.{◌∈◌}
 use Rattle.model.specs.Bytes.{field}
 use Rattle.model.specs.Layout.{length_at, capacity}
 use Rattle.model.specs.Message.{Message, passes}
 use Rattle.model.specs.Image.{log_count, held_count, used_count, messages_in, message_offset}
-use Rattle.message_header.specs.declared.checks.Check.{Check}
-use Rattle.message_header.specs.declared.checks.Check.TheVariants.{Right, Wrong}
+use Rattle.refusals.specs.declared.Refusal.{Refusal}
+use Rattle.refusals.specs.declared.Refusal.TheVariants.{NoImage}
 use Rattle.set_table.specs.Table.{message_from}
-use Rattle.image_walk.specs.declared.End.{End}
-use Rattle.image_walk.specs.declared.End.TheVariants.{At, Refused}
 use Rattle.image_walk.specs.declared.Walk.{Walk}
 
 -- how many messages an image says it has
@@ -17,9 +15,9 @@ abbrev pub count_in : List ℕ → ℕ
 count_in b = log_count b + held_count b
 
 -- where the message at an offset ends, refused where nothing there passes 3 to 6
-abbrev pub Ends : List ℕ → ℕ → End → Type 0
-Ends b at (At end) = T (passes (message_from b at)) × (end ≡ at + field b (at + length_at) 2)
-Ends b at Refused = passes (message_from b at) ≡ false
+abbrev pub Ends : List ℕ → ℕ → Result ℕ Refusal → Type 0
+Ends b at (Ok end) = T (passes (message_from b at)) × (end ≡ at + field b (at + length_at) 2)
+Ends b at (Err why) = (why ≡ NoImage) × (passes (message_from b at) ≡ false)
 
 -- What holds where the loop of `walk_messages` tests: the value that it carries is the offset of the place.
 pub record Walking (b offsets : List ℕ) (at place : ℕ) : Type 0 where
@@ -47,9 +45,6 @@ LogOffsets b offsets = Offsets b (log_count b) offsets
 abbrev pub offsets_of : Walk → List ℕ
 offsets_of w = take w.count w.offsets
 
-abbrev WalkedBy : List ℕ → Check → Walk → Type 0
-WalkedBy b Right w = Walkable b × (w.count ≡ count_in b) × Offsets b (count_in b) (offsets_of w)
-WalkedBy b Wrong w = Walkable b → ⊥
-
-abbrev pub Walks : List ℕ → Walk → Type 0
-Walks b w = WalkedBy b w.check w
+abbrev pub Walks : List ℕ → Result Walk Refusal → Type 0
+Walks b (Ok w) = Walkable b × (w.count ≡ count_in b) × Offsets b (count_in b) (offsets_of w)
+Walks b (Err why) = (why ≡ NoImage) × (Walkable b → ⊥)
