@@ -1,5 +1,5 @@
 -- The messages of an image are taken in one by one: the first i of them make up the table.
-use Rattle.std.specs.Prelude.{◌≡◌, true, false, List, [], ◌∷◌, ◌++◌, ℕ, suc, ◌+◌, ◌≤◌, ◌<◌, length, take, drop, get_or, T}
+use Rattle.std.specs.Prelude.{◌≡◌, refl, true, false, List, [], ◌∷◌, ◌++◌, ℕ, suc, ◌+◌, ◌≤◌, ◌<◌, length, take, drop, get_or, T, Result, Err}
 use Rattle.std.proofs.Common.{sym, ◌∙◌, ap, subst, ⊎_elim, arith, take_all}
 use mathlib.Core.List.Memᴰ
 use Rattle.std.proofs.Math.Seq.{split_at}
@@ -12,9 +12,9 @@ use Rattle.laws_order.specs.ListLaws.{get_d_∈, take_next}
 use Rattle.laws_state.specs.SetLaws.{insert_from, insert_keeps, insert_has, set_of_same}
 use Rattle.laws_state.specs.ImageSetLaws.{image_messages, distinct_places}
 use Rattle.laws_state.specs.OffsetLaws.{count_messages}
-use Rattle.message_header.specs.declared.checks.Check.{Check}
-use Rattle.message_header.specs.declared.checks.Check.TheVariants.{Wrong}
-use Rattle.image_table.specs.declared.TableReading.{TableReading}
+use Rattle.refusals.specs.declared.Refusal.{Refusal}
+use Rattle.refusals.specs.declared.Refusal.TheVariants.{NoImage}
+use Rattle.set_table.specs.declared.Table.{Table}
 use Rattle.image_table.specs.TableReading.{known, unfit, ReadsTable}
 use Rattle.set_table.specs.Table.{message_from, deltas_of, set_in, Holds}
 use Rattle.image_walk.specs.Walk.{count_in}
@@ -88,6 +88,6 @@ module _ (b : List ℕ) (i : ℕ) (starts : List ℕ) (g : Gathered b i starts) 
       holds = holds;
     }
 
--- ---- the answers by their checks
-pub wrong_reads : (b : List ℕ) (r : TableReading) → r.check ≡ Wrong → is_image b ≡ false → ReadsTable b r
-wrong_reads b r e h = subst (λ (k : Check). ReadsTable b (record { check = k; table = r.table })) (sym e) h
+-- ---- a refusal
+pub wrong_reads : (b : List ℕ) (r : Result Table Refusal) → r ≡ Err NoImage → is_image b ≡ false → ReadsTable b r
+wrong_reads b r e h = subst (ReadsTable b) (sym e) (refl, h)

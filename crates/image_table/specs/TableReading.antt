@@ -1,17 +1,16 @@
 -- What reading an image's messages into a table answers.
-use Rattle.std.specs.Prelude.{◌≡◌, Bool, true, false, ◌||◌, List, ℕ, ◌+◌, ◌≤◌, T}
+use Rattle.std.specs.Prelude.{◌≡◌, Bool, true, false, ◌||◌, List, ℕ, ◌+◌, ◌≤◌, T, Result, Ok, Err}
 use Rattle.model.specs.Lists.{has}
 use Rattle.model.specs.Layout.{capacity}
 use Rattle.model.specs.Message.{sequence_of, passes}
 use Rattle.model.specs.Order.{purged, insert, sequences_of}
 use Rattle.model.specs.Image.{log_count, held_count, messages_in, state_in, is_image}
 use Rattle.laws_order.specs.TestLaws.{Same}
-use Rattle.message_header.specs.declared.checks.Check.{Check}
-use Rattle.message_header.specs.declared.checks.Check.TheVariants.{Right, Wrong}
+use Rattle.refusals.specs.declared.Refusal.{Refusal}
+use Rattle.refusals.specs.declared.Refusal.TheVariants.{NoImage}
 use Rattle.message_sequence.specs.declared.Sequence.{Sequence}
 use Rattle.message_sequence.specs.Sequence.{sequence_number}
 use Rattle.set_table.specs.declared.Table.{Table}
-use Rattle.image_table.specs.declared.TableReading.{TableReading}
 use Rattle.set_table.specs.Table.{starts_of, message_from, deltas_of, set_in, Holds}
 
 -- ---- one message
@@ -32,9 +31,9 @@ pub record IsTaken (b starts : List ℕ) (at : ℕ) (next : List ℕ) : Type 0 w
   pub holds : Holds b next
   pub deltas : deltas_of b next ≡ insert (message_from b at) (deltas_of b starts)
 
-abbrev pub TakesIn : List ℕ → List ℕ → ℕ → Check → List ℕ → Type 0
-TakesIn b starts at Right next = IsTaken b starts at next
-TakesIn b starts at Wrong next = unfit b starts at ≡ true
+abbrev pub TakesIn : List ℕ → List ℕ → ℕ → Result (Unit {0}) Refusal → List ℕ → Type 0
+TakesIn b starts at (Ok done) next = IsTaken b starts at next
+TakesIn b starts at (Err why) next = (why ≡ NoImage) × (unfit b starts at ≡ true)
 
 -- ---- all of an image's messages
 pub record IsTable (b : List ℕ) (t : Table) : Type 0 where
@@ -44,9 +43,6 @@ pub record IsTable (b : List ℕ) (t : Table) : Type 0 where
   pub count : t.count ≡ log_count b + held_count b
   pub fits : t.count ≤ capacity
 
-abbrev ReadBy : List ℕ → Check → Table → Type 0
-ReadBy b Right t = IsTable b t
-ReadBy b Wrong t = is_image b ≡ false
-
-abbrev pub ReadsTable : List ℕ → TableReading → Type 0
-ReadsTable b r = ReadBy b r.check r.table
+abbrev pub ReadsTable : List ℕ → Result Table Refusal → Type 0
+ReadsTable b (Ok t) = IsTable b t
+ReadsTable b (Err why) = (why ≡ NoImage) × (is_image b ≡ false)

@@ -1,10 +1,10 @@
 -- A sequence that is found is there already; another one's message joins those that are there.
-use Rattle.std.proofs.Common.{rules, arith, length-take-le}
+use Rattle.std.proofs.Common.{refl, rules, arith, length-take-le}
 use Rattle.image_table.proofs.Taking.{found_unfit, joins}
 use Rattle.image_table.proofs.take_in.Goals as goal
 
 pub returns-in_default : goal.returns-in_default
-returns-in_default c = found_unfit _ _ c.requires.3 c.in_default.ensures
+returns-in_default c = (refl, found_unfit _ _ c.requires.3 c.in_default.ensures)
 
 pub returns : goal.returns
 returns c =
