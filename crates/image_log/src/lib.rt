@@ -6,7 +6,7 @@ ghost use Rattle.image_log.specs.LogRead.{Readable, ReadsLog};
 
 use layout::{CAPACITY, SEQUENCE_AT};
 use message_sequence::read_sequence;
-use set_table::places::{Place, find};
+use set_table::places::find;
 
 // The place of each message of an image's log, from the log's offsets.
 pub fn read_places(b: &[u8], starts: &[u16], offsets: &[u16]) -> [u8; CAPACITY]
@@ -14,15 +14,12 @@ pub fn read_places(b: &[u8], starts: &[u16], offsets: &[u16]) -> [u8; CAPACITY]
     ensures { ReadsLog b.now starts.now (length offsets.now) result }
 {
     let mut places = [0u8; CAPACITY];
-    let mut k = 0;
-    while k < offsets.len() {
-        let at = offsets[k] as usize;
-        let place = find(b, starts, read_sequence(b, at + SEQUENCE_AT));
-        let Place::Present(i) = place else {
+    for (k, offset) in offsets.iter().enumerate() {
+        let at = *offset as usize;
+        let Ok(i) = find(b, starts, read_sequence(b, at + SEQUENCE_AT)) else {
             return places;
         };
         places[k] = i as u8;
-        k += 1;
     }
     places
 }
