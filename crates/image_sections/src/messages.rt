@@ -15,14 +15,10 @@ fn copy_messages(out: &mut [u8], pool: &[u8], starts: &[u16], places: &[u8], at:
     ensures { Copied out.old at (join (deltas_at (deltas_of pool.now starts.now) places.now)) out.new result }
 {
     let mut to = at;
-    let mut k = 0;
-    while k < places.len() {
-        let place = places[k] as usize;
-        let m = message_at(pool, starts, place);
-        let size = m.len();
-        copy_at(out, to, m, size);
-        to += size;
-        k += 1;
+    for place in places {
+        let m = message_at(pool, starts, *place as usize);
+        copy_at(out, to, m, m.len());
+        to += m.len();
     }
     to
 }

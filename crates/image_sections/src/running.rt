@@ -8,6 +8,7 @@ ghost use Rattle.image_sections.specs.LogPlaces.{TablePlaces};
 use crate::placed::delta_at;
 use layout::{MOST_COMMANDS, TAG_COUNT};
 use setpoints::run_delta;
+use setpoints_changes::Change;
 use setpoints_values::start_values;
 
 // Runs a delta. The changes that its commands make are not asked for.
@@ -15,10 +16,8 @@ fn run_message(values: [i32; TAG_COUNT], m: &[u8]) -> [i32; TAG_COUNT]
     requires { T (passes m.now) }
     ensures { result ≡ run_delta m.now values }
 {
-    let mut tags = [0u8; MOST_COMMANDS];
-    let mut before = [0i32; MOST_COMMANDS];
-    let mut after = [0i32; MOST_COMMANDS];
-    run_delta(values, m, &mut tags, &mut before, &mut after)
+    let mut changes = [Change::default(); MOST_COMMANDS];
+    run_delta(values, m, &mut changes)
 }
 
 // Runs the deltas at the given places of a table, from first to last, on the values before any command.
@@ -27,12 +26,10 @@ pub fn run_log(pool: &[u8], starts: &[u16], places: &[u8]) -> [i32; TAG_COUNT]
     ensures { result ≡ run_log (deltas_at (deltas_of pool.now starts.now) places.now) (start_values (set_in pool.now starts.now)) }
 {
     let mut values = start_values(pool);
-    let mut k = 0;
-    while k < places.len() {
+    for k in 0..places.len() {
         let m = delta_at(pool, starts, places, k);
         let next = run_message(values, m);
         values = next;
-        k += 1;
     }
     values
 }

@@ -1,0 +1,2 @@
+pub mod Among
+pub mod Copying
