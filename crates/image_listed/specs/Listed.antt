@@ -3,7 +3,6 @@ use Rattle.std.specs.Prelude.{◌≡◌, List, ℕ, ◌≤◌, length, take}
 use Rattle.model.specs.Layout.{image_size, capacity}
 use Rattle.model.specs.Order.{log_of}
 use Rattle.model.specs.Image.{log_count}
-use Rattle.message_header.specs.declared.checks.Check.TheVariants.{Wrong}
 use Rattle.set_table.specs.declared.Table.{Table}
 use Rattle.set_table.specs.Table.{starts_of, deltas_of, deltas_at, set_in, Holds}
 use Rattle.image_walk.specs.Walk.{LogOffsets}
@@ -24,7 +23,6 @@ FrontOffsets b offsets = LogOffsets b (take (log_count b) offsets)
 
 -- The table, and the log as the buffer lists it; nothing is judged yet.
 pub record ListsLog (b : List ℕ) (t : Table) (r : Station) : Type 0 where
-  pub unjudged : r.check ≡ Wrong
   pub table : r.table ≡ t
   pub count : r.logged ≡ log_count b
   pub fits : r.logged ≤ capacity

@@ -13,10 +13,8 @@ pub fn equals_copy(copy: &[u8], used: usize, b: &[u8]) -> bool
         return false;
     }
     let mut zero = true;
-    let mut i = used;
-    while i < b.len() {
-        zero = zero & (b[i] == 0);
-        i += 1;
+    for byte in &b[used..] {
+        zero = zero & (*byte == 0);
     }
     zero
 }

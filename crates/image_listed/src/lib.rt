@@ -18,15 +18,14 @@ use layout::{CAPACITY, LOG_COUNT_AT};
 use log_check::check_log;
 use log_key::KEYS;
 use log_prepared::prepare;
-use message_header::checks::Check;
+use refusals::Refusal;
 use set_needs::rows::ROWS;
 use set_table::Table;
 
-// A buffer whose messages were read: where they lie, of its log's messages the places in the table and the offsets, and whether it was
-// judged to be an image (`image_judged`).
+// A buffer whose messages were read: where they lie, and of its log's messages the places in the table and the offsets. Whether it is an image
+// `image_judged` says.
 #[derive(Clone, Copy)]
 pub struct Station {
-    pub check: Check,
     pub table: Table,
     pub places: [u8; CAPACITY],
     pub offsets: [u16; CAPACITY],
@@ -43,7 +42,6 @@ pub fn list(b: &[u8], offsets: [u16; CAPACITY], table: Table) -> Station
     let logged = get_u16(b, LOG_COUNT_AT) as usize;
     let places = read_places(b, &starts[..count], &offsets[..logged]);
     Station {
-        check: Check::Wrong,
         table,
         places,
         offsets,
@@ -52,7 +50,7 @@ pub fn list(b: &[u8], offsets: [u16; CAPACITY], table: Table) -> Station
 }
 
 // Whether the listed log is the log of the set.
-pub fn check_listed(b: &[u8], listed: Station) -> Check
+pub fn check_listed(b: &[u8], listed: Station) -> Result<(), Refusal>
     requires { (length b.now ≡ image_size) × IsTable b.now listed.table × ListsLog b.now listed.table listed }
     ensures { ChecksLog (set_in b.now (starts_of listed.table)) (places_in listed) result }
 {

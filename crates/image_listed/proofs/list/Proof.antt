@@ -64,7 +64,6 @@ returns : tie.Need-returns
 returns c =
     let s = lent c.before.before.before in
     record {
-      unjudged = refl;
       table = refl;
       count = c.get_u16-logged.ensures.0;
       fits = few c.before.before.before;
