@@ -1,11 +1,11 @@
 -- What reading and judging an image answers.
-use Rattle.std.specs.Prelude.{◌≡◌, false, List, ℕ, ◌≤◌, ◌<◌, length, take, replicate, T}
+use Rattle.std.specs.Prelude.{◌≡◌, false, List, ℕ, ◌≤◌, ◌<◌, length, take, replicate, T, Result, Ok, Err}
 use Rattle.model.specs.Lists.{◌∈◌}
 use Rattle.model.specs.Layout.{image_size, capacity}
 use Rattle.model.specs.Order.{log_of}
 use Rattle.model.specs.Image.{log_count, is_image}
-use Rattle.message_header.specs.declared.checks.Check.{Check}
-use Rattle.message_header.specs.declared.checks.Check.TheVariants.{Right, Wrong}
+use Rattle.refusals.specs.declared.Refusal.{Refusal}
+use Rattle.refusals.specs.declared.Refusal.TheVariants.{NoImage}
 use Rattle.set_table.specs.Table.{starts_of, deltas_of, deltas_at, set_in}
 use Rattle.image_table.specs.TableReading.{IsTable}
 use Rattle.image_walk.specs.Walk.{LogOffsets}
@@ -27,14 +27,11 @@ pub record IsStation (b : List ℕ) (r : Station) : Type 0 where
   pub fits : r.logged ≤ capacity
   pub offsets : LogOffsets b (log_offsets_in r)
 
-abbrev JudgedBy : List ℕ → Station → Check → Type 0
-JudgedBy b r Right = IsStation b r
-JudgedBy b r Wrong = is_image b ≡ false
-
-abbrev pub Judges : List ℕ → Station → Type 0
-Judges b r = JudgedBy b r r.check
+abbrev pub Judges : List ℕ → Result Station Refusal → Type 0
+Judges b (Ok r) = IsStation b r
+Judges b (Err why) = (why ≡ NoImage) × (is_image b ≡ false)
 
 -- What was found to be an image stands at the front of the copy.
-abbrev pub Copies : List ℕ → List ℕ → Check → Type 0
-Copies b copy Right = take image_size copy ≡ b
-Copies b copy Wrong = Unit {0}
+abbrev pub Copies : List ℕ → List ℕ → Result Station Refusal → Type 0
+Copies b copy (Ok r) = take image_size copy ≡ b
+Copies b copy (Err why) = Unit {0}

@@ -1,6 +1,6 @@
 -- A buffer whose messages were read into a table is an image exactly if it is the image of the table's set; and what is known by the
 -- answers of reading and judging.
-use Rattle.std.specs.Prelude.{◌≡◌, refl, Bool, false, not, ◌&&◌, List, ℕ, ◌<◌, length, take, get_or, leb}
+use Rattle.std.specs.Prelude.{◌≡◌, refl, Bool, false, not, ◌&&◌, List, ℕ, ◌<◌, length, take, get_or, leb, Result, Ok, Err, is_ok}
 use Rattle.std.proofs.Common.{sym, ◌∙◌, ap, ap₂, subst, arith, get_or-take, le→leb}
 use Rattle.model.specs.Lists.{every, same}
 use Rattle.model.specs.Layout.{capacity}
@@ -12,9 +12,8 @@ use Rattle.laws_state.specs.ImageLaws.{own_log}
 use Rattle.set_table.specs.Table.{starts_of, deltas_of, deltas_at, set_in}
 use Rattle.set_table.specs.declared.Table.{Table}
 use Rattle.image_table.specs.TableReading.{IsTable, ReadsTable}
-use Rattle.message_header.specs.Check.{right}
-use Rattle.message_header.specs.declared.checks.Check.{Check}
-use Rattle.message_header.specs.declared.checks.Check.TheVariants.{Right, Wrong}
+use Rattle.refusals.specs.declared.Refusal.{Refusal}
+use Rattle.refusals.specs.declared.Refusal.TheVariants.{NoImage}
 use Rattle.image_listed.specs.declared.Station.{Station}
 use Rattle.image_log.specs.LogRead.{ReadsLog}
 use Rattle.image_judged.specs.Judging.{IsStation, Judges, Copies}
@@ -40,11 +39,11 @@ wrong_origin b e =
     let S = state_in b in ap (λ (t : Bool). t && leb (length S.deltas) capacity && every (holdable S) S.deltas && same (image_of S) b) e
 
 -- ---- by the answer of the reading
-pub read_wrong : (b : List ℕ) (k : Check) (t : Table) → ReadsTable b (record { check = k; table = t }) → k ≡ Wrong → is_image b ≡ false
-read_wrong b k t h e = subst (λ (x : Check). ReadsTable b (record { check = x; table = t })) e h
+pub read_wrong : (b : List ℕ) (r : Result Table Refusal) (why : Refusal) → ReadsTable b r → r ≡ Err why → is_image b ≡ false
+read_wrong b r why h e = (subst (ReadsTable b) e h).1
 
-pub read_right : (b : List ℕ) (k : Check) (t : Table) → ReadsTable b (record { check = k; table = t }) → k ≡ Right → IsTable b t
-read_right b k t h e = subst (λ (x : Check). ReadsTable b (record { check = x; table = t })) e h
+pub read_right : (b : List ℕ) (r : Result Table Refusal) (t : Table) → ReadsTable b r → r ≡ Ok t → IsTable b t
+read_right b r t h e = subst (ReadsTable b) e h
 
 -- ---- a buffer whose log is not that of the table's set is no image
 pub other_log : (b : List ℕ) (t : Table) → IsTable b t → (logged : ℕ) (places : List ℕ) → ReadsLog b (starts_of t) logged places
@@ -52,27 +51,22 @@ pub other_log : (b : List ℕ) (t : Table) → IsTable b t → (logged : ℕ) (p
 other_log b t h logged places r f = false_of (is_image b) (λ i. f (r.log ∙ own_log b i ∙ ap log_of (sym h.set)))
 
 -- ---- by the answer of the judgement
-unjudged : (b : List ℕ) (r : Station) → r.check ≡ Wrong → is_image b ≡ false → Judges b r
-unjudged b r e h = subst (λ (k : Check). Judges b (record { check = k; table = r.table; places = r.places; offsets = r.offsets; logged = r.logged })) (sym e) h
+unjudged : (b : List ℕ) (r : Result Station Refusal) → r ≡ Err NoImage → is_image b ≡ false → Judges b r
+unjudged b r e h = subst (Judges b) (sym e) (refl, h)
 
-pub judges_wrong : (b : List ℕ) (r : Station) → Judges b r → r.check ≡ Wrong → is_image b ≡ false
-judges_wrong b r h e = subst (λ (k : Check). Judges b (record { check = k; table = r.table; places = r.places; offsets = r.offsets; logged = r.logged })) e h
+pub judges_wrong : (b : List ℕ) (r : Result Station Refusal) (why : Refusal) → Judges b r → r ≡ Err why → is_image b ≡ false
+judges_wrong b r why h e = (subst (Judges b) e h).1
 
-pub judges_right : (b : List ℕ) (r : Station) → Judges b r → r.check ≡ Right → IsStation b r
-judges_right b r h e =
-    let s = subst (λ (k : Check). Judges b (record { check = k; table = r.table; places = r.places; offsets = r.offsets; logged = r.logged })) e h in
-    record { image = s.image; table = s.table; log = s.log; inside = s.inside; count = s.count; fits = s.fits; offsets = s.offsets }
+pub judges_right : (b : List ℕ) (r : Result Station Refusal) (station : Station) → Judges b r → r ≡ Ok station → IsStation b station
+judges_right b r station h e = subst (Judges b) e h
 
 -- ---- what was judged is the test of the definition
-pub judgement : (b : List ℕ) (r : Station) → Judges b r → right r.check ≡ is_image b
-judgement b r h = go r.check refl
-  where
-    go : (k : Check) → r.check ≡ k → right r.check ≡ is_image b
-    go Right e = ap right e ∙ sym (is_true (is_image b) (judges_right b r h e).image)
-    go Wrong e = ap right e ∙ sym (judges_wrong b r h e)
+pub judgement : (b : List ℕ) (r : Result Station Refusal) → Judges b r → is_ok r ≡ is_image b
+judgement b (Ok station) h = sym (is_true (is_image b) h.image)
+judgement b (Err why) h = sym h.1
 
 -- ---- what is handed back where the buffer is no image
-pub refused : (b copy : List ℕ) (r : Station) → r.check ≡ Wrong → is_image b ≡ false → Judges b r × Copies b copy r.check
+pub refused : (b copy : List ℕ) (r : Result Station Refusal) → r ≡ Err NoImage → is_image b ≡ false → Judges b r × Copies b copy r
 refused b copy r e h = (unjudged b r e h, subst (Copies b copy) (sym e) tt)
 
 -- ---- where the log's message at a place starts

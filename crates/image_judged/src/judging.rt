@@ -1,7 +1,6 @@
 // An image read and judged: code 2.
 ghost use Rattle.std.specs.Prelude.{◌≡◌, length};
 ghost use Rattle.model.specs.Layout.{image_size};
-ghost use Rattle.message_header.specs.declared.checks.Check.TheVariants.{Wrong};
 ghost use Rattle.image_table.specs.TableReading.{IsTable};
 ghost use Rattle.image_listed.specs.Listed.{FrontOffsets};
 ghost use Rattle.image_judged.specs.Judging.{Blank, Judges, Copies};
@@ -12,76 +11,44 @@ use image_origin::origin::check_origin;
 use image_table::read_table;
 use image_walk::walk_messages;
 use layout::{CAPACITY, IMAGE_SIZE};
-use message_header::checks::Check;
+use refusals::Refusal;
 use set_table::Table;
-
-// No image: there is no table and no log.
-fn refuse() -> Station
-    ensures { result.check ≡ Wrong }
-{
-    Station {
-        check: Check::Wrong,
-        table: Table::new(),
-        places: [0; CAPACITY],
-        offsets: [0; CAPACITY],
-        logged: 0,
-    }
-}
 
 // Judges a buffer whose messages were read: its log has to be that of their set, and it has to be their image, byte for byte. That
 // image is written into `copy`, which is all zeros.
-fn judge(b: &[u8], offsets: [u16; CAPACITY], table: Table, copy: &mut [u8]) -> Station
+fn judge(
+    b: &[u8],
+    offsets: [u16; CAPACITY],
+    table: Table,
+    copy: &mut [u8],
+) -> Result<Station, Refusal>
     requires { (length b.now ≡ image_size) × FrontOffsets b.now offsets × IsTable b.now table × Blank copy.old }
-    ensures { Judges b.now result × Copies b.now copy.new result.check }
+    ensures { Judges b.now result × Copies b.now copy.new result }
 {
     let listed = list(b, offsets, table);
-    let checked = check_listed(b, listed);
-    let Check::Right = checked else {
-        return listed;
-    };
+    check_listed(b, listed)?;
     let used = rewrite(copy, b, listed);
     if !equals_copy(&copy[..IMAGE_SIZE], used, b) {
-        return listed;
+        return Err(Refusal::NoImage);
     }
-    let places = listed.places;
-    let logged = listed.logged;
-    Station {
-        check: Check::Right,
-        table,
-        places,
-        offsets,
-        logged,
-    }
+    Ok(listed)
 }
 
 // Reads a buffer of an image's size and judges it: first what its log starts from, which says where its messages are. Where it is an
 // image, `copy` begins with it afterwards.
-pub fn read_and_copy(b: &[u8], copy: &mut [u8]) -> Station
+pub fn read_and_copy(b: &[u8], copy: &mut [u8]) -> Result<Station, Refusal>
     requires { (length b.now ≡ image_size) × Blank copy.old }
-    ensures { Judges b.now result × Copies b.now copy.new result.check }
+    ensures { Judges b.now result × Copies b.now copy.new result }
 {
-    let origin = check_origin(b);
-    let Check::Right = origin else {
-        return refuse();
-    };
-    let walk = walk_messages(b);
-    let walked = walk.check;
-    let Check::Right = walked else {
-        return refuse();
-    };
+    check_origin(b)?;
+    let walk = walk_messages(b)?;
     let offsets = walk.offsets;
-    let count = walk.count;
-    let reading = read_table(b, &offsets[..count]);
-    let check = reading.check;
-    let table = reading.table;
-    let Check::Right = check else {
-        return refuse();
-    };
+    let table = read_table(b, &offsets[..walk.count])?;
     judge(b, offsets, table, copy)
 }
 
 // Reads a buffer of an image's size and judges it.
-pub fn read_station(b: &[u8]) -> Station
+pub fn read_station(b: &[u8]) -> Result<Station, Refusal>
     requires { length b.now ≡ image_size }
     ensures { Judges b.now result }
 {
