@@ -10,7 +10,7 @@ ghost use Rattle.log_highest.specs.Logged.{LoggedPlaces};
 use layout::CAPACITY;
 use set_closure::closing::close;
 use set_needs::rows::{ROWS, fill_rows};
-use set_readiness::{MARKS, greater};
+use set_readiness::MARKS;
 
 // The highest of the blocks at the given places.
 fn highest_of(blocks: &[u32], places: &[u8]) -> u32
@@ -18,11 +18,8 @@ fn highest_of(blocks: &[u32], places: &[u8]) -> u32
     ensures { result ≡ greatest (λ i. get_or blocks.now i 0) places.now }
 {
     let mut highest = 0;
-    let mut k = 0;
-    while k < places.len() {
-        let i = places[k] as usize;
-        highest = greater(highest, blocks[i]);
-        k += 1;
+    for place in places {
+        highest = highest.max(blocks[*place as usize]);
     }
     highest
 }
