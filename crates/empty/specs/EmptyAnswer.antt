@@ -1,9 +1,8 @@
--- The answer of empty as the definitions have it: document 01's number for each case, beside the image afterwards.
-use Rattle.std.specs.Prelude.{List, ℕ}
+-- The answer of empty as the definitions have it: its code, beside the image afterwards.
+use Rattle.std.specs.Prelude.{List, ℕ, Result}
 use Rattle.model.specs.Calls.{Emptied}
-use Rattle.empty.specs.declared.Emptying.{Emptying}
-use Rattle.empty.specs.declared.Emptying.TheVariants as emptying
+use Rattle.refusals.specs.declared.Refusal.{Refusal}
+use Rattle.refusals.specs.Refusals.{answer_code}
 
-abbrev pub emptied_by : Emptying → List ℕ → Emptied
-emptied_by emptying.Done image = record { code = 0; image = image }
-emptied_by emptying.WrongSize image = record { code = 1; image = image }
+abbrev pub emptied_by : Result (Unit {0}) Refusal → List ℕ → Emptied
+emptied_by answer image = record { code = answer_code answer; image = image }
