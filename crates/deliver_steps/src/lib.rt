@@ -26,19 +26,16 @@ fn put_records(
     starts: &[u16],
     log: &[u8],
     kept: usize,
-    values: [i32; TAG_COUNT],
+    mut values: [i32; TAG_COUNT],
 )
     requires { RestFits pool.now starts.now log.now kept at (length steps.old) }
     ensures { steps.new ≡ records_at steps.old at (listed_by kind (along (record_by kind) (deltas_at (deltas_of pool.now starts.now) (drop kept log.now)) values)) }
 {
-    let mut current = values;
-    let mut i = kept;
-    while i < log.len() {
+    for i in kept..log.len() {
         let m = delta_at(pool, starts, log, i);
         let place = place_of(kind, log.len() - kept, i - kept);
-        let next = put_record(steps, at + STEP_SIZE * place, kind, current, m);
-        current = next;
-        i += 1;
+        let next = put_record(steps, at + STEP_SIZE * place, kind, values, m);
+        values = next;
     }
 }
 
