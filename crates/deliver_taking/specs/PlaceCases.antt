@@ -1,5 +1,5 @@
 -- The cases of deliver at a judged station, for a message that passes 3 to 6: by what the checks of 7 and 8 tell, and where its sequence was looked for.
-use Rattle.std.specs.Prelude.{◌≡◌, Bool, true, false, not, ◌&&◌, List, ℕ, ◌≤◌, ◌<◌, length, T, ltb, leb}
+use Rattle.std.specs.Prelude.{◌≡◌, Bool, true, false, not, ◌&&◌, List, ℕ, ◌≤◌, ◌<◌, length, T, ltb, leb, Ok, Err}
 use Rattle.std.proofs.Common.{sym, ◌∙◌, ap, ap₂, arith, length-take-le, ltb-false, le-leb}
 use Rattle.std.proofs.Math.Bool.{and-false}
 use Rattle.std.proofs.lemmas.List.{length-map}
@@ -19,7 +19,7 @@ use Rattle.set_table.specs.FindLaws.{present_has, absent_has}
 use Rattle.deliver_checks.specs.RepeatLaws.{absent_conflicts}
 use Rattle.image_listed.specs.declared.Station.{Station}
 use Rattle.laws_codes.specs.Ladder.{none, free, met}
-use Rattle.deliver_taking.specs.declared.answer.Delivery.TheVariants as delivery
+use Rattle.refusals.specs.declared.Refusal.TheVariants.{Conflict, Full}
 use Rattle.deliver_taking.specs.Answer.{delivered_by}
 use Rattle.deliver_taking.specs.Taking.{Takeable}
 use Rattle.deliver_taking.specs.DeliverCases.{answered, repeat_case, purged_case}
@@ -35,7 +35,7 @@ module _ (b : List ℕ) (m : Message) (steps pool : List ℕ) (station : Station
   conflicts_is e = ap (λ (R : State). conflicts R m) (sym set_is) ∙ e
 
   -- ---- at or below a floor "7 and 8 are not looked for"
-  pub below : T (purged (state_in b) (sequence_of m)) → delivered_by (delivery.Accepted 0 0) b steps ≡ deliver b m steps
+  pub below : T (purged (state_in b) (sequence_of m)) → delivered_by (Ok (record { undos = 0; executions = 0 })) b steps ≡ deliver b m steps
   below low =
       let unasked : not (purged (state_in b) (sequence_of m)) ≡ false = ap not (is_true (purged (state_in b) (sequence_of m)) low) in
       purged_case b m steps t.judged.image low
@@ -44,13 +44,13 @@ module _ (b : List ℕ) (m : Message) (steps pool : List ℕ) (station : Station
       (free (ap (λ (c : Bool). c && leb capacity (length (state_in b).deltas) && not (present (state_in b) (sequence_of m))) unasked) none)))
 
   -- ---- 7
-  pub conflict : false ≡ not (conflicts (set_in b starts) m) → delivered_by delivery.Conflict b steps ≡ deliver b m steps
+  pub conflict : false ≡ not (conflicts (set_in b starts) m) → delivered_by (Err Conflict) b steps ≡ deliver b m steps
   conflict e = answered b m steps (t.passed 7 (met (conflicts_is (not-false _ (sym e)))))
 
   module _ (high : T (not (purged (state_in b) (sequence_of m)))) where
     -- its sequence is there
     pub repeated : {i : ℕ} → IsPresent b starts (sequence_of m) i → true ≡ not (conflicts (set_in b starts) m)
-        → delivered_by (delivery.Accepted 0 0) b steps ≡ deliver b m steps
+        → delivered_by (Ok (record { undos = 0; executions = 0 })) b steps ≡ deliver b m steps
     repeated {i} here e = repeat_case b m steps t.judged.image there high ∙ answered b m steps (t.passed 0 (free (conflicts_is (not-true _ (sym e))) (free not_full none)))
       where
         there : present (state_in b) (sequence_of m) ≡ true
@@ -81,7 +81,7 @@ module _ (b : List ℕ) (m : Message) (steps pool : List ℕ) (station : Station
           ∙ ap₂ (λ (x y : Bool). x && not y) e new
 
       -- ---- 8
-      pub filled : false ≡ ltb station.table.count capacity → delivered_by delivery.Full b steps ≡ deliver b m steps
+      pub filled : false ≡ ltb station.table.count capacity → delivered_by (Err Full) b steps ≡ deliver b m steps
       filled e =
           let many : capacity ≤ length (state_in b).deltas = omega (arith, count_is, ltb-false station.table.count capacity (sym e)) in
           answered b m steps (t.passed 8 (free no_conflict (met (full_is (le-leb capacity _ many)))))

@@ -8,13 +8,12 @@ ghost use Rattle.message_sequence.specs.Sequence.{sequence_number};
 ghost use Rattle.deliver_taking.specs.Answer.{delivered_by};
 ghost use Rattle.deliver_taking.specs.Taking.{Takeable};
 
-use crate::answer::Delivery;
-use deliver_accepting::accept;
+use deliver_accepting::{Counts, accept};
 use deliver_checks::{check_repeat, check_room};
 use image_listed::Station;
-use message_header::checks::Check;
 use message_sequence::Sequence;
-use set_table::places::{Place, find};
+use refusals::Refusal;
+use set_table::places::find;
 
 // Codes 7 and 8, of a message that passes 3 to 6 and is above its floor. One that is present with equal bytes is accepted with no step; any
 // other is taken in.
@@ -25,7 +24,7 @@ pub fn take_above(
     pool: &mut [u8],
     station: Station,
     s: Sequence,
-) -> Delivery
+) -> Result<Counts, Refusal>
     requires { Takeable image.old message.now (length steps.old) pool.old station × (sequence_number s ≡ sequence_of message.now)
         × T (not (purged (state_in image.old) (sequence_of message.now))) }
     ensures { delivered_by result image.new steps.new ≡ model.deliver image.old message.now steps.old }
@@ -34,23 +33,17 @@ pub fn take_above(
     let starts = table.starts;
     let count = table.count;
     let place = find(image, &starts[..count], s);
-    let repeat = check_repeat(image, &starts[..count], place, message);
-    let Check::Right = repeat else {
-        return Delivery::Conflict;
+    let Ok(()) = check_repeat(image, &starts[..count], place, message) else {
+        return Err(Refusal::Conflict);
     };
-    let Place::Absent(p) = place else {
-        return Delivery::Accepted {
+    let Err(p) = place else {
+        return Ok(Counts {
             undos: 0,
             executions: 0,
-        };
+        });
     };
-    let room = check_room(count);
-    let Check::Right = room else {
-        return Delivery::Full;
+    let Ok(()) = check_room(count) else {
+        return Err(Refusal::Full);
     };
-    let change = accept(image, message, steps, pool, station, p);
-    Delivery::Accepted {
-        undos: change.undos,
-        executions: change.executions,
-    }
+    Ok(accept(image, message, steps, pool, station, p))
 }
