@@ -1,5 +1,4 @@
 // The call `deliver`.
 #![tactic(auto)]
 
-pub mod answer;
 pub mod delivery;

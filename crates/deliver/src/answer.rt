@@ -1,2 +1,0 @@
-// What deliver answers.
-pub use deliver_taking::answer::Delivery;
