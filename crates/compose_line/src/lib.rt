@@ -7,7 +7,8 @@ ghost use Rattle.model.specs.Layout.{line_size, numbers_of_line};
 ghost use Rattle.model.specs.Message.{line_of};
 ghost use Rattle.model.specs.Codes.{held_on};
 ghost use Rattle.message_sequence.specs.Sequence.{sequence_number};
-ghost use Rattle.message_header.specs.Check.{right};
+ghost use Rattle.refusals.specs.Refusals.{checked};
+ghost use Rattle.refusals.specs.declared.Refusal.TheVariants.{HeldLine};
 ghost use Rattle.set_table.specs.Table.{deltas_of, deltas_at, set_in};
 ghost use Rattle.image_sections.specs.LogPlaces.{TablePlaces, LogPlaces};
 ghost use Rattle.compose_line.specs.Line.{some_on};
@@ -15,8 +16,8 @@ ghost use Rattle.compose_line.specs.Line.{some_on};
 use buffer_reads::{get_u16, get_u64};
 use image_sections::held::held_places;
 use layout::NUMBERS_OF_LINE;
-use message_header::checks::Check;
 use message_sequence::{Sequence, same_line};
+use refusals::Refusal;
 use set_table::entry::sequence_at;
 
 // A line as the sequence of its number 0000.
@@ -34,27 +35,18 @@ fn some_on(pool: &[u8], starts: &[u16], places: &[u8], line: Sequence) -> bool
     requires { TablePlaces pool.now starts.now places.now }
     ensures { result ≡ some_on (line_of (sequence_number line)) (deltas_at (deltas_of pool.now starts.now) places.now) }
 {
-    let mut k = 0;
-    while k < places.len() {
-        let s = sequence_at(pool, starts, places[k] as usize);
-        if same_line(s, line) {
-            return true;
-        }
-        k += 1;
-    }
-    false
+    places.iter().any(|place| same_line(sequence_at(pool, starts, *place as usize), line))
 }
 
 // Code 9: no held delta is on the line. `places` are the log's.
-pub fn check_line(pool: &[u8], starts: &[u16], places: &[u8], line: Sequence) -> Check
+#[tactic(auto, using(crate::proofs::HeldLine::held_line))]
+pub fn check_line(pool: &[u8], starts: &[u16], places: &[u8], line: Sequence) -> Result<(), Refusal>
     requires { LogPlaces pool.now starts.now places.now }
-    ensures { right result ≡ not (held_on (set_in pool.now starts.now) (line_of (sequence_number line))) }
+    ensures { result ≡ checked HeldLine (not (held_on (set_in pool.now starts.now) (line_of (sequence_number line)))) }
 {
     let held = held_places(starts.len(), places);
-    let others = held.places;
-    let count = held.count;
-    if some_on(pool, starts, &others[..count], line) {
-        return Check::Wrong;
+    if some_on(pool, starts, &held.places[..held.count], line) {
+        return Err(Refusal::HeldLine);
     }
-    Check::Right
+    Ok(())
 }
