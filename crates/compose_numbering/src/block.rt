@@ -7,7 +7,6 @@ ghost use Rattle.image_sections.specs.LogPlaces.{LogPlaces};
 use buffer_reads::get_u32;
 use layout::PURGED_BLOCK_AT;
 use log_highest::block::highest_block;
-use set_readiness::greater;
 
 // With priority, the block of a new delta behind a log, whose places are given, and behind what was purged; 0 without.
 pub fn new_block(pool: &[u8], starts: &[u16], places: &[u8], flag: u32) -> u32
@@ -18,5 +17,5 @@ pub fn new_block(pool: &[u8], starts: &[u16], places: &[u8], flag: u32) -> u32
         return 0;
     }
     let purged = get_u32(pool, PURGED_BLOCK_AT);
-    greater(purged, highest_block(pool, starts, places)) + 1
+    purged.max(highest_block(pool, starts, places)) + 1
 }

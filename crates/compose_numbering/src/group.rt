@@ -9,7 +9,6 @@ use buffer_reads::get_u32;
 use layout::PURGED_GROUP_AT;
 use log_highest::group::highest_group;
 use message_sequence::{Sequence, less};
-use set_readiness::greater;
 use set_table::entry::sequence_at;
 
 // The group of a new delta of the sequence s behind a log, whose places are given, and behind what was purged.
@@ -18,12 +17,11 @@ pub fn new_group(pool: &[u8], starts: &[u16], places: &[u8], s: Sequence) -> u32
     ensures { result ≡ new_group (set_in pool.now starts.now) (sequence_number s) }
 {
     let purged = get_u32(pool, PURGED_GROUP_AT);
-    if places.len() == 0 {
+    let Some(last) = places.last() else {
         return purged + 1;
-    }
-    let highest = greater(purged, highest_group(pool, starts, places));
-    let last = places[places.len() - 1] as usize;
-    if less(s, sequence_at(pool, starts, last)) {
+    };
+    let highest = purged.max(highest_group(pool, starts, places));
+    if less(s, sequence_at(pool, starts, *last as usize)) {
         return highest + 1;
     }
     highest

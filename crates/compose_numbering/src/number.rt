@@ -9,7 +9,6 @@ ghost use Rattle.image_sections.specs.LogPlaces.{LogPlaces};
 
 use message_sequence::{Sequence, number_of, same_line};
 use set_floors::floor_number;
-use set_readiness::greater;
 use set_table::entry::sequence_at;
 
 // The number of a sequence that is on a line; 0 of any other.
@@ -29,11 +28,9 @@ pub fn new_number(pool: &[u8], starts: &[u16], places: &[u8], line: Sequence) ->
     ensures { (result ≡ new_number (set_in pool.now starts.now) (line_of (sequence_number line))) × (result ≤ numbers_of_line) }
 {
     let mut greatest = floor_number(pool, line);
-    let mut k = 0;
-    while k < places.len() {
-        let s = sequence_at(pool, starts, places[k] as usize);
-        greatest = greater(greatest, number_on(s, line));
-        k += 1;
+    for place in places {
+        let s = sequence_at(pool, starts, *place as usize);
+        greatest = greatest.max(number_on(s, line));
     }
     greatest + 1
 }
