@@ -14,7 +14,7 @@ ghost use Rattle.compose_dependencies.specs.Unneeded.{chosen, UsesRight, IsDepen
 
 use crate::marks::{mark, mark_needs};
 use layout::CAPACITY;
-use message_sequence::{Predecessor, Sequence, equal, predecessor_of};
+use message_sequence::{Sequence, equal, predecessor_of};
 use set_needs::rows::{ROWS, fill_rows};
 use set_readiness::MARKS;
 use set_table::entry::sequence_at;
@@ -52,31 +52,23 @@ fn mark_uses(pool: &[u8], starts: &[u16], places: &[u8]) -> Uses
 fn is_predecessor(x: Sequence, s: Sequence) -> bool
     ensures { result ≡ has (sequence_number x) (predecessor_of (sequence_number s)) }
 {
-    let before = predecessor_of(s);
-    let Predecessor::Of(p) = before else {
-        return false;
-    };
-    equal(x, p)
+    predecessor_of(s).is_some_and(|p| equal(x, p))
 }
 
 // Whether a new delta of the sequence s depends on the delta at an index.
 #[tactic(auto, using(crate::proofs::Marked::marked))]
-fn is_dependency(pool: &[u8], starts: &[u16], uses: Uses, i: usize, s: Sequence) -> bool
-    requires { Holds pool.now starts.now × UsesRight (set_in pool.now starts.now) uses × (i < length starts.now) }
+fn is_dependency(pool: &[u8], starts: &[u16], uses: &Uses, i: usize, s: Sequence) -> bool
+    requires { Holds pool.now starts.now × UsesRight (set_in pool.now starts.now) uses.now × (i < length starts.now) }
     ensures { result ≡ chosen (set_in pool.now starts.now) (sequence_number s) (sequence_in pool.now starts.now i) }
 {
-    let logged = uses.logged;
-    if logged[i] == 0 {
-        return false;
-    }
-    let needed = uses.needed;
-    if needed[i] != 0 {
+    if uses.logged[i] == 0 || uses.needed[i] != 0 {
         return false;
     }
     !is_predecessor(sequence_at(pool, starts, i), s)
 }
 
 // The places of what a new delta of the sequence s depends on, ascending. `places` are the log's.
+#[tactic(auto, using(set_table::specs::TableLaws::table_count))]
 pub fn find_dependencies(pool: &[u8], starts: &[u16], places: &[u8], s: Sequence) -> Dependencies
     requires { LogPlaces pool.now starts.now places.now }
     ensures { IsDependencies pool.now starts.now (sequence_number s) result }
@@ -84,13 +76,11 @@ pub fn find_dependencies(pool: &[u8], starts: &[u16], places: &[u8], s: Sequence
     let uses = mark_uses(pool, starts, places);
     let mut found = [0u8; CAPACITY];
     let mut n = 0;
-    let mut i = 0;
-    while i < starts.len() {
-        if is_dependency(pool, starts, uses, i, s) {
+    for i in 0..starts.len() {
+        if is_dependency(pool, starts, &uses, i, s) {
             found[n] = i as u8;
             n += 1;
         }
-        i += 1;
     }
     Dependencies {
         places: found,

@@ -9,15 +9,13 @@ ghost use Rattle.compose_dependencies.specs.Marks.{marked, RowsFit};
 use set_needs::rows::ROW;
 
 // Marks each of some indices.
+#[tactic(auto, using(set_table::specs::PlaceLaws::below_at))]
 pub fn mark(marks: &mut [u8], indices: &[u8])
     requires { AllBelow (length marks.old) indices.now }
     ensures { marks.new ≡ marked marks.old indices.now }
 {
-    let mut k = 0;
-    while k < indices.len() {
-        let i = indices[k] as usize;
-        marks[i] = 1;
-        k += 1;
+    for i in indices {
+        marks[*i as usize] = 1;
     }
 }
 
@@ -26,12 +24,10 @@ pub fn mark_needs(marks: &mut [u8], rows: &[u8], counts: &[u8], places: &[u8])
     requires { (length marks.old ≡ marks_size) × RowsFit rows.now counts.now places.now }
     ensures { marks.new ≡ marked marks.old (join (map (row_in rows.now counts.now) places.now)) }
 {
-    let mut k = 0;
-    while k < places.len() {
-        let i = places[k] as usize;
+    for place in places {
+        let i = *place as usize;
         let from = ROW * i;
         let end = from + counts[i] as usize;
         mark(marks, &rows[from..end]);
-        k += 1;
     }
 }
