@@ -1,5 +1,5 @@
 -- A message in pieces: the parts of its header, its dependencies' sequences, its commands. Together they are `message_of`.
-use Rattle.std.specs.Prelude.{◌≡◌, true, false, List, ◌++◌, map, ℕ, ◌*◌, ◌/◌, ◌≤◌, length}
+use Rattle.std.specs.Prelude.{◌≡◌, true, false, Option, Some, None, List, ◌++◌, map, ℕ, ◌*◌, ◌/◌, ◌≤◌, length}
 use Rattle.model.specs.Bytes.{bytes, join}
 use Rattle.model.specs.Layout.{sequence_size, command_size, message_room}
 use Rattle.model.specs.Message.{Message}
@@ -8,7 +8,6 @@ use Rattle.model.specs.Calls.{written}
 use Rattle.message_sequence.specs.Sequence.{sequence_number}
 use Rattle.message_header.specs.declared.header.Header.{Header}
 use Rattle.message_header.specs.declared.header.Priority.{Priority}
-use Rattle.message_header.specs.declared.header.Priority.TheVariants.{Absent, Given}
 use Rattle.set_table.specs.Places.{sequence_in}
 use Rattle.image_sections.specs.LogPlaces.{TablePlaces}
 use Rattle.compose_header.specs.Numbers.{FewParts, counts_bytes, offsets_bytes, order_bytes}
@@ -18,9 +17,9 @@ abbrev pub header_bytes : ℕ → ℕ → ℕ → ℕ → ℕ → ℕ → ℕ �
 header_bytes flag s group block priority D C = counts_bytes flag D C ++ offsets_bytes D C ++ bytes sequence_size s ++ order_bytes group block priority
 
 -- with byte 1, block and priority zero where no priority is given
-abbrev pub header_with : Header → Priority → List ℕ
-header_with h Absent = header_bytes 0 (sequence_number h.sequence) h.group 0 0 h.dependencies h.commands
-header_with h (Given block priority) = header_bytes 1 (sequence_number h.sequence) h.group block priority h.dependencies h.commands
+abbrev pub header_with : Header → Option Priority → List ℕ
+header_with h None = header_bytes 0 (sequence_number h.sequence) h.group 0 0 h.dependencies h.commands
+header_with h (Some p) = header_bytes 1 (sequence_number h.sequence) h.group p.block p.priority h.dependencies h.commands
 
 abbrev pub header_for : Header → List ℕ
 header_for h = header_with h h.priority
@@ -34,9 +33,9 @@ abbrev pub names_at : List ℕ → List ℕ → List ℕ → List ℕ
 names_at pool starts places = map (sequence_in pool starts) places
 
 -- ---- the message of a header, with its dependencies and commands
-abbrev pub message_with : Header → Priority → List ℕ → List ℕ → Message
-message_with h Absent dependencies commands = message_of false (sequence_number h.sequence) h.group 0 0 dependencies commands
-message_with h (Given block priority) dependencies commands = message_of true (sequence_number h.sequence) h.group block priority dependencies commands
+abbrev pub message_with : Header → Option Priority → List ℕ → List ℕ → Message
+message_with h None dependencies commands = message_of false (sequence_number h.sequence) h.group 0 0 dependencies commands
+message_with h (Some p) dependencies commands = message_of true (sequence_number h.sequence) h.group p.block p.priority dependencies commands
 
 unfoldable pub message_for : Header → List ℕ → List ℕ → Message
 message_for h dependencies commands = message_with h h.priority dependencies commands

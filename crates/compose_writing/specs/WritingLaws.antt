@@ -1,5 +1,5 @@
 -- The pieces of a message, pasted one behind the other, are the message at the front of the buffer.
-use Rattle.std.specs.Prelude.{◌≡◌, refl, Bool, cond, List, [], ◌∷◌, ◌++◌, map, ℕ, ◌+◌, ◌*◌, ◌/◌, ◌≤◌, ◌<◌, length, drop, get_or}
+use Rattle.std.specs.Prelude.{◌≡◌, refl, Bool, cond, Option, Some, None, List, [], ◌∷◌, ◌++◌, map, ℕ, ◌+◌, ◌*◌, ◌/◌, ◌≤◌, ◌<◌, length, drop, get_or}
 use Rattle.std.proofs.Common.{sym, ◌∙◌, ap, ap₂, append-nil, append_assoc, arith, add-one, length-append, drop-cons}
 use Rattle.std.proofs.Math.Bool.{true, false}
 use mathlib.Core.List.Memᴰ
@@ -12,7 +12,6 @@ use Rattle.laws_wire.specs.BytesLaws.{length_bytes, length_join}
 use Rattle.message_sequence.specs.Sequence.{sequence_number}
 use Rattle.message_header.specs.declared.header.Header.{Header}
 use Rattle.message_header.specs.declared.header.Priority.{Priority}
-use Rattle.message_header.specs.declared.header.Priority.TheVariants.{Absent, Given}
 use Rattle.buffer_writes.specs.PasteLaws.{front_written}
 use Rattle.image_header.specs.Pieces.{pasted}
 use Rattle.image_header.specs.PieceLaws.{pasted_pasted, order_pasted}
@@ -50,16 +49,16 @@ module _ (h : Header) where
   unfolding message_for
   message_is deps commands d c = go h.priority
     where
-      go : (p : Priority) → header_with h p ++ sequences_bytes deps ++ commands ≡ message_with h p deps commands
-      go Absent = message_pieces false (sequence_number h.sequence) h.group 0 0 deps commands h.dependencies h.commands d c
-      go (Given block priority) = message_pieces true (sequence_number h.sequence) h.group block priority deps commands h.dependencies h.commands d c
+      go : (p : Option Priority) → header_with h p ++ sequences_bytes deps ++ commands ≡ message_with h p deps commands
+      go None = message_pieces false (sequence_number h.sequence) h.group 0 0 deps commands h.dependencies h.commands d c
+      go (Some p) = message_pieces true (sequence_number h.sequence) h.group p.block p.priority deps commands h.dependencies h.commands d c
 
   pub header_length : length (header_for h) ≡ header_size
   header_length = go h.priority
     where
-      go : (p : Priority) → length (header_with h p) ≡ header_size
-      go Absent = refl
-      go (Given block priority) = refl
+      go : (p : Option Priority) → length (header_with h p) ≡ header_size
+      go None = refl
+      go (Some p) = refl
 
 -- the three pieces, the header at the front
 pub message_written : (d : List ℕ) (h : Header) (deps commands : List ℕ) (start : ℕ) → h.dependencies ≡ length deps → h.commands ≡ length commands / command_size

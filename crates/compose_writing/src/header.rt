@@ -8,7 +8,7 @@ ghost use Rattle.compose_writing.specs.Writing.{header_bytes, header_for};
 
 use compose_header::{put_counts, put_fields, put_offsets};
 use layout::SEQUENCE_AT;
-use message_header::header::{Header, Priority};
+use message_header::header::Header;
 use message_sequence::put_sequence;
 
 // Writes the four parts of a header, with the numbers of byte 1, block and priority.
@@ -30,7 +30,7 @@ pub fn put_message_header(message: &mut [u8], h: Header)
 {
     let given = h.priority;
     match given {
-        Priority::Absent => put_parts(message, h, 0, 0, 0),
-        Priority::Given { block, priority } => put_parts(message, h, 1, block, priority),
+        None => put_parts(message, h, 0, 0, 0),
+        Some(p) => put_parts(message, h, 1, p.block, p.priority),
     }
 }

@@ -15,11 +15,8 @@ pub fn put_sequences(message: &mut [u8], pool: &[u8], starts: &[u16], places: &[
     ensures { message.new ≡ pasted message.old at (sequences_bytes (names_at pool.now starts.now places.now)) }
 {
     let mut to = at;
-    let mut k = 0;
-    while k < places.len() {
-        let s = sequence_at(pool, starts, places[k] as usize);
-        put_sequence(message, to, s);
+    for place in places {
+        put_sequence(message, to, sequence_at(pool, starts, *place as usize));
         to += SEQUENCE_SIZE;
-        k += 1;
     }
 }
