@@ -1,5 +1,5 @@
 -- What the later codes decide; and a draft's message is the composed one.
-use Rattle.std.specs.Prelude.{◌≡◌, Bool, true, false, ◌||◌, ℕ, ◌*◌, ◌/◌, ◌%◌, ◌≤◌, length, T, eqb, leb}
+use Rattle.std.specs.Prelude.{◌≡◌, Bool, true, false, ◌||◌, Option, Some, None, Ok, ℕ, ◌*◌, ◌/◌, ◌%◌, ◌≤◌, length, T, eqb, leb}
 use Rattle.std.proofs.Math.Path.{refl, ap, ap₂}
 use Rattle.std.proofs.Common.{sym, ◌∙◌, arith, length-take-le, eqb→eq, leb→le}
 use Rattle.std.proofs.Math.Bool.{cond}
@@ -17,7 +17,6 @@ use Rattle.laws_codes.specs.Ladder.{Answers, none, met, free}
 use Rattle.message_sequence.specs.declared.Sequence.{Sequence}
 use Rattle.message_sequence.specs.Sequence.{sequence_number}
 use Rattle.message_header.specs.declared.header.Priority.{Priority}
-use Rattle.message_header.specs.declared.header.Priority.TheVariants.{Absent, Given}
 use Rattle.set_table.specs.Table.{set_in}
 use Rattle.set_table.specs.Places.{sequence_in}
 use Rattle.compose_writing.specs.Writing.{message_with, message_for, names_at, Writes}
@@ -25,7 +24,6 @@ use Rattle.compose_draft.specs.declared.drafting.Draft.{Draft}
 use Rattle.compose_draft.specs.Drafting.{priority_by, IsDraft}
 use Rattle.compose_dependencies.specs.declared.Dependencies.{Dependencies}
 use Rattle.compose_dependencies.specs.Unneeded.{places_found, IsDependencies}
-use Rattle.compose_message.specs.declared.answer.Composition.TheVariants as composition
 use Rattle.compose_message.specs.Answer.{refusal, composed_by}
 use Rattle.compose_message.specs.Stages.{late_conditions, late_answer, header_with, names_of, drafted_message, drafted_answer, draft_answer}
 
@@ -48,13 +46,13 @@ counts_free : (d : Draft) (D C D' C' : ℕ) (names commands : List ℕ) → mess
 unfolding message_for
 counts_free d D C D' C' names commands = go d.priority
   where
-    go : (p : Priority) → message_with (header_with d D C) p names commands ≡ message_with (header_with d D' C') p names commands
-    go Absent = refl
-    go (Given block priority) = refl
+    go : (p : Option Priority) → message_with (header_with d D C) p names commands ≡ message_with (header_with d D' C') p names commands
+    go None = refl
+    go (Some p) = refl
 
 pub drafted_written : (pool starts : List ℕ) (d : Draft) (found : Dependencies) (commands buffer after : List ℕ) (D C size : ℕ)
     → IsDependencies pool starts (sequence_number d.sequence) found → Writes buffer (header_with d D C) pool starts (places_found found) commands after size
-    → composed_by (composition.Written size) after ≡ drafted_answer (set_in pool starts) d commands buffer
+    → composed_by (Ok size) after ≡ drafted_answer (set_in pool starts) d commands buffer
 unfolding drafted_answer
 drafted_written pool starts d found commands buffer after D C size f w =
     ap₂ (λ (n : ℕ) (l : List ℕ). record { code = 0; size = n; message = l }) w.length_is w.message
@@ -101,7 +99,7 @@ module _ (S : State) (line flag priority : ℕ) (commands buffer : List ℕ) whe
     drafted_message_lem : drafted_message S d commands ≡ composed S line commands (eqb flag 1) priority
     unfolding composed message_for
     drafted_message_lem =
-        ap (λ (p : Priority). message_with (header_with d (length (names_of S d)) (length commands / command_size)) p (names_of S d) commands) is.priority_is
+        ap (λ (p : Option Priority). message_with (header_with d (length (names_of S d)) (length commands / command_size)) p (names_of S d) commands) is.priority_is
         ∙ message_with_lem S d (length (names_of S d)) (length commands / command_size) (names_of S d) commands (eqb flag 1) priority given
         ∙ ap₂ (λ (s g : ℕ). message_of (eqb flag 1) s g (new_block S (eqb flag 1)) priority (new_dependencies S s) commands) is.sequence is.group
 

@@ -1,7 +1,6 @@
 // Compose's later codes, 9 to 11, and the message that it writes.
 #![tactic(auto)]
 
-pub mod answer;
 pub mod drafted;
 
 ghost use Rattle.std.specs.Prelude.{◌≡◌};
@@ -11,13 +10,13 @@ ghost use Rattle.image_sections.specs.LogPlaces.{LogPlaces};
 ghost use Rattle.compose_message.specs.Answer.{composed_by};
 ghost use Rattle.compose_message.specs.Stages.{Composable, late_answer};
 
-use crate::answer::Composition;
 use crate::drafted::write_draft;
-use compose_draft::drafting::{Drafting, draft_delta};
+use compose_draft::drafting::draft_delta;
 use compose_line::{check_line, read_line};
-use message_header::checks::Check;
+use refusals::Refusal;
 
 // Composes behind a log, whose places are given: codes 9 to 11, and the message.
+#[tactic(auto, using(crate::proofs::Late::late))]
 pub fn compose_behind(
     pool: &[u8],
     starts: &[u16],
@@ -27,18 +26,16 @@ pub fn compose_behind(
     flag: u32,
     priority: u32,
     message: &mut [u8],
-) -> Composition
+) -> Result<usize, Refusal>
     requires { LogPlaces pool.now starts.now places.now × Composable line.now commands.now flag priority message.old }
     ensures { composed_by result message.new ≡ late_answer (set_in pool.now starts.now) (number line.now) commands.now flag priority message.old }
 {
     let first = read_line(line);
-    let free = check_line(pool, starts, places, first);
-    let Check::Right = free else {
-        return Composition::HeldLine;
+    let Ok(()) = check_line(pool, starts, places, first) else {
+        return Err(Refusal::HeldLine);
     };
-    let drafting = draft_delta(pool, starts, places, first, flag, priority);
-    let Drafting::Fits(draft) = drafting else {
-        return Composition::PastLimit;
+    let Ok(draft) = draft_delta(pool, starts, places, first, flag, priority) else {
+        return Err(Refusal::PastLimit);
     };
     write_draft(pool, starts, places, draft, commands, message)
 }
