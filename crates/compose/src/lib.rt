@@ -10,14 +10,14 @@ ghost use Rattle.compose_message.specs.Answer.{composed_by};
 ghost use Rattle.compose_message.specs.Stages.{Composable, late_answer};
 
 use compose_checks::{check_content, check_sizes};
-use compose_message::answer::Composition;
 use compose_message::compose_behind;
 use image_judged::judging::read_station;
 use image_listed::Station;
 use message_commands::commands_sized;
-use message_header::checks::Check;
+use refusals::Refusal;
 
 // Composes at a judged station.
+#[tactic(auto, using(crate::proofs::Stations::stations))]
 fn compose_at(
     image: &[u8],
     station: Station,
@@ -26,19 +26,15 @@ fn compose_at(
     flag: u32,
     priority: u32,
     message: &mut [u8],
-) -> Composition
+) -> Result<usize, Refusal>
     requires { IsStation image.now station × Composable line.now commands.now flag priority message.old }
     ensures { composed_by result message.new ≡ late_answer (state_in image.now) (number line.now) commands.now flag priority message.old }
 {
     let table = station.table;
-    let starts = table.starts;
-    let count = table.count;
-    let places = station.places;
-    let logged = station.logged;
     compose_behind(
         image,
-        &starts[..count],
-        &places[..logged],
+        &table.starts[..table.count],
+        &station.places[..station.logged],
         line,
         commands,
         flag,
@@ -48,6 +44,7 @@ fn compose_at(
 }
 
 // Composes a message on a line: it stands at the front of its buffer, the rest unchanged. A refusal writes nothing.
+#[tactic(auto, using(crate::proofs::Refused::refused))]
 pub fn compose(
     image: &[u8],
     line: &[u8],
@@ -55,25 +52,20 @@ pub fn compose(
     flag: u32,
     priority: u32,
     message: &mut [u8],
-) -> Composition
+) -> Result<usize, Refusal>
     ensures { composed_by result message.new ≡ model.compose image.now line.now commands.now flag priority message.old }
 {
-    let sizes = check_sizes(image.len(), message.len(), line.len());
-    let Check::Right = sizes else {
-        return Composition::WrongSize;
+    let Ok(()) = check_sizes(image.len(), message.len(), line.len()) else {
+        return Err(Refusal::WrongSize);
     };
-    let station = read_station(image);
-    let check = station.check;
-    let Check::Right = check else {
-        return Composition::NoImage;
+    let Ok(station) = read_station(image) else {
+        return Err(Refusal::NoImage);
     };
-    let sized = commands_sized(commands);
-    let Check::Right = sized else {
-        return Composition::WrongLayout;
+    let Ok(()) = commands_sized(commands) else {
+        return Err(Refusal::WrongLayout);
     };
-    let content = check_content(commands, flag, priority);
-    let Check::Right = content else {
-        return Composition::WrongContent;
+    let Ok(()) = check_content(commands, flag, priority) else {
+        return Err(Refusal::WrongContent);
     };
     compose_at(image, station, line, commands, flag, priority, message)
 }
