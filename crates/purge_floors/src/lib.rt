@@ -32,11 +32,9 @@ pub fn raise_floors(tops: &mut [u8], pool: &[u8], starts: &[u16], places: &[u8])
     ensures { tops_in tops.new result ≡ raise_tops (sequences_of (deltas_at (deltas_of pool.now starts.now) places.now)) (origin_in pool.now).floors }
 {
     let mut count = copy_floors(tops, pool);
-    let mut k = 0;
-    while k < places.len() {
-        let s = sequence_at(pool, starts, places[k] as usize);
+    for place in places {
+        let s = sequence_at(pool, starts, *place as usize);
         count = raise_top(tops, count, s);
-        k += 1;
     }
     count
 }
