@@ -10,12 +10,11 @@ ghost use Rattle.image_sections.specs.LogPlaces.{TablePlaces};
 ghost use Rattle.purge_rest.specs.Rest.{FirstPlaces, IsRest};
 
 use buffer_reads::get_u32;
-use image_sections::placed::delta_at;
 use image_sections::running::run_log;
 use layout::{PURGED_BLOCK_AT, PURGED_GROUP_AT, TAG_COUNT};
 use log_highest::block::highest_block;
 use log_highest::group::highest_group;
-use set_readiness::greater;
+use set_table::entry::message_at;
 use set_table::start::messages_start;
 
 // `from` is where the first message that stays begins, in the image before the purge.
@@ -33,11 +32,9 @@ fn end_of(pool: &[u8], starts: &[u16], places: &[u8], start: usize) -> usize
     ensures { result ≡ start + length (join (deltas_at (deltas_of pool.now starts.now) places.now)) }
 {
     let mut at = start;
-    let mut k = 0;
-    while k < places.len() {
-        let m = delta_at(pool, starts, places, k);
+    for place in places {
+        let m = message_at(pool, starts, *place as usize);
         at += m.len();
-        k += 1;
     }
     at
 }
@@ -48,7 +45,7 @@ fn purged_block(pool: &[u8], starts: &[u16], gone: &[u8]) -> u32
     ensures { result ≡ (origin_past (set_in pool.now starts.now) (deltas_at (deltas_of pool.now starts.now) gone.now)).block }
 {
     let purged = get_u32(pool, PURGED_BLOCK_AT);
-    greater(purged, highest_block(pool, starts, gone))
+    purged.max(highest_block(pool, starts, gone))
 }
 
 // And the greatest purged group.
@@ -57,7 +54,7 @@ fn purged_group(pool: &[u8], starts: &[u16], gone: &[u8]) -> u32
     ensures { result ≡ (origin_past (set_in pool.now starts.now) (deltas_at (deltas_of pool.now starts.now) gone.now)).group }
 {
     let purged = get_u32(pool, PURGED_GROUP_AT);
-    greater(purged, highest_group(pool, starts, gone))
+    purged.max(highest_group(pool, starts, gone))
 }
 
 // What the purge of the deltas at the given places leaves, which are the first of the log.
