@@ -1,15 +1,8 @@
--- The answer of purge as the definitions have it: the papers' number for each case, beside the image afterwards.
-use Rattle.std.specs.Prelude.{List, ℕ}
+-- The answer of purge as the definitions have it: its code, beside the image afterwards.
+use Rattle.std.specs.Prelude.{List, ℕ, Result}
 use Rattle.model.specs.Calls.{Purged}
-use Rattle.purge_dropping.specs.declared.answer.Purging.{Purging}
-use Rattle.purge_dropping.specs.declared.answer.Purging.TheVariants as purging
+use Rattle.refusals.specs.declared.Refusal.{Refusal}
+use Rattle.refusals.specs.Refusals.{answer_code}
 
-abbrev pub purged_code : Purging → ℕ
-purged_code purging.Accepted = 0
-purged_code purging.WrongSize = 1
-purged_code purging.NoImage = 2
-purged_code purging.PastLog = 15
-purged_code purging.ManyFloors = 16
-
-abbrev pub purged_by : Purging → List ℕ → Purged
-purged_by r image = record { code = purged_code r; image = image }
+abbrev pub purged_by : Result (Unit {0}) Refusal → List ℕ → Purged
+purged_by answer image = record { code = answer_code answer; image = image }
