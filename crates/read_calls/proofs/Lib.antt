@@ -1,2 +1,1 @@
-pub mod LocatedTags
 pub mod PartCases

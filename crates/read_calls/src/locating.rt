@@ -8,28 +8,24 @@ use buffer_reads::get_u16;
 use buffer_sizes::check_image_size;
 use image_judged::judging::read_station;
 use layout::LENGTH_AT;
-use message_header::checks::Check;
 use read_checks::check_place;
+use refusals::Refusal;
 
 // The part of an image that holds the log's message at a place, as offset and size. Both calls of log message stand on it.
-pub fn locate(image: &[u8], place: usize) -> Located
+pub fn locate(image: &[u8], place: usize) -> Result<Located, Refusal>
     ensures { part_by result ≡ log_part image.now place }
 {
-    let sized = check_image_size(image.len());
-    let Check::Right = sized else {
-        return Located::WrongSize;
+    let Ok(()) = check_image_size(image.len()) else {
+        return Err(Refusal::WrongSize);
     };
-    let station = read_station(image);
-    let judged = station.check;
-    let Check::Right = judged else {
-        return Located::NoImage;
+    let Ok(station) = read_station(image) else {
+        return Err(Refusal::NoImage);
     };
-    let placed = check_place(image, place);
-    let Check::Right = placed else {
-        return Located::NoPlace;
+    let Ok(()) = check_place(image, place) else {
+        return Err(Refusal::NotThere);
     };
     let offsets = station.offsets;
     let offset = offsets[place] as usize;
     let size = get_u16(image, offset + LENGTH_AT) as usize;
-    Located::At { offset, size }
+    Ok(Located { offset, size })
 }

@@ -3,30 +3,26 @@ ghost use Rattle.std.specs.Prelude.{◌≡◌};
 ghost use Rattle.model.specs.Calls as model;
 ghost use Rattle.read_calls.specs.Answers.{setpoint_by};
 
-use crate::answer::Reading;
 use buffer_reads::get_u32;
 use buffer_sizes::check_image_size;
 use layout::{SETPOINTS_START, VALUE_SIZE};
-use message_header::checks::Check;
 use read_checks::{check_image, check_tag};
+use refusals::Refusal;
 use setpoints_arithmetic::integers::of_word;
 
 // The value of a tag, read where it stands in the image.
-pub fn setpoint(image: &[u8], tag: usize) -> Reading
+pub fn setpoint(image: &[u8], tag: usize) -> Result<i32, Refusal>
     ensures { setpoint_by result ≡ model.setpoint image.now tag }
 {
-    let sized = check_image_size(image.len());
-    let Check::Right = sized else {
-        return Reading::WrongSize;
+    let Ok(()) = check_image_size(image.len()) else {
+        return Err(Refusal::WrongSize);
     };
-    let judged = check_image(image);
-    let Check::Right = judged else {
-        return Reading::NoImage;
+    let Ok(()) = check_image(image) else {
+        return Err(Refusal::NoImage);
     };
-    let named = check_tag(tag);
-    let Check::Right = named else {
-        return Reading::NoTag;
+    let Ok(()) = check_tag(tag) else {
+        return Err(Refusal::NotThere);
     };
     let value = of_word(get_u32(image, SETPOINTS_START + VALUE_SIZE * tag));
-    Reading::Value(value)
+    Ok(value)
 }
