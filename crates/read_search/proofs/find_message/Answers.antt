@@ -3,16 +3,16 @@ use Rattle.std.proofs.Common.{arith}
 use Rattle.read_search.specs.FindingLaws.{looking_first, looking_end, looking_on, lies}
 use Rattle.read_search.proofs.find_message.Goals as goal
 
-pub loop-k-init : goal.loop-k-init
-loop-k-init c = looking_first _ _ c.requires _
+pub loop-at-init : goal.loop-at-init
+loop-at-init c = looking_first _ _ c.requires _
 
-pub get_u16-size-requires : goal.get_u16-size-requires
-get_u16-size-requires c =
-    let h = lies _ _ c.requires _ c.loop-k.invariant (omega (arith, c.requires.log.count)) in
+pub get_u16-requires : goal.get_u16-requires
+get_u16-requires c =
+    let h = lies _ _ c.requires _ c.loop-at.invariant (omega (arith, c.requires.log.count)) in
     omega (arith, h.inside, h.least)
 
-pub loop-k-preserved : goal.loop-k-preserved
-loop-k-preserved c = looking_on _ _ c.requires _ c.loop-k.invariant (omega (arith, c.requires.log.count)) (λ e. omega arith)
+pub loop-at-preserved : goal.loop-at-preserved
+loop-at-preserved c = looking_on _ _ c.requires _ c.loop-at.invariant (omega (arith, c.requires.log.count)) (λ e. omega arith)
 
 pub returns : goal.returns
-returns c = looking_end _ _ c.requires _ c.loop-k.invariant (omega (arith, c.requires.log.count))
+returns c = looking_end _ _ c.requires _ c.loop-at.invariant (omega (arith, c.requires.log.count))
