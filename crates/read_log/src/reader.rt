@@ -4,7 +4,6 @@ ghost use Rattle.read_log.specs.Reader.{first_offset, Starts, Reads};
 
 use crate::finding::next_part;
 use buffer_sizes::check_image_size;
-use message_header::checks::Check;
 use set_table::start::messages_start;
 
 #[derive(Clone, Copy)]
@@ -17,8 +16,7 @@ pub struct LogReader<'a> {
 fn first_offset(image: &[u8]) -> usize
     ensures { result ≡ first_offset image.now }
 {
-    let sized = check_image_size(image.len());
-    let Check::Right = sized else {
+    let Ok(()) = check_image_size(image.len()) else {
         return 0;
     };
     messages_start(image)
