@@ -1,5 +1,5 @@
 -- The answers of compose as numbers are the definitions'.
-use Rattle.std.specs.Prelude.{◌≡◌, refl, List, ℕ, zero, suc, ◌≤◌, ◌<◌, length, drop, T, eqb}
+use Rattle.std.specs.Prelude.{◌≡◌, refl, List, ℕ, zero, suc, ◌≤◌, ◌<◌, length, drop, T, eqb, Result, Ok, Err}
 use Rattle.std.proofs.Common.{sym, ◌∙◌, ap, subst, arith, take_at}
 use Rattle.model.specs.Bytes.{number}
 use Rattle.model.specs.Layout.{message_room}
@@ -9,12 +9,12 @@ use Rattle.model.specs.Compose.{composed}
 use Rattle.model.specs.Calls.{Composed, compose_answer, compose_code, compose}
 use Rattle.laws_wire.specs.MessageLaws.{passes_sized, sized_range}
 use Rattle.laws_compose.specs.ComposeLaws.{Promised, compose_promise, message_by}
-use Rattle.compose_message.specs.declared.answer.Composition.{Composition}
-use Rattle.compose_message.specs.declared.answer.Composition.TheVariants as composition
+use Rattle.refusals.specs.declared.Refusal.{Refusal}
 use Rattle.compose_message.specs.Answer.{composed_by}
 use Rattle.bivamolune_packing.specs.Packing.{packed_length, LengthUnpacks}
-use Rattle.bivamolune_packing.specs.PackingLaws.{length_unpacked}
-use Rattle.bivamolune_packing.specs.ComposeAnswers.{Composes, number_by, Short}
+use Rattle.bivamolune_packing.specs.PackingLaws.{length_unpacked, why_small}
+use Rattle.bivamolune_packing.specs.ComposeAnswers.{Composes}
+use Rattle.bivamolune_packing.specs.Lengths.{number_by, Short}
 
 -- ---- a written message passes 3 to 6, and so is at most 200 bytes long
 compose_short : (b line commands : List ℕ) (flag priority : ℕ) (buffer : List ℕ) → (compose b line commands flag priority buffer).size ≤ message_room
@@ -31,48 +31,24 @@ compose_short b line commands flag priority buffer = go (compose_code b line com
     go (suc n) f = omega arith
 
 -- ---- the number of an answer is that of its parts
-number_is : (c : Composition) (message : List ℕ) → number_by c ≡ packed_length (composed_by c message).code (composed_by c message).size
-number_is (composition.Written size) message = refl
-number_is composition.WrongSize message = refl
-number_is composition.NoImage message = refl
-number_is composition.WrongLayout message = refl
-number_is composition.WrongContent message = refl
-number_is composition.HeldLine message = refl
-number_is composition.PastLimit message = refl
-number_is composition.ManyDependencies message = refl
+number_is : (c : Result ℕ Refusal) (message : List ℕ) → number_by c ≡ packed_length (composed_by c message).code (composed_by c message).size
+number_is (Ok size) message = refl
+number_is (Err why) message = omega arith
 
-message_is : (c : Composition) (message : List ℕ) → message ≡ (composed_by c message).message
-message_is (composition.Written size) message = refl
-message_is composition.WrongSize message = refl
-message_is composition.NoImage message = refl
-message_is composition.WrongLayout message = refl
-message_is composition.WrongContent message = refl
-message_is composition.HeldLine message = refl
-message_is composition.PastLimit message = refl
-message_is composition.ManyDependencies message = refl
+message_is : (c : Result ℕ Refusal) (message : List ℕ) → message ≡ (composed_by c message).message
+message_is (Ok size) message = refl
+message_is (Err why) message = refl
 
 -- its code is a byte
-code_small : (c : Composition) (message : List ℕ) → (composed_by c message).code < 256
-code_small (composition.Written size) message = omega arith
-code_small composition.WrongSize message = omega arith
-code_small composition.NoImage message = omega arith
-code_small composition.WrongLayout message = omega arith
-code_small composition.WrongContent message = omega arith
-code_small composition.HeldLine message = omega arith
-code_small composition.PastLimit message = omega arith
-code_small composition.ManyDependencies message = omega arith
+code_small : (c : Result ℕ Refusal) (message : List ℕ) → (composed_by c message).code < 256
+code_small (Ok size) message = omega arith
+code_small (Err why) message = why_small why
 
-short_if : (c : Composition) (message : List ℕ) → (composed_by c message).size ≤ message_room → Short c
-short_if (composition.Written size) message h = h
-short_if composition.WrongSize message h = tt
-short_if composition.NoImage message h = tt
-short_if composition.WrongLayout message h = tt
-short_if composition.WrongContent message h = tt
-short_if composition.HeldLine message h = tt
-short_if composition.PastLimit message h = tt
-short_if composition.ManyDependencies message h = tt
+short_if : (c : Result ℕ Refusal) (message : List ℕ) → (composed_by c message).size ≤ message_room → Short c
+short_if (Ok size) message h = h
+short_if (Err why) message h = tt
 
-module _ (image line commands : List ℕ) (flag priority : ℕ) (message : List ℕ) (c : Composition) (exit : List ℕ) (e : composed_by c exit ≡ compose image line commands flag priority message) where
+module _ (image line commands : List ℕ) (flag priority : ℕ) (message : List ℕ) (c : Result ℕ Refusal) (exit : List ℕ) (e : composed_by c exit ≡ compose image line commands flag priority message) where
   abbrev x : Composed
   x = compose image line commands flag priority message
 

@@ -1,36 +1,30 @@
 -- The answers of the reader and the writer as numbers are the definitions'.
-use Rattle.std.specs.Prelude.{◌≡◌, refl, List, ℕ, ◌≤◌, ◌<◌}
+use Rattle.std.specs.Prelude.{◌≡◌, refl, List, ℕ, ◌≤◌, ◌<◌, Result, Ok, Err}
 use Rattle.std.proofs.Common.{sym, ◌∙◌, ap, subst, arith}
 use Rattle.model.specs.Layout.{text_room}
 use Rattle.model.specs.Calls.{Converted}
-use Rattle.text_checks.specs.declared.answer.Conversion.{Conversion}
-use Rattle.text_checks.specs.declared.answer.Conversion.TheVariants as conversion
+use Rattle.refusals.specs.declared.Refusal.{Refusal}
 use Rattle.text_checks.specs.Answer.{converted_by, buffer_is}
 use Rattle.bivamolune_packing.specs.Packing.{packed_length, LengthUnpacks}
-use Rattle.bivamolune_packing.specs.PackingLaws.{length_unpacked}
-use Rattle.bivamolune_packing.specs.TextAnswers.{Converts, number_by, Short}
+use Rattle.bivamolune_packing.specs.PackingLaws.{length_unpacked, why_small}
+use Rattle.bivamolune_packing.specs.TextAnswers.{Converts}
+use Rattle.bivamolune_packing.specs.Lengths.{number_by, Short}
 
 -- ---- the number of an answer is that of its parts
-number_is : (c : Conversion) (buffer : List ℕ) → number_by c ≡ packed_length (converted_by c buffer).code (converted_by c buffer).size
-number_is (conversion.Written size) buffer = refl
-number_is conversion.WrongSize buffer = refl
-number_is conversion.WrongForm buffer = refl
-number_is conversion.ZeroNumber buffer = refl
+number_is : (c : Result ℕ Refusal) (buffer : List ℕ) → number_by c ≡ packed_length (converted_by c buffer).code (converted_by c buffer).size
+number_is (Ok size) buffer = refl
+number_is (Err why) buffer = omega arith
 
 -- its code is a byte
-code_small : (c : Conversion) (buffer : List ℕ) → (converted_by c buffer).code < 256
-code_small (conversion.Written size) buffer = omega arith
-code_small conversion.WrongSize buffer = omega arith
-code_small conversion.WrongForm buffer = omega arith
-code_small conversion.ZeroNumber buffer = omega arith
+code_small : (c : Result ℕ Refusal) (buffer : List ℕ) → (converted_by c buffer).code < 256
+code_small (Ok size) buffer = omega arith
+code_small (Err why) buffer = why_small why
 
-short_if : (c : Conversion) (buffer : List ℕ) → (converted_by c buffer).size ≤ text_room → Short c
-short_if (conversion.Written size) buffer h = h
-short_if conversion.WrongSize buffer h = tt
-short_if conversion.WrongForm buffer h = tt
-short_if conversion.ZeroNumber buffer h = tt
+short_if : (c : Result ℕ Refusal) (buffer : List ℕ) → (converted_by c buffer).size ≤ text_room → Short c
+short_if (Ok size) buffer h = omega arith
+short_if (Err why) buffer h = tt
 
-module _ (x : Converted) (c : Conversion) (exit : List ℕ) (e : converted_by c exit ≡ x) where
+module _ (x : Converted) (c : Result ℕ Refusal) (exit : List ℕ) (e : converted_by c exit ≡ x) where
   pub short : x.size ≤ text_room → Short c
   short h = short_if c exit (subst (λ (y : Converted). y.size ≤ text_room) (sym e) h)
 

@@ -1,12 +1,11 @@
 -- What the calls in C promise: the number that they answer, and every byte of the buffers that they may write.
-use Rattle.std.specs.Prelude.{◌≡◌, List, ℕ, ◌≤◌}
+use Rattle.std.specs.Prelude.{◌≡◌, List, ℕ, ◌≤◌, Result, Ok, Err}
 use Rattle.model.specs.Layout.{capacity}
 use Rattle.model.specs.Message.{Message}
 use Rattle.model.specs.Calls.{empty, deliver, purge}
-use Rattle.deliver_taking.specs.declared.answer.Delivery.{Delivery}
-use Rattle.deliver_taking.specs.Answer.{code_by, counts_by}
-use Rattle.empty.specs.declared.Emptying.{Emptying}
-use Rattle.empty.specs.declared.Emptying.TheVariants as emptying
+use Rattle.refusals.specs.declared.Refusal.{Refusal}
+use Rattle.refusals.specs.Refusals.{code_of}
+use Rattle.deliver_accepting.specs.declared.Counts.{Counts}
 use Rattle.bivamolune_packing.specs.Packing.{packed, Unpacks}
 
 pub record Empties (entry : List ℕ) (r : ℕ) (exit : List ℕ) : Type 0 where
@@ -25,13 +24,11 @@ pub record Delivers (image : List ℕ) (message : Message) (steps : List ℕ) (r
   pub steps_after : steps_exit ≡ (deliver image message steps).steps
 
 -- the number of each answer
-abbrev pub packed_by : Delivery → ℕ
-packed_by d = packed (code_by d) (counts_by d).0 (counts_by d).1
-
-abbrev pub emptied_code : Emptying → ℕ
-emptied_code emptying.Done = 0
-emptied_code emptying.WrongSize = 1
+abbrev pub packed_by : Result Counts Refusal → ℕ
+packed_by (Ok counts) = packed 0 counts.undos counts.executions
+packed_by (Err why) = code_of why
 
 -- its counts are at most 64
-abbrev pub Small : Delivery → Type 0
-Small d = ((counts_by d).0 ≤ capacity) × ((counts_by d).1 ≤ capacity)
+abbrev pub Small : Result Counts Refusal → Type 0
+Small (Ok counts) = (counts.undos ≤ capacity) × (counts.executions ≤ capacity)
+Small (Err why) = Unit {0}

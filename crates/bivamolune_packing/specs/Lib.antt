@@ -6,3 +6,4 @@ pub mod ReadAnswers
 pub mod ReadAnswerLaws
 pub mod ComposeAnswers
 pub mod TextAnswers
+pub mod Lengths

@@ -1,5 +1,5 @@
 -- The numbers of the reading calls are the definitions', and the C header gives their parts back.
-use Rattle.std.specs.Prelude.{◌≡◌, List, ℕ, ◌+◌, ◌*◌, ◌/◌, ◌≤◌, ◌<◌, length, take, drop, ℤ}
+use Rattle.std.specs.Prelude.{◌≡◌, List, ℕ, ◌+◌, ◌*◌, ◌/◌, ◌≤◌, ◌<◌, length, take, drop, ℤ, Result, Ok, Err}
 use Rattle.std.proofs.Common.{sym, ◌∙◌, ap, ap₂, subst, arith, length-take, length-drop}
 use Rattle.std.specs.Int.Signed.{mag}
 use Rattle.model.specs.Bytes.{integer, word}
@@ -8,15 +8,14 @@ use Rattle.model.specs.Calls as model
 use Rattle.model.specs.Calls.{log_message, setpoint}
 use Rattle.laws_wire.specs.BytesLaws.{integer_word}
 use Rattle.read_calls.specs.declared.answer.Located.{Located}
-use Rattle.read_calls.specs.declared.answer.Located.TheVariants as located
-use Rattle.read_calls.specs.declared.answer.Reading.{Reading}
-use Rattle.read_calls.specs.declared.answer.Reading.TheVariants as reading
+use Rattle.refusals.specs.declared.Refusal.{Refusal}
 use Rattle.read_calls.specs.Parts.{Part, log_part}
 use Rattle.read_calls.specs.Answers.{part_by, setpoint_by}
 use Rattle.read_calls.specs.PartCases.{IsPart}
 use Rattle.read_calls.proofs.PartCases.{is_part, part_code}
 use Rattle.read_calls.specs.ValueCases.{value_fits}
 use Rattle.bivamolune_packing.specs.Packing.{code_in}
+use Rattle.bivamolune_packing.specs.PackingLaws.{why_small}
 use Rattle.bivamolune_packing.specs.ReadAnswers.{part_number, size_in, offset_in, PartSmall, AnswersLogMessage, value_number, value_in, AnswersSetpoint}
 
 -- ---- the parts of a number
@@ -28,13 +27,11 @@ value_back : (code w : ℕ) → code < 256 → (code_in (code + 4294967296 * w) 
 value_back code w c = (omega arith, omega arith)
 
 -- ---- log message
-part_code_small : (r : Located) → (part_by r).code < 256
-part_code_small (located.At offset size) = omega arith
-part_code_small located.WrongSize = omega arith
-part_code_small located.NoImage = omega arith
-part_code_small located.NoPlace = omega arith
+part_code_small : (r : Result Located Refusal) → (part_by r).code < 256
+part_code_small (Ok located) = omega arith
+part_code_small (Err why) = why_small why
 
-module _ (image : List ℕ) (place : ℕ) (l : Located) (e : part_by l ≡ log_part image place) where
+module _ (image : List ℕ) (place : ℕ) (l : Result Located Refusal) (e : part_by l ≡ log_part image place) where
   abbrev p : Part
   p = log_part image place
 
@@ -42,7 +39,7 @@ module _ (image : List ℕ) (place : ℕ) (l : Located) (e : part_by l ≡ log_p
   is = is_part image place
 
   -- the part that was found lies inside
-  pub part_small : (offset size : ℕ) → l ≡ located.At offset size → PartSmall offset size
+  pub part_small : (offset size : ℕ) → l ≡ Ok (record { offset = offset; size = size }) → PartSmall offset size
   part_small offset size f = record { small = (subst (IsPart image place) (sym e ∙ ap part_by f) is).small }
 
   -- as long as the message
@@ -65,17 +62,15 @@ module _ (image : List ℕ) (place : ℕ) (l : Located) (e : part_by l ≡ log_p
       back = part_back p.code p.offset p.size (subst (λ (x : Part). x.code < 256) e (part_code_small l)) (omega (arith, is.small))
 
 -- ---- setpoint
-value_code_small : (r : Reading) → (setpoint_by r).code < 256
-value_code_small (reading.Value v) = omega arith
-value_code_small reading.WrongSize = omega arith
-value_code_small reading.NoImage = omega arith
-value_code_small reading.NoTag = omega arith
+value_code_small : (r : Result ℤ Refusal) → (setpoint_by r).code < 256
+value_code_small (Ok v) = omega arith
+value_code_small (Err why) = why_small why
 
 -- a value that was read fits 32 bits
-pub read_fits : (image : List ℕ) (tag : ℕ) (v : ℤ) → setpoint_by (reading.Value v) ≡ setpoint image tag → mag v < 2147483648
+pub read_fits : (image : List ℕ) (tag : ℕ) (v : ℤ) → setpoint_by (Ok v) ≡ setpoint image tag → mag v < 2147483648
 read_fits image tag v e = subst (λ (x : model.Setpoint). mag x.value < 2147483648) (sym e) (value_fits image tag)
 
-pub answers_setpoint : (image : List ℕ) (tag : ℕ) (d : Reading) → setpoint_by d ≡ setpoint image tag → (r : ℕ) → r ≡ value_number (setpoint_by d).code (setpoint_by d).value → AnswersSetpoint image tag r
+pub answers_setpoint : (image : List ℕ) (tag : ℕ) (d : Result ℤ Refusal) → setpoint_by d ≡ setpoint image tag → (r : ℕ) → r ≡ value_number (setpoint_by d).code (setpoint_by d).value → AnswersSetpoint image tag r
 answers_setpoint image tag d e r f = record {
   answer = number;
   code_back = ap code_in number ∙ back.0;

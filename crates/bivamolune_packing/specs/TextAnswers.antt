@@ -1,9 +1,6 @@
 -- What the reader and the writer of sequences promise in C: the number that they answer, and every byte of the output buffer.
-use Rattle.std.specs.Prelude.{◌≡◌, List, ℕ, ◌≤◌}
-use Rattle.model.specs.Layout.{text_room}
+use Rattle.std.specs.Prelude.{◌≡◌, List, ℕ}
 use Rattle.model.specs.Calls.{Converted, read_sequences, write_sequences}
-use Rattle.text_checks.specs.declared.answer.Conversion.{Conversion}
-use Rattle.text_checks.specs.declared.answer.Conversion.TheVariants as conversion
 use Rattle.bivamolune_packing.specs.Packing.{packed_length, LengthUnpacks}
 
 -- code + 256 × length, and the header gives the two back
@@ -17,17 +14,3 @@ ReadsSequences text entry r exit = Converts (read_sequences text entry) r exit
 
 abbrev pub WritesSequences : List ℕ → List ℕ → ℕ → List ℕ → Type 0
 WritesSequences sequences entry r exit = Converts (write_sequences sequences entry) r exit
-
--- the number of each answer
-abbrev pub number_by : Conversion → ℕ
-number_by (conversion.Written size) = packed_length 0 size
-number_by conversion.WrongSize = 1
-number_by conversion.WrongForm = 13
-number_by conversion.ZeroNumber = 14
-
--- what is written is at most 199 bytes long
-abbrev pub Short : Conversion → Type 0
-Short (conversion.Written size) = size ≤ text_room
-Short conversion.WrongSize = Unit {0}
-Short conversion.WrongForm = Unit {0}
-Short conversion.ZeroNumber = Unit {0}

@@ -1,10 +1,10 @@
-// The answers of deliver and of empty.
+// The answers of deliver.
 ghost use Rattle.std.specs.Prelude.{◌≡◌};
 ghost use Rattle.bivamolune_packing.specs.Packing.{packed, AnswerFits};
-ghost use Rattle.bivamolune_packing.specs.Answers.{packed_by, emptied_code, Small};
+ghost use Rattle.bivamolune_packing.specs.Answers.{packed_by, Small};
 
-use deliver_taking::answer::Delivery;
-use empty::Emptying;
+use deliver_accepting::Counts;
+use refusals::Refusal;
 
 // what an answer's counts are multiplied by
 const UNDOS_UNIT: u32 = 256;
@@ -20,29 +20,12 @@ fn pack_answer(code: u32, undos: usize, executions: usize) -> u32
 }
 
 // The number of what deliver answers.
-pub fn pack_delivery(d: Delivery) -> u32
-    requires { Small d }
-    ensures { result ≡ packed_by d }
+pub fn pack_delivery(answer: Result<Counts, Refusal>) -> u32
+    requires { Small answer }
+    ensures { result ≡ packed_by answer }
 {
-    match d {
-        Delivery::Accepted { undos, executions } => pack_answer(0, undos, executions),
-        Delivery::WrongSize => 1,
-        Delivery::NoImage => 2,
-        Delivery::WrongLayout => 3,
-        Delivery::WrongNumber => 4,
-        Delivery::WrongDependencies => 5,
-        Delivery::WrongContent => 6,
-        Delivery::Conflict => 7,
-        Delivery::Full => 8,
-    }
-}
-
-// The code of what empty answers.
-pub fn pack_emptying(e: Emptying) -> u32
-    ensures { result ≡ emptied_code e }
-{
-    match e {
-        Emptying::Done => 0,
-        Emptying::WrongSize => 1,
+    match answer {
+        Ok(counts) => pack_answer(0, counts.undos, counts.executions),
+        Err(why) => why.code(),
     }
 }
