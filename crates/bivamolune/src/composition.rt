@@ -1,7 +1,7 @@
 // Compose, for C.
 ghost use Rattle.bivamolune_packing.specs.ComposeAnswers.{Composes};
 
-use bivamolune_packing::compositions::pack_composition;
+use bivamolune_packing::lengths::pack_length;
 use compose::compose;
 
 // Composes a message, and answers code + 256 × length.
@@ -16,5 +16,5 @@ pub fn bivamolune_compose(
     ensures { Composes image.now line.now commands.now priority_flag priority message.old result message.new }
 {
     let composed = compose(image, line, commands, priority_flag, priority, message);
-    pack_composition(composed)
+    pack_length(composed)
 }

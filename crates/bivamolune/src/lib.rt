@@ -7,8 +7,8 @@ pub mod texts;
 
 ghost use Rattle.bivamolune_packing.specs.Answers.{Empties, Delivers, Purges};
 
-use bivamolune_packing::deliveries::{pack_delivery, pack_emptying};
-use bivamolune_packing::purges::pack_purging;
+use bivamolune_packing::codes::pack_code;
+use bivamolune_packing::deliveries::pack_delivery;
 use deliver::delivery::deliver;
 use empty::empty;
 use purge::purge;
@@ -17,22 +17,19 @@ use purge::purge;
 pub fn bivamolune_empty(image: &mut [u8]) -> u32
     ensures { Empties image.old result image.new }
 {
-    let done = empty(image);
-    pack_emptying(done)
+    pack_code(empty(image))
 }
 
 // Delivers a message, and answers code + 256 × undos + 65536 × executions.
 pub fn bivamolune_deliver(image: &mut [u8], message: &[u8], steps: &mut [u8]) -> u32
     ensures { Delivers image.old message.now steps.old result image.new steps.new }
 {
-    let delivered = deliver(image, message, steps);
-    pack_delivery(delivered)
+    pack_delivery(deliver(image, message, steps))
 }
 
 // Drops the first k log messages, and answers the code.
 pub fn bivamolune_purge(image: &mut [u8], k: u32) -> u32
     ensures { Purges image.old k result image.new }
 {
-    let purged = purge(image, k as usize);
-    pack_purging(purged)
+    pack_code(purge(image, k as usize))
 }

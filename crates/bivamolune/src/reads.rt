@@ -2,7 +2,6 @@
 ghost use Rattle.bivamolune_packing.specs.ReadAnswers.{AnswersLogMessage, AnswersSetpoint};
 
 use bivamolune_packing::reads::{pack_part, pack_value};
-use read_calls::answer::{Located, Reading};
 use read_calls::locating::locate;
 use read_calls::setpoint::setpoint;
 
@@ -10,12 +9,9 @@ use read_calls::setpoint::setpoint;
 pub fn bivamolune_log_message(image: &[u8], place: u32) -> u64
     ensures { AnswersLogMessage image.now place result }
 {
-    let located = locate(image, place as usize);
-    match located {
-        Located::At { offset, size } => pack_part(offset, size),
-        Located::WrongSize => 1,
-        Located::NoImage => 2,
-        Located::NoPlace => 12,
+    match locate(image, place as usize) {
+        Ok(located) => pack_part(located.offset, located.size),
+        Err(why) => u64::from(why.code()),
     }
 }
 
@@ -23,11 +19,8 @@ pub fn bivamolune_log_message(image: &[u8], place: u32) -> u64
 pub fn bivamolune_setpoint(image: &[u8], tag: u32) -> u64
     ensures { AnswersSetpoint image.now tag result }
 {
-    let reading = setpoint(image, tag as usize);
-    match reading {
-        Reading::Value(value) => pack_value(value),
-        Reading::WrongSize => 1,
-        Reading::NoImage => 2,
-        Reading::NoTag => 12,
+    match setpoint(image, tag as usize) {
+        Ok(value) => pack_value(value),
+        Err(refusal) => u64::from(refusal.code()),
     }
 }
