@@ -1,12 +1,12 @@
 -- What document 01 promises of a composed message, over what `compose` and `deliver` were proved to leave behind, their own postconditions.
-use Rattle.std.specs.Prelude.{◌≡◌, List, ℕ}
+use Rattle.std.specs.Prelude.{◌≡◌, List, ℕ, Result}
 use Rattle.std.proofs.Common.{sym, ◌∙◌, ap₂}
 use Rattle.std.specs.Borrow.{Bor, MutBor}
 use contract.Lifetimes.{Lfts}
 use Rattle.model.specs.Calls.{Composed, compose}
 use Rattle.laws_compose.specs.ComposePromise.{ComposePromise}
 use Rattle.laws_compose.proofs.PromiseKept.{promise_of}
-use Rattle.compose_message.specs.declared.answer.Composition.{Composition}
+use Rattle.refusals.specs.declared.Refusal.{Refusal}
 use Rattle.compose_message.specs.Answer.{composed_by}
 use Rattle.compose.proofs.compose.Reads as compose_reads
 use Rattle.theorems_calls.specs.Runs.{DeliveredTo, delivered_as}
@@ -19,7 +19,7 @@ pub record ComposedOn (b line commands : List ℕ) (flag priority : ℕ) (buffer
   pub commands_lent : Bor (List ℕ)
   pub message_entry : MutBor (List ℕ)
   pub message_exit : MutBor (List ℕ)
-  pub result : Composition
+  pub result : Result ℕ Refusal
   pub post : compose_reads.Post lifetimes (image, (line_lent, (commands_lent, (flag, (priority, (message_entry, tt)))))) result (image, (line_lent, (commands_lent, (flag, (priority, (message_exit, tt))))))
   pub on : b ≡ image.now
   pub of_line : line ≡ line_lent.now

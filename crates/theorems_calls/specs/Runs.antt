@@ -1,6 +1,6 @@
 -- Demands 2 and 3 of the code, over whole lists of calls: stated over what `empty`, `deliver` and `purge` were proved to leave behind, their
 -- own postconditions.
-use Rattle.std.specs.Prelude.{◌≡◌, List, ℕ}
+use Rattle.std.specs.Prelude.{◌≡◌, List, ℕ, Result}
 use Rattle.std.proofs.Common.{sym, ◌∙◌, ap, ap₂}
 use Rattle.std.specs.Borrow.{Bor, MutBor}
 use contract.Lifetimes.{Lfts}
@@ -9,11 +9,10 @@ use Rattle.model.specs.Calls.{Emptied, empty, Delivered, deliver, Purged, purge}
 use Rattle.model_runs.specs.Run.{Agreement}
 use Rattle.model_runs.specs.RunOrder.{OrderKept}
 use Rattle.laws_run.specs.CalledRuns.{Began, Answered, called_agreement, called_order}
-use Rattle.deliver_taking.specs.declared.answer.Delivery.{Delivery}
-use Rattle.empty.specs.declared.Emptying.{Emptying}
+use Rattle.refusals.specs.declared.Refusal.{Refusal}
+use Rattle.deliver_accepting.specs.declared.Counts.{Counts}
 use Rattle.deliver_taking.specs.Answer.{delivered_by}
 use Rattle.empty.specs.EmptyAnswer.{emptied_by}
-use Rattle.purge_dropping.specs.declared.answer.Purging.{Purging}
 use Rattle.purge_dropping.specs.PurgeAnswer.{purged_by}
 use Rattle.empty.proofs.empty.Reads as empty_reads
 use Rattle.deliver.proofs.delivery.deliver.Reads as deliver_reads
@@ -24,7 +23,7 @@ pub record EmptiedFrom (buffer : List ℕ) (a : Emptied) : Type 0 where
   pub lifetimes : Lfts 1
   pub entry : MutBor (List ℕ)
   pub exit : MutBor (List ℕ)
-  pub result : Emptying
+  pub result : Result (Unit {0}) Refusal
   pub post : empty_reads.Post lifetimes (entry, tt) result (exit, tt)
   pub lent : buffer ≡ entry.now
   pub answer : a ≡ emptied_by result exit.now
@@ -37,7 +36,7 @@ pub record DeliveredTo (b : List ℕ) (m : Message) (steps : List ℕ) (a : Deli
   pub message : Bor (List ℕ)
   pub steps_entry : MutBor (List ℕ)
   pub steps_exit : MutBor (List ℕ)
-  pub result : Delivery
+  pub result : Result Counts Refusal
   pub post : deliver_reads.Post lifetimes (image_entry, (message, (steps_entry, tt))) result (image_exit, (message, (steps_exit, tt)))
   pub image : b ≡ image_entry.now
   pub sent : m ≡ message.now
@@ -49,7 +48,7 @@ pub record PurgedFrom (b : List ℕ) (K : ℕ) (a : Purged) : Type 0 where
   pub lifetimes : Lfts 1
   pub entry : MutBor (List ℕ)
   pub exit : MutBor (List ℕ)
-  pub result : Purging
+  pub result : Result (Unit {0}) Refusal
   pub post : purge_reads.Post lifetimes (entry, (K, tt)) result (exit, (K, tt))
   pub lent : b ≡ entry.now
   pub answer : a ≡ purged_by result exit.now
