@@ -1,13 +1,13 @@
 -- What Paper 2 promises of texts, over what `read_sequences` and `write_sequences` were proved to leave behind, their own
 -- postconditions: each gives back what the other was given.
-use Rattle.std.specs.Prelude.{◌≡◌, List, ℕ, ◌≤◌, length}
+use Rattle.std.specs.Prelude.{◌≡◌, List, ℕ, ◌≤◌, length, Result}
 use Rattle.std.proofs.Common.{sym, ◌∙◌, ap, ap₂}
 use Rattle.std.specs.Borrow.{Bor, MutBor}
 use contract.Lifetimes.{Lfts}
 use Rattle.model.specs.Layout.{sequences_room, text_room}
 use Rattle.model.specs.Calls.{Converted, converted_answer, front, read_sequences, write_sequences}
 use Rattle.laws_text.specs.RoundTrips as laws
-use Rattle.text_checks.specs.declared.answer.Conversion.{Conversion}
+use Rattle.refusals.specs.declared.Refusal.{Refusal}
 use Rattle.text_checks.specs.Answer.{converted_by}
 use Rattle.text_reading.proofs.read_sequences.Reads as read_reads
 use Rattle.text_writing.proofs.write_sequences.Reads as write_reads
@@ -18,7 +18,7 @@ pub record ReadFrom (t entry : List ℕ) (a : Converted) : Type 0 where
   pub text : Bor (List ℕ)
   pub sequences_entry : MutBor (List ℕ)
   pub sequences_exit : MutBor (List ℕ)
-  pub result : Conversion
+  pub result : Result ℕ Refusal
   pub post : read_reads.Post lifetimes (text, (sequences_entry, tt)) result (text, (sequences_exit, tt))
   pub of : t ≡ text.now
   pub given : entry ≡ sequences_entry.now
@@ -30,7 +30,7 @@ pub record WrittenFrom (b entry : List ℕ) (a : Converted) : Type 0 where
   pub sequences : Bor (List ℕ)
   pub text_entry : MutBor (List ℕ)
   pub text_exit : MutBor (List ℕ)
-  pub result : Conversion
+  pub result : Result ℕ Refusal
   pub post : write_reads.Post lifetimes (sequences, (text_entry, tt)) result (sequences, (text_exit, tt))
   pub of : b ≡ sequences.now
   pub given : entry ≡ text_entry.now
