@@ -1,15 +1,16 @@
--- errno of an error, and that the error of a failure is there.
-use Rattle.std.specs.Prelude.{◌≡◌, Bool, true, false, Option, ⊤, ℕ, ℤ, pos}
-use Rattle.std.specs.Option.{unwrap_or, IsSomeAnd}
+-- errno of an error, and that the error of a failure is no interruption.
+use Rattle.std.specs.Prelude.{◌≡◌, Bool, false, ⊤, Result, Ok, Err, ℕ, eqb, ℤ, pos, negsuc}
+use Rattle.std.specs.Option.{unwrap_or}
 use Rattle.std.specs.IoError.{raw_os_error, error_kind}
 use Rattle.std.specs.declared.io.Error.{Error}
 use Rattle.std.specs.declared.io.ErrorKind.{ErrorKind}
 use Rattle.std.specs.declared.io.ErrorKind.TheVariants.{Interrupted}
-use Rattle.program_input.specs.Reading.{is_interrupted}
-use Rattle.program_input.specs.declared.answer.Reading.{Reading}
-use Rattle.program_input.specs.declared.answer.Reading.TheVariants as reading
-use Rattle.program_input.specs.declared.answer.Input.{Input}
-use Rattle.program_input.specs.declared.answer.Input.TheVariants as input
+use Rattle.program_input.specs.declared.answer.Failure.{Failure}
+
+-- errno of a read that a signal interrupted
+abbrev pub is_interrupted : ℤ → Bool
+is_interrupted (pos error) = eqb error 4
+is_interrupted (negsuc error) = false
 
 -- errno of an error that the system did not number
 abbrev pub errno_of_kind : ErrorKind → ℤ
@@ -20,16 +21,7 @@ errno_of_kind _ = pos 0
 abbrev pub errno_of : Error → ℤ
 errno_of error = unwrap_or (raw_os_error error) (errno_of_kind (error_kind error))
 
--- there is an error, and `is` tells whether it is an interruption
-abbrev pub IsInterruption : Bool → Option Error → Type 0
-IsInterruption is why = IsSomeAnd why (λ error. is_interrupted (errno_of error) ≡ is)
-
--- where an input failed, the error that it failed by is there, and no interruption
-abbrev pub InputTells : Input → Option Error → Type 0
-InputTells (input.Bytes n) why = ⊤
-InputTells (input.Failed n) why = IsInterruption false why
-
--- the same of a reading behind `at` bytes; what goes on with nothing read was interrupted
-abbrev pub ReadingTells : ℕ → Reading → Option Error → Type 0
-ReadingTells at (reading.Going n) why = n ≡ at → IsInterruption true why
-ReadingTells at (reading.Over i) why = InputTells i why
+-- the error that an input failed by is no interruption
+abbrev pub InputTells : Result ℕ Failure → Type 0
+InputTells (Ok n) = ⊤
+InputTells (Err failure) = is_interrupted (errno_of failure.error) ≡ false

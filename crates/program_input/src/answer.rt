@@ -1,63 +1,44 @@
 // What an answer of read says, and errno of the error that a read fails by.
-ghost use Rattle.std.specs.Prelude.{◌+◌, ◌<◌, ◌≡◌};
-ghost use Rattle.std.specs.Int.Signed.{mag};
+ghost use Rattle.std.specs.Prelude.{◌≡◌};
 ghost use Rattle.program_input.specs.Reading.{reading_after, goes_on};
 ghost use Rattle.program_input.specs.Failing.{errno_of, errno_of_kind};
 
-use std::io::{Error, ErrorKind};
+use std::io::{Error, ErrorKind, Result};
 
 // errno of a call that a signal interrupted.
 pub const EINTR: i32 = 4;
 
-// What all reads brought: how many bytes, and whether they are all that was to be read, or a read behind them failed.
+// A read that failed, and how many bytes those before it brought.
 #[derive(Clone, Copy)]
-pub enum Input {
-    Bytes(usize),
-    Failed(usize),
+pub struct Failure {
+    pub read: usize,
+    pub error: Error,
 }
 
-// What is known behind a read: so many bytes are there and more may come, or reading is over.
-#[derive(Clone, Copy)]
-pub enum Reading {
-    Going(usize),
-    Over(Input),
-}
-
-// What read's answer says where `at` bytes were there before it; `error` is errno, and counts only where read failed.
-pub fn judge_answer(at: usize, got: isize, error: i32) -> Reading
-    requires { at + mag got < 18446744073709551616 }
-    ensures { result ≡ reading_after at got error }
+// How many bytes read's answer says it brought, none where a signal interrupted it; `None` at the end of the input.
+pub fn judge_answer(answer: Result<usize>) -> Result<Option<usize>>
+    ensures { result ≡ reading_after answer }
 {
-    if got < 0 {
-        if error == EINTR {
-            return Reading::Going(at);
-        }
-        return Reading::Over(Input::Failed(at));
+    match answer {
+        Ok(0) => Ok(None),
+        Ok(n) => Ok(Some(n)),
+        Err(error) if errno_of(&error) == EINTR => Ok(Some(0)),
+        Err(error) => Err(error),
     }
-    if got == 0 {
-        return Reading::Over(Input::Bytes(at));
-    }
-    Reading::Going(at + (got as usize))
 }
 
 // Whether more may come.
-pub fn goes_on(reading: Reading) -> bool
+pub fn goes_on(reading: Result<Option<usize>>) -> bool
     ensures { result ≡ goes_on reading }
 {
-    match reading {
-        Reading::Going(_) => true,
-        Reading::Over(_) => false,
-    }
+    matches!(reading, Ok(Some(_)))
 }
 
 // errno of an error. One that the system did not number is told by its kind.
 pub fn errno_of(error: &Error) -> i32
     ensures { result ≡ errno_of error.now }
 {
-    match error.raw_os_error() {
-        Some(code) => code,
-        None => errno_of_kind(error.kind()),
-    }
+    error.raw_os_error().unwrap_or(errno_of_kind(error.kind()))
 }
 
 fn errno_of_kind(kind: ErrorKind) -> i32

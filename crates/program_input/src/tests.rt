@@ -1,5 +1,5 @@
 // A reader that brings little, is interrupted, and may fail in the end.
-use crate::answer::{EINTR, Input};
+use crate::answer::EINTR;
 use crate::{drop_rest, read_input};
 use std::io::{Error, Read, Result};
 
@@ -41,9 +41,8 @@ fn reader_of(bytes: &[u8], fails: bool) -> Halting<'_> {
 fn interruptions_are_read_over(rt: HostRuntime) {
     let mut reader = reader_of(b"hello", false);
     let mut buf = [0u8; 8];
-    let mut why = None;
-    let input = read_input(&mut reader, &mut buf, &mut why);
-    assert!(rt; matches!(input, Input::Bytes(5)));
+    let input = read_input(&mut reader, &mut buf);
+    assert!(rt; matches!(input, Ok(5)));
     assert_eq!(rt; &buf[..5], b"hello".as_slice());
 }
 
@@ -51,21 +50,21 @@ fn interruptions_are_read_over(rt: HostRuntime) {
 fn a_failure_behind_some_bytes(rt: HostRuntime) {
     let mut reader = reader_of(b"hello", true);
     let mut buf = [0u8; 8];
-    let mut why = None;
-    let input = read_input(&mut reader, &mut buf, &mut why);
-    assert!(rt; matches!(input, Input::Failed(5)));
+    let input = read_input(&mut reader, &mut buf);
+    let Err(failure) = input else {
+        panic!(rt; "the last read fails");
+    };
+    assert_eq!(rt; failure.read, 5);
     assert_eq!(rt; &buf[..5], b"hello".as_slice());
-    let error = why.and_then(|error| error.raw_os_error());
-    assert_eq!(rt; error, Some(EIO));
+    assert_eq!(rt; failure.error.raw_os_error(), Some(EIO));
 }
 
 #[test]
 fn the_rest_is_dropped(rt: HostRuntime) {
     let mut reader = reader_of(b"hello, world", false);
     let mut buf = [0u8; 5];
-    let mut why = None;
-    let input = read_input(&mut reader, &mut buf, &mut why);
-    assert!(rt; matches!(input, Input::Bytes(5)));
+    let input = read_input(&mut reader, &mut buf);
+    assert!(rt; matches!(input, Ok(5)));
     assert_eq!(rt; reader.bytes.len(), 7);
     drop_rest(&mut reader);
     assert!(rt; reader.bytes.is_empty());
