@@ -11,17 +11,15 @@ fn spell(text: &mut [u8], x: usize) -> usize
     requires { length text.old ≡ digits_room }
     ensures { (result ≤ digits_room) × (drop result text.new ≡ numeral x) }
 {
-    let mut first = DIGITS;
     let mut rest = x;
-    while 0 < first {
-        first -= 1;
+    for first in (0..DIGITS).rev() {
         text[first] = (ZERO + rest % 10) as u8;
         if rest < 10 {
             return first;
         }
-        rest = rest / 10;
+        rest /= 10;
     }
-    first
+    0
 }
 
 // Writes a number from a place on, and answers the place behind it.
