@@ -1,10 +1,8 @@
 -- What a cut of the input is.
-use Rattle.std.specs.Prelude.{◌≡◌, true, false, List, ℕ, ◌≤◌, length}
+use Rattle.std.specs.Prelude.{◌≡◌, true, false, Option, Some, None, List, ℕ, ◌≤◌, length}
 use Rattle.model.specs.Bytes.{field}
 use Rattle.model.specs.Layout.{length_at, shortest_cut}
 use Rattle.model.specs.Program.{bad_cut}
-use Rattle.listing_cut.specs.declared.Cut.{Cut}
-use Rattle.listing_cut.specs.declared.Cut.TheVariants as cut
 
 -- The size that the length field of what is left names.
 abbrev pub size_of : List ℕ → ℕ
@@ -17,6 +15,6 @@ pub record RightCut (rest : List ℕ) (size : ℕ) : Type 0 where
   pub short : shortest_cut ≤ size
   pub inside : size ≤ length rest
 
-abbrev pub IsCut : List ℕ → Cut → Type 0
-IsCut rest (cut.Message size) = RightCut rest size
-IsCut rest cut.Wrong = bad_cut rest ≡ true
+abbrev pub IsCut : List ℕ → Option ℕ → Type 0
+IsCut rest (Some size) = RightCut rest size
+IsCut rest None = bad_cut rest ≡ true

@@ -9,30 +9,17 @@ use crate::limits::{LENGTH_SIZE, LONGEST_CUT, SHORTEST_CUT};
 use buffer_reads::get_u16;
 use layout::LENGTH_AT;
 
-// The size of the next message, or that the cut is wrong.
-#[derive(Clone, Copy)]
-pub enum Cut {
-    Message(usize),
-    Wrong,
-}
-
-// Cuts the next message: a length outside 48..200 or past the end is wrong, and so is a rest without a length.
+// Cuts the next message, and answers its size: a length outside 48..200 or past the end is wrong, and so is a rest without a length.
 #[tactic(auto, using(crate::proofs::Cuts::cuts))]
-pub fn read_cut(rest: &[u8]) -> Cut
+pub fn read_cut(rest: &[u8]) -> Option<usize>
     ensures { IsCut rest.now result }
 {
     if rest.len() < LENGTH_AT + LENGTH_SIZE {
-        return Cut::Wrong;
+        return None;
     }
     let size = get_u16(rest, LENGTH_AT) as usize;
-    if size < SHORTEST_CUT {
-        return Cut::Wrong;
+    if size < SHORTEST_CUT || LONGEST_CUT < size || rest.len() < size {
+        return None;
     }
-    if LONGEST_CUT < size {
-        return Cut::Wrong;
-    }
-    if rest.len() < size {
-        return Cut::Wrong;
-    }
-    Cut::Message(size)
+    Some(size)
 }
