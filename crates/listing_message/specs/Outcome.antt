@@ -1,16 +1,18 @@
 -- What a message's delivery answers, and its line.
-use Rattle.std.specs.Prelude.{◌≡◌, List, ℕ}
+use Rattle.std.specs.Prelude.{◌≡◌, List, ℕ, Result, Ok, Err}
 use Rattle.model.specs.Calls.{Delivered, deliver}
 use Rattle.model.specs.Program.{printed_line, step_buffer}
 use Rattle.program_decimal.specs.Puts.{Puts}
 use Rattle.listing_lines.specs.Rooms.{line_room}
-use Rattle.deliver_taking.specs.declared.answer.Delivery.{Delivery}
-use Rattle.deliver_taking.specs.Answer.{code_by, counts_by}
+use Rattle.refusals.specs.declared.Refusal.{Refusal}
+use Rattle.refusals.specs.Refusals.{code_of}
+use Rattle.deliver_accepting.specs.declared.Counts.{Counts}
 use Rattle.listing_message.specs.declared.delivering.Outcome.{Outcome}
 
 -- An answer's code and counts.
-abbrev pub outcome_by : Delivery → Outcome
-outcome_by d = record { code = code_by d; undos = (counts_by d).0; executions = (counts_by d).1 }
+abbrev pub outcome_by : Result Counts Refusal → Outcome
+outcome_by (Ok counts) = record { code = 0; undos = counts.undos; executions = counts.executions }
+outcome_by (Err why) = record { code = code_of why; undos = 0; executions = 0 }
 
 -- A delivery of the listing program, under a name that stays shut.
 unfoldable pub answered : List ℕ → List ℕ → Delivered

@@ -4,9 +4,10 @@ ghost use Rattle.listing_lines.specs.Rooms.{line_room};
 ghost use Rattle.listing_message.specs.Outcome.{outcome_by, Answers, Listed};
 
 use deliver::delivery::deliver;
-use deliver_taking::answer::Delivery;
+use deliver_accepting::Counts;
 use layout::STEP_ROOM;
 use listing_lines::printing::put_line;
+use refusals::Refusal;
 
 // The numbers of a message's line.
 #[derive(Clone, Copy)]
@@ -16,34 +17,22 @@ pub struct Outcome {
     pub executions: usize,
 }
 
-fn refused(code: usize) -> Outcome
-    ensures { result ≡ record { code = code; undos = 0; executions = 0 } }
-{
-    Outcome {
-        code: code,
-        undos: 0,
-        executions: 0,
-    }
-}
-
 // The code and the counts of what deliver answered.
-fn outcome_of(d: Delivery) -> Outcome
-    ensures { result ≡ outcome_by d }
+#[tactic(auto, unfolding(crate::specs::Outcome::outcome_by))]
+fn outcome_of(delivered: Result<Counts, Refusal>) -> Outcome
+    ensures { result ≡ outcome_by delivered }
 {
-    match d {
-        Delivery::Accepted { undos, executions } => Outcome {
+    match delivered {
+        Ok(counts) => Outcome {
             code: 0,
-            undos: undos,
-            executions: executions,
+            undos: counts.undos,
+            executions: counts.executions,
         },
-        Delivery::WrongSize => refused(1),
-        Delivery::NoImage => refused(2),
-        Delivery::WrongLayout => refused(3),
-        Delivery::WrongNumber => refused(4),
-        Delivery::WrongDependencies => refused(5),
-        Delivery::WrongContent => refused(6),
-        Delivery::Conflict => refused(7),
-        Delivery::Full => refused(8),
+        Err(why) => Outcome {
+            code: why.code() as usize,
+            undos: 0,
+            executions: 0,
+        },
     }
 }
 
