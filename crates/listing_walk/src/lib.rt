@@ -6,7 +6,7 @@ ghost use Rattle.model.specs.Layout.{image_size};
 ghost use Rattle.program_decimal.specs.Puts.{Puts};
 ghost use Rattle.listing_walk.specs.Lines.{lines, room_for};
 
-use listing_cut::{Cut, read_cut};
+use listing_cut::read_cut;
 use listing_lines::printing::{put_last, put_wrong_cut};
 use listing_message::delivering::list_message;
 
@@ -20,7 +20,7 @@ pub fn list_messages(input: &[u8], image: &mut [u8], out: &mut [u8]) -> usize
     let mut at = 0;
     while from < input.len() {
         let cut = read_cut(&input[from..]);
-        let Cut::Message(size) = cut else {
+        let Some(size) = cut else {
             return put_wrong_cut(out, at, number, image);
         };
         let end = from + size;

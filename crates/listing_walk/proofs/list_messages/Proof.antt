@@ -31,17 +31,17 @@ rest h = drop h.loop-from.from (start h).args.input.now
 cut_of : (c : tie.After-read_cut-cut invariant-loop decreases-loop) → IsCut (rest (turn c)) c.read_cut-cut.result
 cut_of c = subst (λ (l : List ℕ). IsCut l c.read_cut-cut.result) (rest_is (start (turn c)).args.input.now (turn c).loop-from.from) c.read_cut-cut.ensures
 
-right_cut : (c : tie.In-Message invariant-loop decreases-loop) → RightCut (rest (turn c.before)) c.in-Message.size
-right_cut c = subst (IsCut (rest (turn c.before))) c.in-Message.is (cut_of c.before)
+right_cut : (c : tie.In-Some invariant-loop decreases-loop) → RightCut (rest (turn c.before)) c.in-Some.size
+right_cut c = subst (IsCut (rest (turn c.before))) c.in-Some.is (cut_of c.before)
 
 -- the message ends within the input
-ends : (c : tie.In-Message invariant-loop decreases-loop) → (turn c.before).loop-from.from + c.in-Message.size ≤ length (start (turn c.before)).args.input.now
+ends : (c : tie.In-Some invariant-loop decreases-loop) → (turn c.before).loop-from.from + c.in-Some.size ≤ length (start (turn c.before)).args.input.now
 ends c =
     let h = turn c.before in
     omega (arith, (right_cut c).inside, length-drop h.loop-from.from (start h).args.input.now, h.loop-from.invariant.inside)
 
 -- where the cut was read, from where its message is listed
-abbrev cut-before : tie.After-slice_known-in-loop-from-2-1 invariant-loop decreases-loop → tie.In-Message invariant-loop decreases-loop
+abbrev cut-before : tie.After-slice_known-in-loop-from-2-1 invariant-loop decreases-loop → tie.In-Some invariant-loop decreases-loop
 cut-before c = c.before.before.before.before.before.before.before.before
 
 loop-holds : tie.Need-loop-from-init invariant-loop decreases-loop
