@@ -4,7 +4,6 @@
 
 use listing_whole::limits::{INPUT_LIMIT, LISTING_ROOM};
 use listing_whole::walking::list;
-use program_input::answer::Input;
 use program_input::{drop_rest, read_input};
 use std::process::ExitCode;
 
@@ -22,20 +21,17 @@ fn print_listing(rt: &(impl Print + Eprint), input: &[u8]) -> ExitCode {
 fn main(rt: HostRuntime) -> ExitCode {
     let mut stdin = rt.stdin();
     let mut buf = [0u8; INPUT_LIMIT];
-    let mut why = None;
-    let input = read_input(&mut stdin, &mut buf, &mut why);
-    match input {
-        Input::Bytes(n) => {
+    match read_input(&mut stdin, &mut buf) {
+        Ok(n) => {
             let status = print_listing(&rt, &buf[..n]);
             if n == INPUT_LIMIT {
                 drop_rest(&mut stdin);
             }
             status
         }
-        Input::Failed(n) => {
-            let error = why.unwrap();
-            let _ = eprintln!(rt; "standard input: {error}");
-            print_listing(&rt, &buf[..n])
+        Err(failure) => {
+            let _ = eprintln!(rt; "standard input: {}", failure.error);
+            print_listing(&rt, &buf[..failure.read])
         }
     }
 }
