@@ -1,5 +1,5 @@
 -- What the reader or the writer answered, as what is printed; and the line of an input.
-use Rattle.std.specs.Prelude.{◌≡◌, refl, Bool, cond, take, drop, get_or}
+use Rattle.std.specs.Prelude.{◌≡◌, refl, Bool, cond, take, drop, get_or, Result}
 use Rattle.std.proofs.Common.{sym, ◌∙◌, arith, drop-cons, eq-eqb, ne_eqb, le-ltb}
 use Rattle.std.proofs.Math.Path.{ap, ap₂}
 use mathlib.Core.List.{List, [], ◌∷◌, ◌++◌}
@@ -15,7 +15,7 @@ use Rattle.model.specs.Calls.{written, Converted, converted_answer, read_sequenc
 use Rattle.model.specs.Program.{line_feed, printable, without_line_feed, Printed, printed, printed_sequences, printed_text, other_form}
 use Rattle.laws_codes.specs.Ladder.{free}
 use Rattle.laws_text.specs.AnswerLaws.{read_told, write_told}
-use Rattle.text_checks.specs.declared.answer.Conversion.{Conversion}
+use Rattle.refusals.specs.declared.Refusal.{Refusal}
 use Rattle.text_checks.specs.Answer.{converted_by, buffer_is}
 use Rattle.sequences_forms.specs.Forms.{put_at_front, LineSize}
 
@@ -84,7 +84,7 @@ unfolding other_form
 form_is input e = ap (λ (t : Bool). form_by t input) (sym e)
 
 -- ---- what is printed lies within the output
-pub put_inside : (p : Printed) (entry : List ℕ) (r : Conversion) (exit : List ℕ) → converted_by r exit ≡ put_at_front p entry → (converted_by r exit).size ≤ length exit
+pub put_inside : (p : Printed) (entry : List ℕ) (r : Result ℕ Refusal) (exit : List ℕ) → converted_by r exit ≡ put_at_front p entry → (converted_by r exit).size ≤ length exit
 unfolding put_at_front
 put_inside p entry r exit e =
     let long : (converted_by r exit).size ≡ length p.output = ap (λ (a : Converted). a.size) e in

@@ -10,7 +10,7 @@ ghost use Rattle.sequences_forms.specs.Forms.{put_at_front};
 
 use crate::lines::{LINE_FEED, is_printable, line_size};
 use layout::TEXT_ROOM;
-use text_checks::answer::Conversion;
+use refusals::Refusal;
 use text_reading::read_sequences;
 use text_writing::write_sequences;
 
@@ -18,19 +18,17 @@ use text_writing::write_sequences;
 pub const OUTPUT_ROOM: usize = TEXT_ROOM + 1;
 
 // The text of sequences as a line.
-fn put_line(sequences: &[u8], output: &mut [u8; OUTPUT_ROOM]) -> Conversion
+#[tactic(auto, using(crate::proofs::Printing::printing))]
+fn put_line(sequences: &[u8], output: &mut [u8; OUTPUT_ROOM]) -> Result<usize, Refusal>
     ensures { converted_by result output.new ≡ put_at_front (printed_text sequences.now) output.old }
 {
-    let written = write_sequences(sequences, output);
-    let Conversion::Written(size) = written else {
-        return written;
-    };
+    let size = write_sequences(sequences, output)?;
     output[size] = LINE_FEED;
-    Conversion::Written(size + 1)
+    Ok(size + 1)
 }
 
 // Puts what is printed for an input at the front of the output, as many bytes as the answer says.
-pub fn convert(input: &[u8], output: &mut [u8; OUTPUT_ROOM]) -> Conversion
+pub fn convert(input: &[u8], output: &mut [u8; OUTPUT_ROOM]) -> Result<usize, Refusal>
     ensures { converted_by result output.new ≡ put_at_front (other_form input.now) output.old }
 {
     let size = line_size(input);

@@ -7,17 +7,17 @@ ghost use Rattle.sequences_forms.specs.Forms.{LineSize};
 pub const LINE_FEED: u8 = 10;
 
 // How long an input is without a line feed at its end.
+#[tactic(auto, using(crate::specs::FormCases::no_line, crate::specs::FormCases::line_fed, crate::specs::FormCases::line_whole))]
 pub fn line_size(input: &[u8]) -> usize
     ensures { LineSize input.now result }
 {
-    let size = input.len();
-    if size == 0 {
+    let Some(last) = input.last() else {
         return 0;
+    };
+    if *last == LINE_FEED {
+        return input.len() - 1;
     }
-    if input[size - 1] == LINE_FEED {
-        return size - 1;
-    }
-    size
+    input.len()
 }
 
 // Whether all characters are printable. It looks at all of them.
@@ -25,10 +25,8 @@ pub fn is_printable(line: &[u8]) -> bool
     ensures { result ≡ every printable line.now }
 {
     let mut ok = true;
-    let mut i = 0;
-    while i < line.len() {
-        ok = ok & (32 <= line[i]) & (line[i] <= 126);
-        i += 1;
+    for c in line {
+        ok = ok & (32 <= *c) & (*c <= 126);
     }
     ok
 }
