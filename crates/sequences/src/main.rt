@@ -1,11 +1,9 @@
 // The program `sequences` for the service laptop: standard input read, the other form written.
 #![tactic(auto)]
 
-use program_input::answer::Input;
 use program_input::{drop_rest, read_input};
 use sequences_forms::{OUTPUT_ROOM, convert};
 use std::process::ExitCode;
-use text_checks::answer::Conversion;
 
 // More than either form has: an input that fills it is refused.
 const INPUT_ROOM: usize = 256;
@@ -28,25 +26,21 @@ fn refuse(rt: &impl Eprint, code: u32) -> ExitCode {
 // Prints the other form of an input, or the code that refuses it.
 fn print_other(rt: &(impl Print + Eprint), input: &[u8]) -> ExitCode {
     let mut out = [0u8; OUTPUT_ROOM];
-    let answer = convert(input, &mut out);
-    match answer {
-        Conversion::Written(n) => print(rt, &out[..n]),
-        // the output is large enough
-        Conversion::WrongSize => refuse(rt, 1),
-        Conversion::WrongForm => refuse(rt, 13),
-        Conversion::ZeroNumber => refuse(rt, 14),
+    match convert(input, &mut out) {
+        Ok(n) => print(rt, &out[..n]),
+        Err(why) => refuse(rt, why.code()),
     }
 }
 
 fn main(rt: HostRuntime) -> ExitCode {
     let mut stdin = rt.stdin();
     let mut buf = [0u8; INPUT_ROOM];
-    let mut why = None;
-    let input = read_input(&mut stdin, &mut buf, &mut why);
-    let Input::Bytes(n) = input else {
-        let error = why.unwrap();
-        let _ = eprintln!(rt; "standard input: {error}");
-        return ExitCode::SUCCESS;
+    let n = match read_input(&mut stdin, &mut buf) {
+        Ok(n) => n,
+        Err(failure) => {
+            let _ = eprintln!(rt; "standard input: {}", failure.error);
+            return ExitCode::SUCCESS;
+        }
     };
     let status = print_other(&rt, &buf[..n]);
     if n == INPUT_ROOM {
