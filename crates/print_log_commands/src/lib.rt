@@ -34,10 +34,8 @@ pub fn put_commands(out: &mut [u8], at: usize, commands: &[u8]) -> usize
     ensures { Puts out.old at commands_room (printed_commands (commands_in commands.now)) result out.new }
 {
     let mut next = at;
-    let mut k = 0;
-    while k < commands.len() / COMMAND_SIZE {
+    for k in 0..commands.len() / COMMAND_SIZE {
         next = put_command(out, next, commands, COMMAND_SIZE * k);
-        k += 1;
     }
     next
 }
