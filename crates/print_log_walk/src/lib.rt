@@ -8,7 +8,6 @@ ghost use Rattle.program_decimal.specs.Puts.{Puts};
 ghost use Rattle.print_log_walk.specs.Printing.{log_room, lines_from};
 
 use print_log_line::line::put_line;
-use read_calls::answer::Lookup;
 use read_calls::log_message::{log_message, log_message_code};
 use read_offsets::{move_on, start_offset};
 
@@ -16,13 +15,7 @@ use read_offsets::{move_on, start_offset};
 fn is_logged(image: &[u8], place: usize) -> bool
     ensures { result ≡ eqb (log_message_code image.now place) 0 }
 {
-    let looked = log_message_code(image, place);
-    match looked {
-        Lookup::Found => true,
-        Lookup::WrongSize => false,
-        Lookup::NoImage => false,
-        Lookup::NoPlace => false,
-    }
+    log_message_code(image, place).is_ok()
 }
 
 // Writes the line of each message of an image's log, and answers the place behind the last.
@@ -33,6 +26,7 @@ pub fn put_lines(image: &[u8], out: &mut [u8]) -> usize
     let mut place = 0;
     let mut offset = start_offset(image);
     let mut at = 0;
+    // A while: the log ends where `is_logged` says so, at no number that is known before.
     while is_logged(image, place) {
         let message = log_message(image, place);
         at = put_line(out, at, place, offset, message);
