@@ -8,8 +8,10 @@ use crate::limits::LOG_ROOM;
 use print_log_walk::put_lines;
 use program_decimal::digits::put_decimal;
 use program_decimal::text::put_text;
-use read_calls::answer::Lookup;
 use read_calls::log_message::log_message_code;
+
+// Log message's code of place 0, where the log is empty.
+const EMPTY_LOG: usize = 12;
 
 // Writes the code of a refusal as a line, and answers the place behind it.
 fn put_code(out: &mut [u8], code: usize) -> usize
@@ -24,12 +26,12 @@ fn put_code(out: &mut [u8], code: usize) -> usize
 pub fn put_log(input: &[u8], out: &mut [u8; LOG_ROOM]) -> usize
     ensures { Prints (printed_log input.now) out.old result out.new }
 {
-    let looked = log_message_code(input, 0);
-    match looked {
-        Lookup::Found => put_lines(input, out),
-        Lookup::WrongSize => put_code(out, 1),
-        Lookup::NoImage => put_code(out, 2),
-        // the log is empty
-        Lookup::NoPlace => 0,
+    let Err(why) = log_message_code(input, 0) else {
+        return put_lines(input, out);
+    };
+    let code = why.code() as usize;
+    if code == EMPTY_LOG {
+        return 0;
     }
+    put_code(out, code)
 }
