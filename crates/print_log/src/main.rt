@@ -4,7 +4,6 @@
 use layout::IMAGE_SIZE;
 use print_log_whole::limits::LOG_ROOM;
 use print_log_whole::printing::put_log;
-use program_input::answer::Input;
 use program_input::{drop_rest, read_input};
 use std::process::ExitCode;
 
@@ -26,12 +25,12 @@ fn print_log(rt: &(impl Print + Eprint), input: &[u8]) -> ExitCode {
 fn main(rt: HostRuntime) -> ExitCode {
     let mut stdin = rt.stdin();
     let mut buf = [0u8; INPUT_ROOM];
-    let mut why = None;
-    let input = read_input(&mut stdin, &mut buf, &mut why);
-    let Input::Bytes(n) = input else {
-        let error = why.unwrap();
-        let _ = eprintln!(rt; "standard input: {error}");
-        return ExitCode::SUCCESS;
+    let n = match read_input(&mut stdin, &mut buf) {
+        Ok(n) => n,
+        Err(failure) => {
+            let _ = eprintln!(rt; "standard input: {}", failure.error);
+            return ExitCode::SUCCESS;
+        }
     };
     let status = print_log(&rt, &buf[..n]);
     if n == INPUT_ROOM {
