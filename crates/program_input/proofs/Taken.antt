@@ -1,6 +1,5 @@
--- What a read brought, put behind the bytes that are there.
-use Rattle.std.proofs.Common.{◌≡◌, ℕ, zero, suc, ◌+◌, ◌≤◌, Bool, true, false, cond, List, [], ◌++◌, Option, None, Some, Result, Ok, Err, arith, length, take, sym, ap, ap₂, ◌∙◌, subst, drop_at, length-take-le}
-use Rattle.std.proofs.lemmas.Slice.{take-put_mid_below}
+-- A piece that a read put behind the bytes that are there, and all pieces together.
+use Rattle.std.proofs.Common.{◌≡◌, ℕ, zero, suc, ◌+◌, ◌-◌, ◌≤◌, Bool, true, false, cond, List, [], ◌++◌, Option, None, Some, Result, Ok, Err, arith, length, take, slice_range, sym, ap, ◌∙◌, subst, refl, drop_at, length-take-le}
 use Rattle.std.specs.Io.{ReadsAtMost}
 use Rattle.std.specs.Io.KnownBytes.{Consumes, Keeps, ReadConsumes}
 use Rattle.std.specs.declared.io.Error.{Error}
@@ -9,37 +8,50 @@ use borrow.Rule.Slice.PartMut.{put_mid, post_of}
 use lib.Seq.{take-add, take-append-le}
 use Rattle.program_input.specs.Reading.{reading_after}
 use Rattle.program_input.specs.Failing.{is_interrupted, errno_of}
+use Rattle.program_input.specs.Taken.{TakesPiece}
+
+-- what a piece holds, in the buffer with the piece laid in
+piece-put_mid : (a k n : ℕ) (xs ys : List ℕ) → a ≤ length xs → n ≤ length ys → slice_range (put_mid a k xs ys) a (a + n) ≡ take n ys
+piece-put_mid a k n xs ys within fits =
+    let same : (a + n) - a ≡ n = omega arith in
+    let after = post_of a k xs in
+    ap (take ((a + n) - a)) (drop_at (take a xs) (ys ++ after) a (length-take-le a xs within)) ∙ ap (λ m. take m (ys ++ after)) same ∙ take-append-le n ys after fits
+
+-- the bytes that are there, and a piece behind them
+take_piece : (a b : ℕ) (old new : List ℕ) → a ≤ b → take a new ≡ take a old → take a old ++ slice_range new a b ≡ take b new
+take_piece a b old new h front =
+    let same : a + (b - a) ≡ b = omega arith in
+    ap (λ l. l ++ slice_range new a b) (sym front) ∙ sym (take-add a (b - a) new) ∙ ap (λ n. take n new) same
 
 -- nothing taken
+kept-of_none : (old new : Option (List ℕ)) → Consumes old new [] → Keeps old new
+kept-of_none None new h = tt
+kept-of_none (Some xs) None h = absurd h
+kept-of_none (Some xs) (Some ys) h = sym h
+
 consumes_none : (old new : Option (List ℕ)) → Keeps old new → Consumes old new []
 consumes_none None new h = tt
 consumes_none (Some xs) None h = absurd h
 consumes_none (Some xs) (Some ys) h = sym h
 
--- what a read brought is as many bytes as are told of it
-pub took : (old new : Option (List ℕ)) (fresh : List ℕ) (answer : Result ℕ Error) (n : ℕ) → reading_after answer ≡ Ok (Some n) → ReadsAtMost answer fresh → ReadConsumes old new answer fresh
-    → (n ≤ length fresh) × Consumes old new (take n fresh)
-took old new fresh (Ok zero) n e most piece = absurd (cc)
-took old new fresh (Ok (suc k)) n e most piece =
-    let same : suc k ≡ n = cc in
-    subst (λ (x : ℕ). (x ≤ length fresh) × Consumes old new (take x fresh)) same (most.0, piece.0)
-took old new fresh (Err error) n e most piece = go (is_interrupted (errno_of error)) e
+-- a piece by what read answered
+pub took : (old new : Option (List ℕ)) (at : ℕ) (buf fresh : List ℕ) (answer : Result ℕ Error) (r : Result (Option ℕ) Error) → r ≡ reading_after answer → at ≤ length buf → length fresh ≡ length buf - at → ReadsAtMost answer fresh → ReadConsumes old new answer fresh
+    → TakesPiece old new at (length buf) r (put_mid at (length buf - at) buf fresh)
+took old new at buf fresh answer r judged within room most piece =
+    subst (λ x. TakesPiece old new at (length buf) x (put_mid at (length buf - at) buf fresh)) (sym judged) (go answer most piece)
   where
-    go : (b : Bool) → cond b (Ok (Some 0)) (Err error) ≡ Ok (Some n) → (n ≤ length fresh) × Consumes old new (take n fresh)
-    go true h =
-        let same : 0 ≡ n = cc in
-        subst (λ (x : ℕ). (x ≤ length fresh) × Consumes old new (take x fresh)) same (omega arith, consumes_none old new piece)
-    go false h = absurd (cc)
+    put : (n : ℕ) → n ≤ length fresh → Consumes old new (take n fresh) → Consumes old new (slice_range (put_mid at (length buf - at) buf fresh) at (at + n))
+    put n fits taken = subst (Consumes old new) (sym (piece-put_mid at (length buf - at) n buf fresh within fits)) taken
 
--- the bytes that are there, and those behind them
-piece_put : (at k n : ℕ) (buf fresh : List ℕ) → at ≤ length buf → n ≤ length fresh → take (at + n) (put_mid at k buf fresh) ≡ take at buf ++ take n fresh
-piece_put at k n buf fresh within fits =
-    let after = post_of at k buf in
-    take-add at n (put_mid at k buf fresh)
-    ∙ ap₂ ◌++◌ (take-put_mid_below at k buf fresh at (omega arith) within)
-    (ap (take n) (drop_at (take at buf) (fresh ++ after) at (length-take-le at buf within)) ∙ take-append-le n fresh after fits)
+    failed : (error : Error) (b : Bool) → Keeps old new → TakesPiece old new at (length buf) (cond b (Ok (Some 0)) (Err error)) (put_mid at (length buf - at) buf fresh)
+    failed error true kept = put 0 (omega arith) (consumes_none old new kept)
+    failed error false kept = kept
 
-pub took_more : (first old new : Option (List ℕ)) (at k n : ℕ) (buf fresh : List ℕ) → at ≤ length buf → n ≤ length fresh → Consumes first old (take at buf) → Consumes old new (take n fresh)
-    → Consumes first new (take (at + n) (put_mid at k buf fresh))
-took_more first old new at k n buf fresh within fits taken piece =
-    subst (Consumes first new) (sym (piece_put at k n buf fresh within fits)) (Consumes-trans first old new _ _ taken piece)
+    go : (a : Result ℕ Error) → ReadsAtMost a fresh → ReadConsumes old new a fresh → TakesPiece old new at (length buf) (reading_after a) (put_mid at (length buf - at) buf fresh)
+    go (Ok zero) fits taken = (kept-of_none old new taken.0, λ left. taken.1 refl (omega arith))
+    go (Ok (suc k)) fits taken = put (suc k) fits.0 taken.0
+    go (Err error) fits kept = failed error (is_interrupted (errno_of error)) kept
+
+-- all pieces: those before, and one more
+pub took_more : (first old new : Option (List ℕ)) (at n : ℕ) (before after : List ℕ) → at ≤ n → take at after ≡ take at before → Consumes first old (take at before) → Consumes old new (slice_range after at n) → Consumes first new (take n after)
+took_more first old new at n before after on same taken piece = subst (Consumes first new) (take_piece at n before after on same) (Consumes-trans first old new _ _ taken piece)

@@ -1,5 +1,5 @@
 -- errno of an error, and that the error of a failure is no interruption.
-use Rattle.std.specs.Prelude.{◌≡◌, Bool, false, ⊤, Result, Ok, Err, ℕ, eqb, ℤ, pos, negsuc}
+use Rattle.std.specs.Prelude.{◌≡◌, Bool, false, ⊤, Option, Result, Ok, Err, ℕ, eqb, ℤ, pos, negsuc}
 use Rattle.std.specs.Option.{unwrap_or}
 use Rattle.std.specs.IoError.{raw_os_error, error_kind}
 use Rattle.std.specs.declared.io.Error.{Error}
@@ -25,3 +25,8 @@ errno_of error = unwrap_or (raw_os_error error) (errno_of_kind (error_kind error
 abbrev pub InputTells : Result ℕ Failure → Type 0
 InputTells (Ok n) = ⊤
 InputTells (Err failure) = is_interrupted (errno_of failure.error) ≡ false
+
+-- the same of one read
+abbrev pub ReadingTells : Result (Option ℕ) Error → Type 0
+ReadingTells (Ok n) = ⊤
+ReadingTells (Err error) = is_interrupted (errno_of error) ≡ false

@@ -1,5 +1,5 @@
 -- What an answer of read says, and that what is read fits the buffer.
-use Rattle.std.specs.Prelude.{Bool, true, false, cond, Option, Some, None, Result, Ok, Err, ℕ, zero, suc, ◌≤◌, ◌<◌}
+use Rattle.std.specs.Prelude.{Bool, true, false, cond, Option, Some, None, Result, Ok, Err, ⊤, ℕ, zero, suc, ◌+◌, ◌≤◌, ◌<◌}
 use Rattle.std.specs.declared.io.Error.{Error}
 use Rattle.program_input.specs.Failing.{is_interrupted, errno_of}
 use Rattle.program_input.specs.declared.answer.Failure.{Failure}
@@ -14,6 +14,12 @@ abbrev pub goes_on : Result (Option ℕ) Error → Bool
 goes_on (Ok (Some n)) = true
 goes_on (Ok None) = false
 goes_on (Err error) = false
+
+-- a piece behind `at` bytes, in a buffer of `size`
+abbrev pub ReadingFits : ℕ → ℕ → Result (Option ℕ) Error → Type 0
+ReadingFits at size (Ok (Some n)) = at + n ≤ size
+ReadingFits at size (Ok None) = ⊤
+ReadingFits at size (Err error) = ⊤
 
 -- all pieces; a read fails only where there is room left
 abbrev pub InputFits : ℕ → Result ℕ Failure → Type 0

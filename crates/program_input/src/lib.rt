@@ -5,14 +5,25 @@ pub mod answer;
 #[cfg(test)]
 mod tests;
 
-ghost use Rattle.std.specs.Prelude.{length, take};
-ghost use Rattle.program_input.specs.Reading.{InputFits};
-ghost use Rattle.program_input.specs.Failing.{InputTells};
-ghost use Rattle.program_input.specs.Taken.{EndsWithin, size_of};
+ghost use Rattle.std.specs.Prelude.{◌≤◌, ◌≡◌, length, take};
+ghost use Rattle.program_input.specs.Reading.{ReadingFits, InputFits};
+ghost use Rattle.program_input.specs.Failing.{ReadingTells, InputTells};
+ghost use Rattle.program_input.specs.Taken.{TakesPiece, EndsWithin, size_of};
 ghost use Rattle.std.specs.Io.KnownBytes.{Consumes};
 
 use answer::{Failure, goes_on, judge_answer};
 use std::io::{Error, Read};
+
+// Reads once, behind the bytes that are there, which stay as they are.
+fn read_piece<R: Read>(reader: &mut R, buf: &mut [u8], at: usize) -> std::io::Result<Option<usize>>
+    requires { at ≤ length buf.old }
+    ensures reading_fits { ReadingFits at (length buf.old) result }
+    ensures buf_unchanged { take at buf.new ≡ take at buf.old }
+    ensures takes { TakesPiece (R.remaining reader.old) (R.remaining reader.new) at (length buf.old) result buf.new }
+    ensures tells { ReadingTells result }
+{
+    judge_answer(reader.read(&mut buf[at..]))
+}
 
 // Reads until the input ends or the buffer is full, and answers how many bytes are there. Each read counts down from a number that no
 // run uses up. Where a reader says what it has left, these bytes are the first of it; standard input does not say.
@@ -30,8 +41,7 @@ pub fn read_input<R: Read>(reader: &mut R, buf: &mut [u8]) -> Result<usize, Fail
             return Err(Failure { read: at, error });
         }
         tries -= 1;
-        let answer = reader.read(&mut buf[at..]);
-        match judge_answer(answer) {
+        match read_piece(reader, buf, at) {
             Ok(Some(n)) => at += n,
             Ok(None) => return Ok(at),
             Err(error) => return Err(Failure { read: at, error }),
