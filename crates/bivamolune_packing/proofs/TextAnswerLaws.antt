@@ -7,8 +7,9 @@ use Rattle.refusals.specs.declared.Refusal.{Refusal}
 use Rattle.text_checks.specs.Answer.{converted_by, buffer_is}
 use Rattle.bivamolune_packing.specs.Packing.{packed_length, LengthUnpacks}
 use Rattle.bivamolune_packing.specs.PackingLaws.{length_unpacked, why_small}
-use Rattle.bivamolune_packing.specs.TextAnswers.{Converts}
-use Rattle.bivamolune_packing.specs.Lengths.{number_by, Short}
+use Rattle.bivamolune_packing.specs.TextAnswers.{Converts, Short}
+use Rattle.bivamolune_packing.specs.Lengths as lengths
+use Rattle.bivamolune_packing.specs.Lengths.{number_by}
 
 -- ---- the number of an answer is that of its parts
 number_is : (c : Result ℕ Refusal) (buffer : List ℕ) → number_by c ≡ packed_length (converted_by c buffer).code (converted_by c buffer).size
@@ -21,8 +22,13 @@ code_small (Ok size) buffer = omega arith
 code_small (Err why) buffer = why_small why
 
 short_if : (c : Result ℕ Refusal) (buffer : List ℕ) → (converted_by c buffer).size ≤ text_room → Short c
-short_if (Ok size) buffer h = omega arith
+short_if (Ok size) buffer h = h
 short_if (Err why) buffer h = tt
+
+-- a text is no longer than a message may be
+pub short_length : (c : Result ℕ Refusal) → Short c → lengths.Short c
+short_length (Ok size) h = omega arith
+short_length (Err why) h = tt
 
 module _ (x : Converted) (c : Result ℕ Refusal) (exit : List ℕ) (e : converted_by c exit ≡ x) where
   pub short : x.size ≤ text_room → Short c

@@ -9,7 +9,7 @@ abbrev pub number_by : Result ℕ Refusal → ℕ
 number_by (Ok size) = packed_length 0 size
 number_by (Err why) = code_of why
 
--- what is written is at most 200 bytes long: a message, or a text of 199
+-- what is written is at most 200 bytes long: a message. A text is shorter (`TextAnswers.Short`)
 abbrev pub Short : Result ℕ Refusal → Type 0
 Short (Ok size) = size ≤ message_room
 Short (Err why) = Unit {0}

@@ -5,7 +5,7 @@ ghost use Rattle.bivamolune_packing.specs.Lengths.{Short, number_by};
 use refusals::Refusal;
 
 // what an answer's length is multiplied by
-const LENGTH_UNIT: u32 = 256;
+pub const LENGTH_UNIT: u32 = 256;
 
 // The number of what such a call answers.
 pub fn pack_length(answer: Result<usize, Refusal>) -> u32

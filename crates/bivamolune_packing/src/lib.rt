@@ -5,3 +5,5 @@ pub mod codes;
 pub mod deliveries;
 pub mod lengths;
 pub mod reads;
+
+pub use lengths::LENGTH_UNIT;
