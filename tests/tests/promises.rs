@@ -315,7 +315,7 @@ fn citations_in_vain_are_listed() {
                  \n\
                  | Definition | Law or contract |\n\
                  |---|---|\n\
-                 | `Run.Agreement .equal`, `Codes`, `lowest_code` | `deliver::delivery::deliver`, `read_calls::answer` |\n\
+                 | `Run.Agreement .equal`, `Codes`, `lowest_code` | `deliver::delivery::deliver`, `deliver::answer` |\n\
                  | `Run.Agreemen`, `Codes.Agreement`, `lowest_cod` | `deliver::delivery::delive`, `.equa` |";
     let listed = [
         "line 3: tests/promises.rs is not there",

@@ -1,4 +1,5 @@
 // The call `deliver`.
 #![tactic(auto)]
 
+pub mod answer;
 pub mod delivery;

@@ -1,0 +1,3 @@
+// What deliver answers: the counts, or why it refuses.
+pub use deliver_accepting::Counts;
+pub use refusals::Refusal;
