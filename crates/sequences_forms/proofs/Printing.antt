@@ -1,36 +1,16 @@
 -- What the writer refuses is refused; what it wrote leaves room for a line feed.
 use Rattle.std.specs.Prelude.{◌≡◌, List, ℕ, ◌+◌, ◌≤◌, ◌<◌, length, set, take, cond, refl, Ok, Err}
-use Rattle.std.proofs.Common.{sym, ◌∙◌, ap, subst, lit≤, arith}
+use Rattle.std.proofs.Common.{sym, ◌∙◌, ap, subst}
 use Rattle.model.specs.Lists.{every}
 use Rattle.model.specs.Layout.{text_room}
 use Rattle.model.specs.Calls.{Converted, write_sequences}
 use Rattle.model.specs.Program.{line_feed, printable, printed_text, printed_sequences, other_form}
 use Rattle.laws_text.specs.RoundTrips.{write_short}
 use Rattle.refusals.specs.declared.Refusal.{Refusal}
-use Rattle.refusals.specs.declared.Refusal.TheVariants as refusal
-use Rattle.refusals.specs.Refusals.{code_of}
 use Rattle.text_checks.specs.Answer.{converted_by}
+use Rattle.text_checks.proofs.ConversionTags.{not_written}
 use Rattle.sequences_forms.specs.Forms.{put_at_front, LineSize}
 use Rattle.sequences_forms.specs.FormCases.{text_printed, text_refused, form_is}
-
--- no code is 0
-some_code : (why : Refusal) → 1 ≤ code_of why
-some_code refusal.WrongSize = lit≤ tt
-some_code refusal.NoImage = lit≤ tt
-some_code refusal.WrongLayout = lit≤ tt
-some_code refusal.WrongNumber = lit≤ tt
-some_code refusal.WrongDependencies = lit≤ tt
-some_code refusal.WrongContent = lit≤ tt
-some_code refusal.Conflict = lit≤ tt
-some_code refusal.Full = lit≤ tt
-some_code refusal.HeldLine = lit≤ tt
-some_code refusal.PastLimit = lit≤ tt
-some_code refusal.ManyDependencies = lit≤ tt
-some_code refusal.NotThere = lit≤ tt
-some_code refusal.WrongForm = lit≤ tt
-some_code refusal.ZeroNumber = lit≤ tt
-some_code refusal.PastLog = lit≤ tt
-some_code refusal.ManyFloors = lit≤ tt
 
 module _ (b entry : List ℕ) where
   pub written_short : (size : ℕ) (exit : List ℕ) → converted_by (Ok size) exit ≡ write_sequences b entry → size ≤ text_room
@@ -38,7 +18,7 @@ module _ (b entry : List ℕ) where
 
   module _ (room : text_room < length entry) where
     pub line_refused : (why : Refusal) (exit : List ℕ) → converted_by (Err why) exit ≡ write_sequences b entry → converted_by (Err why) exit ≡ put_at_front (printed_text b) entry
-    line_refused why exit e = text_refused b entry room (converted_by (Err why) exit) (λ z. omega (arith, some_code why)) e
+    line_refused why exit e = text_refused b entry room (converted_by (Err why) exit) (not_written why exit) e
 
     pub line_put : (size : ℕ) (exit : List ℕ) → converted_by (Ok size) exit ≡ write_sequences b entry
         → converted_by (Ok (size + 1)) (set exit size line_feed) ≡ put_at_front (printed_text b) entry

@@ -1,7 +1,8 @@
--- The message at a place is found at the shifted one, and shifted places are places of a table of one more.
-use Rattle.std.specs.Prelude.{◌≡◌, Bool, true, false, cond, not, List, [], map, ℕ, suc, ◌≤◌, ◌<◌, length, get_or, T, leb}
-use Rattle.std.proofs.Common.{◌∙◌, ap, subst, arith, leb→le}
+-- The message at a place is found at the shifted one, shifted places are places of a table of one more, and a list is mapped one store a turn.
+use Rattle.std.specs.Prelude.{◌≡◌, Bool, true, false, cond, not, List, [], ◌∷◌, ◌++◌, map, ℕ, suc, ◌+◌, ◌≤◌, ◌<◌, length, take, get_or, set, T, leb}
+use Rattle.std.proofs.Common.{sym, ◌∙◌, ap, ap₂, subst, arith, add-one, take-suc, take-suc-set, leb→le}
 use mathlib.Core.List.Memᴰ
+use Rattle.std.proofs.lemmas.List.{map-append}
 use Rattle.std.proofs.Math.Dec.{nleb→lt}
 use Rattle.model.specs.Message.{Message}
 use Rattle.set_table.specs.Table.{message_from, deltas_of, insert_at}
@@ -36,3 +37,11 @@ pub below_shifted : (p n : ℕ) (places : List ℕ) → AllBelow n places → Al
 below_shifted p n places h i k =
     let r = Memᴰ.of_map (shifted p) places k in
     subst (λ (j : ℕ). j < suc n) r.2 (shifted_below p n r.0 (h r.0 r.1))
+
+-- ---- one more item of a list that is mapped into another, one store a turn
+pub map_next : (f : ℕ → ℕ) (l k : List ℕ) (i v : ℕ) → i < length l → i < length k → take i k ≡ map f (take i l) → v ≡ f (get_or l i 0)
+    → take (i + 1) (set k i v) ≡ map f (take (i + 1) l)
+map_next f l k i v h j e w =
+    ap (λ (n : ℕ). take n (set k i v)) (add-one i) ∙ take-suc-set k i v j ∙ ap₂ (λ (x : List ℕ) (y : ℕ). x ++ (y ∷ [])) e w
+    ∙ sym (map-append f (take i l) (get_or l i 0 ∷ []))
+    ∙ ap (map f) (sym (take-suc l i 0 h) ∙ ap (λ (n : ℕ). take n l) (sym (add-one i)))

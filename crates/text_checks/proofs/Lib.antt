@@ -1,2 +1,3 @@
+pub mod ConversionTags
 pub mod Numbers
 pub mod Parts
