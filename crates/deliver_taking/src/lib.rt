@@ -28,7 +28,8 @@ pub fn take_in(
     ensures { delivered_by result image.new steps.new ≡ model.deliver image.old message.now steps.old }
 {
     let s = read_sequence(message, SEQUENCE_AT);
-    if is_purged(image, s) {
+    let low = is_purged(image, s);
+    if low {
         return Ok(Counts {
             undos: 0,
             executions: 0,

@@ -28,7 +28,8 @@ fn judge(
     let listed = list(b, offsets, table);
     check_listed(b, listed)?;
     let used = rewrite(copy, b, listed);
-    if !equals_copy(&copy[..IMAGE_SIZE], used, b) {
+    let differs = !equals_copy(&copy[..IMAGE_SIZE], used, b);
+    if differs {
         return Err(Refusal::NoImage);
     }
     Ok(listed)

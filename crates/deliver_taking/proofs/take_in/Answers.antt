@@ -11,7 +11,7 @@ use Rattle.deliver_taking.proofs.take_in.Goals as goal
 pub read_sequence-s-requires : goal.read_sequence-s-requires
 read_sequence-s-requires c = omega (arith, sized_range c.args.message.now (passes_sized c.args.message.now c.requires.right))
 
-pub returns-then-is_purged : goal.returns-then-is_purged
-returns-then-is_purged c =
+pub returns-then-low : goal.returns-then-low
+returns-then-low c =
     let low : purged (state_in c.args.image.now) (sequence_of c.args.message.now) ≡ true = cc in
     below _ _ _ _ _ c.requires (true_T _ low)

@@ -57,8 +57,8 @@ pub slice_bounds-equals_copy-end-2 : goal.slice_bounds-equals_copy-end-2
 slice_bounds-equals_copy-end-2 c =
     sym (length-take-le image_size c.rewrite-used.new.out (omega (arith, c.rewrite-used.auto.out, large c.args.copy.now c.requires.3)))
 
-pub equals_copy-requires : goal.equals_copy-requires
-equals_copy-requires c =
+pub equals_copy-differs-requires : goal.equals_copy-differs-requires
+equals_copy-differs-requires c =
     let b = c.args.b.now in
     let r = c.list-listed.result in
     let used = c.rewrite-used.result in
@@ -70,17 +70,17 @@ equals_copy-requires c =
       ap (drop used) image ∙ past_used set used c.rewrite-used.ensures.end ∙ ap (λ (n : ℕ). replicate (n - used) 0) (sym c.requires.0),
     )
 
-pub returns-then-not-equals_copy : goal.returns-then-not-equals_copy
-returns-then-not-equals_copy c =
-    let differs = compared c.args.b.now c.args.table c.list-listed.result c.requires.2 c.list-listed.ensures c.args.copy.now c.rewrite-used.new.out c.requires.3 c.rewrite-used.ensures.bytes c.equals_copy.ensures in
-    ((refl, differs ∙ c.if-not-equals_copy.true), tt)
+pub returns-then-differs : goal.returns-then-differs
+returns-then-differs c =
+    let differs = compared c.args.b.now c.args.table c.list-listed.result c.requires.2 c.list-listed.ensures c.args.copy.now c.rewrite-used.new.out c.requires.3 c.rewrite-used.ensures.bytes c.equals_copy-differs.ensures in
+    ((refl, differs ∙ c.if-differs.true), tt)
 
 pub returns : goal.returns
 returns c =
     let b = c.args.b.now in
     let r = c.list-listed.result in
-    let equal = c.if-not-equals_copy.false in
-    let whole = compared b c.args.table r c.requires.2 c.list-listed.ensures c.args.copy.now c.rewrite-used.new.out c.requires.3 c.rewrite-used.ensures.bytes c.equals_copy.ensures in (
+    let equal = c.if-differs.false in
+    let whole = compared b c.args.table r c.requires.2 c.list-listed.ensures c.args.copy.now c.rewrite-used.new.out c.requires.3 c.rewrite-used.ensures.bytes c.equals_copy-differs.ensures in (
       record {
         image = subst T (sym (whole ∙ equal)) tt;
         table = is_table b c.args.table r c.requires.2 c.list-listed.ensures;
@@ -90,5 +90,5 @@ returns c =
         fits = c.list-listed.ensures.fits;
         offsets = c.list-listed.ensures.offsets;
       },
-      same→eq (take image_size c.rewrite-used.new.out) b (subst T (sym equal ∙ c.equals_copy.ensures) tt),
+      same→eq (take image_size c.rewrite-used.new.out) b (subst T (sym equal ∙ c.equals_copy-differs.ensures) tt),
     )
