@@ -44,8 +44,15 @@ pub fn put_sequence(b: &mut [u8], at: usize, s: Sequence)
 pub fn less(a: Sequence, b: Sequence) -> bool
     ensures { result ≡ ltb (sequence_number a) (sequence_number b) }
 {
-    // by hand: the derived `<` goes through an Ordering, and searches ask this most
-    a.high < b.high || (a.high == b.high && a.low < b.low)
+    // by hand and in branches: the derived `<` goes through an Ordering, and of one condition the compiler makes no branch, so that
+    // each step of a search waits for the one before it
+    if a.high < b.high {
+        return true;
+    }
+    if b.high < a.high {
+        return false;
+    }
+    a.low < b.low
 }
 
 // Whether two sequences are equal.
